@@ -1,0 +1,3 @@
+pub mod PairsLemmas
+pub mod Maps
+pub mod Picks

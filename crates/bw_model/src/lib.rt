@@ -1,0 +1,20 @@
+//! The words that every crate of the index shares, and what they mean: values, the eight operations of a batch,
+//! the replies to them, and an ordered map that one thread runs them on. Beside the definitions (in `specs/`) stands
+//! a plain program that answers by them, `ReferenceMap`, which every faster index is compared with.
+#![tactic(auto)]
+
+mod lists;
+mod operations;
+mod outcomes;
+mod reference;
+mod sorted;
+mod values;
+
+pub use lists::{Pairs, Replies};
+pub use operations::{Action, Op, Reply};
+pub use outcomes::Refusal;
+pub use reference::ReferenceMap;
+pub use values::{VALUE_INLINE, VALUE_MAX, Value, ValueFault};
+
+/// Want of memory.
+pub use bw_key::Memory;
