@@ -1,3 +1,4 @@
 pub mod PairsLemmas
 pub mod Maps
 pub mod Picks
+pub mod RunsLemmas

@@ -1,5 +1,5 @@
 -- A sorted list of pairs as a map.
-use Rattle.std.proofs.Common.{◌≡◌, Bool, true, false, cond, not, List, [], Option, Some, None, T, length, refl, sym, ap, ◌∙◌}
+use Rattle.std.proofs.Common.{◌≡◌, Bool, true, false, cond, not, List, [], Option, None, T, length, refl, sym, ap, ◌∙◌}
 use Rattle.std.specs.Prelude.{filter}
 use Rattle.std.specs.Ordering.{eq_by_cmp}
 use Rattle.std.specs.FinMap.{IsAntisymmetric, nat_cmp-IsAntisymmetric, slice_cmp-IsAntisymmetric, empty, get, insert, remove, entries, from_sorted, find, put, is_sorted, entries-from_sorted, entries-insert, same_entries_map, same_map, empty_of_len, len-entries, get-from_sorted, get-remove}

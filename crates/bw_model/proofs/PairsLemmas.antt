@@ -1,11 +1,11 @@
 -- Lemmas on sorted lists of pairs.
-use Rattle.std.proofs.Common.{◌≡◌, ◌≢◌, ℕ, suc, ◌+◌, ◌<◌, ◌≤◌, Bool, true, false, cond, List, [], ◌∷◌, length, get_or, set, drop, Option, Some, None, is_some, IsTrue, T, refl, sym, ap, ◌∙◌, arith, add-one, drop-cons, Ordering}
+use Rattle.std.proofs.Common.{◌≡◌, ℕ, suc, ◌+◌, ◌<◌, true, false, cond, List, [], ◌∷◌, length, get_or, set, drop, Some, refl, sym, ap, ◌∙◌, arith, add-one, drop-cons, Ordering}
 use Rattle.std.proofs.lemmas.List.{get_or_default}
 use Rattle.std.specs.List.{insert}
 use Rattle.std.specs.Ordering.{is_eq, is_lt, ordering_reverse}
 use Rattle.std.specs.FinMap.Entries.{by_order}
 use Rattle.std.specs.declared.cmp.Ordering.TheVariants.{Less, Equal, Greater}
-use Rattle.std.specs.FinMap.{find, put, is_sorted}
+use Rattle.std.specs.FinMap.{find, put}
 use Rattle.bw_key.specs.Order.{KeyBytes, key_cmp, key_eq, key_ties, key_cmp_total}
 use Rattle.bw_model.specs.Sorted.{place_of}
 
@@ -14,7 +14,6 @@ turned : (q k : KeyBytes) (r : Ordering) → key_cmp q k ≡ r → key_cmp k q �
 turned q k r e = key_cmp_total.antisymm k q ∙ ap ordering_reverse e
 
 module _ {V : Type 0} where
-
   -- a look-up from place i on reads the pair there first
   pub find_at : (q : KeyBytes) (l : List (KeyBytes × V)) (i : ℕ) (x : KeyBytes × V) → i < length l → x ≡ get_or l i x →
       find key_cmp q (drop i l) ≡ cond (key_eq q x.0) (Some x.1) (find key_cmp q (drop (i + 1) l))
@@ -33,7 +32,6 @@ module _ {V : Type 0} where
   -- whether a key stands at its place
   abbrev pub StandsAt : KeyBytes → List (KeyBytes × V) → KeyBytes × V → Type 0
   StandsAt q l x = (place_of q l < length l) × (x ≡ get_or l (place_of q l) x) × (key_eq x.0 q ≡ true)
-
 
   place_stops : (q : KeyBytes) (y : KeyBytes × V) (l : List (KeyBytes × V)) (r : Ordering) → key_cmp q y.0 ≡ r → is_lt (ordering_reverse r) ≡ false → place_of q (y ∷ l) ≡ 0
   place_stops q y l r e stops = ap (λ o. cond (is_lt o) (place_of q l + 1) 0) (turned q y.0 r e) ∙ ap (λ b. cond b (place_of q l + 1) 0) stops

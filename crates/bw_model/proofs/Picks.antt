@@ -1,5 +1,5 @@
 -- A list of the first elements that pass a test, picked one by one, up to a number of them.
-use Rattle.std.proofs.Common.{◌≡◌, ℕ, zero, suc, ◌+◌, ◌-◌, ◌<◌, ◌≤◌, Bool, true, false, cond, ◌&&◌, List, [], ◌∷◌, ◌++◌, length, get_or, take, drop, refl, sym, ap, subst, ◌∙◌, arith, add-one, drop-cons, append_assoc, append-nil, length-append}
+use Rattle.std.proofs.Common.{◌≡◌, ℕ, suc, ◌+◌, ◌-◌, ◌<◌, ◌≤◌, Bool, true, false, cond, ◌&&◌, List, [], ◌∷◌, ◌++◌, length, get_or, take, drop, refl, sym, ap, subst, ◌∙◌, arith, add-one, drop-cons, append_assoc, append-nil, length-append}
 use Rattle.std.specs.Prelude.{filter, reverse, nat_lt}
 use Rattle.std.proofs.lemmas.List.Elements.{filter-append}
 use Rattle.std.proofs.lemmas.List.{reverse-append}
@@ -68,9 +68,11 @@ module _ {X : Type 0} where
       IsPicking test most picked (reverse rest) (take most (reverse (filter test whole)))
   picks_back test most picked whole rest none is =
       let all : most - length picked ≡ most = omega (arith, ap length none) in
-      record { is = ap (λ (k : ℕ). picked ++ take k (filter test (reverse rest))) all
-          ∙ ap (λ ys. ys ++ take most (filter test (reverse rest))) none
-          ∙ ap (λ ys. take most (filter test (reverse ys))) is ∙ ap (take most) (filter-reverse test whole) }
+      record {
+        is = ap (λ (k : ℕ). picked ++ take k (filter test (reverse rest))) all
+            ∙ ap (λ ys. ys ++ take most (filter test (reverse rest))) none
+            ∙ ap (λ ys. take most (filter test (reverse ys))) is ∙ ap (take most) (filter-reverse test whole);
+      }
 
   -- the last element of what is left
   pub picks_last : (test : X → Bool) (most : ℕ) (picked : List X) (x : X) (rest rest' whole : List X) → rest ≡ rest' ++ x ∷ [] →

@@ -1,5 +1,5 @@
 -- The index as one thread sees it: an ordered map, and operations that run on it one after another.
-use Rattle.std.specs.Prelude.{ℕ, List, [], ◌∷◌, Option, Some, None}
+use Rattle.std.specs.Prelude.{List, [], ◌∷◌, Option, Some, None}
 use Rattle.std.specs.FinMap.{get}
 use Rattle.bw_key.specs.Order.{KeyBytes}
 use Rattle.bw_model.specs.Values.{ValueBytes}

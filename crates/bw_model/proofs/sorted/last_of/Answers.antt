@@ -1,4 +1,4 @@
-use Rattle.std.proofs.Common.{◌≡◌, ◌∙◌, sym, ap, subst, take, List}
+use Rattle.std.proofs.Common.{sym, subst, take, List}
 use Rattle.std.specs.Prelude.{filter, reverse}
 use Rattle.std.specs.Option.{option_copied}
 use Rattle.bw_model.specs.Contents.{is_pair_in_range}

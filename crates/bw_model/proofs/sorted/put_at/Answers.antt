@@ -1,4 +1,4 @@
-use Rattle.std.proofs.Common.{◌≡◌, ◌<◌, length, sym, ap, ◌∙◌, arith}
+use Rattle.std.proofs.Common.{sym, ap, ◌∙◌, arith}
 use Rattle.bw_model.specs.Sorted.{place_of}
 use Rattle.bw_model.proofs.PairsLemmas.{put_found_at, put_absent_at}
 use Rattle.bw_model.proofs.sorted.put_at.Goals as goal

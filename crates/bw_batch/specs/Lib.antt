@@ -1,0 +1,5 @@
+pub mod Settings
+pub mod SettingFaults
+pub mod Codes
+pub mod View
+pub mod Outcomes

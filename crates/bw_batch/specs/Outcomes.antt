@@ -1,0 +1,19 @@
+-- What became of batches, as the model knows it.
+use Rattle.std.specs.Prelude.{List, map, Result, Ok, Err}
+use Rattle.bw_memory.specs.Alloc.{Vec}
+use Rattle.bw_model.specs.Runs.{Outcome}
+use Rattle.bw_model.specs.declared.operations.Op.{Op}
+use Rattle.bw_model.specs.declared.outcomes.Refusal.{Refusal}
+use Rattle.bw_batch.specs.declared.indexing.Done.{Done}
+
+-- the batches that vectors hold
+abbrev pub batches_of : List (Vec Op) → List (List Op)
+batches_of = map (λ v. v.items)
+
+-- the replies of an accepted batch, or why it was refused
+abbrev pub outcome_of : Result Done Refusal → Outcome
+outcome_of (Ok done) = Ok done.replies
+outcome_of (Err refusal) = Err refusal
+
+abbrev pub outcomes_of : List (Result Done Refusal) → List Outcome
+outcomes_of = map outcome_of
