@@ -1,0 +1,4 @@
+pub mod Numbers
+pub mod Writing
+pub mod LinesLemmas
+pub mod Reading

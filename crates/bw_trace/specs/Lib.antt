@@ -1,0 +1,9 @@
+pub mod Lines
+pub mod Spelling
+pub mod Grammar
+pub mod Traces
+pub mod Texts
+pub mod Counts
+pub mod Faults
+pub mod Writing
+pub mod Sources

@@ -1,0 +1,67 @@
+-- What a trace stands for: batches, and where its first faulty line is.
+use Rattle.std.specs.Prelude.{◌≡◌, ℕ, ◌+◌, Bool, true, false, List, [], ◌∷◌, ◌++◌, Option, Some, None}
+use Rattle.bw_model.specs.declared.operations.Op.{Op}
+use Rattle.bw_trace.specs.declared.faults.Cause.{Cause}
+use Rattle.bw_trace.specs.declared.judging.Meaning.{Meaning}
+use Rattle.bw_trace.specs.declared.judging.Meaning.TheVariants.{Nothing, Operation, EndsBatch, Faulty}
+use Rattle.bw_trace.specs.Lines.{lines_of, whole_lines_of}
+use Rattle.bw_trace.specs.Grammar.{meaning_of}
+
+-- the batches before the first fault, and that fault with the number of its line
+pub record Trace : Type 0 where
+  pub batches : List (List Op)
+  pub fault : Option (ℕ × Cause)
+
+abbrev pub no_trace : Trace
+no_trace = record { batches = []; fault = None }
+
+abbrev pub faulty : ℕ → Cause → Trace
+faulty number cause = record { batches = []; fault = Some (number, cause) }
+
+-- a trace that begins with these batches
+abbrev pub behind : List (List Op) → Trace → Trace
+behind batches rest = record { batches = batches ++ rest.batches; fault = rest.fault }
+
+abbrev pub with_batch : List Op → Trace → Trace
+with_batch ops rest = record { batches = ops ∷ rest.batches; fault = rest.fault }
+
+-- the end of the input makes a batch of the operations since the last `go`, where there are any
+abbrev pub at_end : List Op → Trace
+at_end [] = no_trace
+at_end (op ∷ ops) = with_batch (op ∷ ops) no_trace
+
+-- where the input was cut off, they make none
+abbrev pub at_cut : List Op → Trace
+at_cut ops = no_trace
+
+-- line `number` behind operations, before a rest that is read on
+abbrev pub line_then : ℕ → List Op → Meaning → (List Op → Trace) → Trace
+line_then number ops Nothing rest = rest ops
+line_then number ops (Operation op) rest = rest (ops ++ op ∷ [])
+line_then number ops EndsBatch rest = with_batch ops (rest [])
+line_then number ops (Faulty cause) rest = faulty number cause
+
+-- lines behind so many others, with the operations since the last `go`, and what their end makes of operations
+abbrev pub trace_of_lines : (List Op → Trace) → ℕ → List Op → List (List ℕ) → Trace
+trace_of_lines finish judged ops [] = finish ops
+trace_of_lines finish judged ops (line ∷ lines) =
+    line_then (judged + 1) ops (meaning_of line) (λ ops'. trace_of_lines finish (judged + 1) ops' lines)
+
+-- the rest of a trace, behind so many lines
+abbrev pub trace_from : ℕ → List ℕ → Trace
+trace_from judged bytes = trace_of_lines at_end judged [] (lines_of bytes)
+
+-- what whole lines say of it, where the input was cut off
+abbrev pub cut_trace_from : ℕ → List ℕ → Trace
+cut_trace_from judged bytes = trace_of_lines at_cut judged [] (whole_lines_of bytes)
+
+-- The bytes that were read stand for these batches, behind so many lines, and whatever follows them is read behind
+-- so many others. At the end of the input nothing does.
+pub record StandFor (before : ℕ) (read : List ℕ) (batches : List (List Op)) (after : ℕ) (ended : Bool) : Type 0 where
+  pub alone : trace_from before read ≡ behind batches no_trace
+  pub further : ended ≡ false → (more : List ℕ) → trace_from before (read ++ more) ≡ behind batches (trace_from after more)
+  pub cut : ended ≡ false → (more : List ℕ) → cut_trace_from before (read ++ more) ≡ behind batches (cut_trace_from after more)
+
+-- the bytes that were read have a first faulty line, whatever follows them
+abbrev pub IsFaultyAt : ℕ → List ℕ → ℕ → Cause → Bool → Type 0
+IsFaultyAt before read number cause ended = (more : List ℕ) → (ended ≡ true → more ≡ []) → trace_from before (read ++ more) ≡ faulty number cause

@@ -1,0 +1,16 @@
+//! Traces of an ordered index: operations in as lines, replies out as lines.
+#![tactic(auto)]
+
+mod faults;
+mod judging;
+mod ports;
+mod printing;
+mod sources;
+mod spelling;
+mod std_ports;
+
+pub use faults::{Cause, TraceFault};
+pub use ports::{Failed, Inlet, Outlet};
+pub use printing::print_replies;
+pub use sources::Source;
+pub use std_ports::{FromRead, FromWrite};

@@ -1,0 +1,158 @@
+// A reader of bytes, judged line by line.
+ghost use Rattle.std.specs.Prelude.{◌≡◌, ℕ, ◌+◌, ◌<◌, ◌≤◌, ◌^◌, ◌∷◌, [], List, true, false, IfOk, IfErr, OnOk, IfSome, MatchOption, Some, None, IsErrOf, IsOk};
+ghost use Rattle.std.specs.Bool.{MatchBool};
+ghost use Rattle.std.specs.Io.KnownBytes.{Consumes, IsAtEnd};
+ghost use Rattle.bw_trace.specs.Counts.{HasRisenBy};
+ghost use Rattle.bw_trace.specs.Faults.{IsOfBytes, IsOfInput, IsOfReading, IfLine};
+ghost use Rattle.bw_trace.specs.Lines.{IsLineOf, whole_lines_of};
+ghost use Rattle.bw_trace.specs.Sources.{IsOver, ReadsOn};
+ghost use Rattle.bw_trace.specs.Traces.{StandFor, IsFaultyAt, trace_from, cut_trace_from, no_trace};
+
+use crate::faults::TraceFault;
+use crate::judging::{LINE_MAX, Meaning, judge};
+use crate::ports::Inlet;
+use bw_batch::{Memory, Op};
+use bw_memory::Alloc;
+use std::marker::Model;
+
+// How many bytes are asked for at a call of the reader.
+const CHUNK: usize = 4096;
+
+/// A reader, with what was read from it and not judged yet.
+#[derive(Drop)]
+pub struct Source<R: Inlet> {
+    reader: R,
+    turns: u64,
+    buffer: Vec<u8, Alloc>,
+    at: usize,
+    len: usize,
+    ended: bool,
+    judged: u64,
+    fault: Option<TraceFault>,
+}
+
+impl<R: Inlet> Model for Source<R> {
+    ghost use Rattle.std.specs.Prelude.{◌≡◌, ◌+◌, ◌-◌, ◌*◌, ◌≤◌, ◌<◌, ◌^◌, true, vec_len};
+    ghost use Rattle.std.specs.Io.KnownBytes.{IsAtEnd};
+    ghost use Rattle.bw_trace.specs.Sources.{SourceView, unread_of};
+
+    ghost Value = { SourceView };
+
+    ghost view = { λ s. record {
+        unread = unread_of s.buffer.items s.at s.len (R.remaining s.reader);
+        judged = s.judged;
+        fault = s.fault;
+        turns = s.turns;
+        budget = 4096 * s.turns + (s.len - s.at);
+        ended = s.ended;
+        calls = R.calls s.reader;
+        failures = R.failures s.reader;
+        has_ended = R.has_ended s.reader } };
+
+    ghost invariant = { λ s. (vec_len s.buffer ≡ 4096) × (s.at ≤ s.len) × (s.len ≤ 4096)
+        × (s.judged + (4096 * s.turns + (s.len - s.at)) < 2 ^ 64)
+        × (s.ended ≡ true → (s.at ≡ s.len) × IsAtEnd (R.remaining s.reader) × (R.has_ended s.reader ≡ true)) };
+}
+
+impl<R: Inlet> Source<R> {
+    /// A source over a reader, which it calls `turns` times at the most. After `Memory` the reader is gone.
+    ///
+    /// A call takes in 4,096 bytes at the most. `turns` is below 2^52, so that each line has a 64-bit number.
+    pub fn new(alloc: Alloc, reader: R, turns: u64) -> Result<Source<R>, Memory>
+        requires { turns < 2 ^ 52 }
+        ensures unread { IfOk result (λ source. source.unread ≡ R.remaining reader) }
+        ensures fresh { IfOk result (λ source. (source.judged ≡ 0) × (source.fault ≡ None) × (source.ended ≡ false)) }
+        ensures turns { IfOk result (λ source. source.turns ≡ turns) }
+        ensures reader { IfOk result (λ source. (source.calls ≡ R.calls reader) × (source.failures ≡ R.failures reader) × (source.has_ended ≡ R.has_ended reader)) }
+    {
+        let buffer = vec![in alloc; 0u8; CHUNK]?;
+        Ok(Source {
+            reader,
+            turns,
+            buffer,
+            at: 0,
+            len: 0,
+            ended: false,
+            judged: 0,
+            fault: None,
+        })
+    }
+
+    // How much it may take in is less than 2^64 bytes.
+    pub(crate) fn know_budget(&self)
+        ensures { self.now.budget < 2 ^ 64 }
+    {
+        let _ = &self.reader;
+    }
+
+    // The next byte, None at the end.
+    fn next_byte(&mut self) -> Result<Option<u8>, TraceFault>
+        ensures byte { IfOk result (λ next. MatchOption next
+            (Consumes self.old.unread self.new.unread [] × IsOver self.new)
+            (λ b. Consumes self.old.unread self.new.unread (b ∷ []) × (self.old.ended ≡ false) × (self.new.ended ≡ false))) }
+        ensures falls { IfOk result (λ next. IfSome next (λ _. self.new.budget < self.old.budget)) }
+        ensures over { self.old.ended ≡ true → result ≡ Ok None }
+        ensures on { ReadsOn self.old self.new }
+        ensures judged { self.new.judged ≡ self.old.judged }
+        ensures none_failed { OnOk result (self.new.failures ≡ self.old.failures) }
+        ensures faults { IfErr result (λ fault. IsOfInput fault × (self.old.ended ≡ false) × Consumes self.old.unread self.new.unread []) }
+        ensures read { IsErrOf result TraceFault.Read → HasRisenBy 1 self.old.failures self.new.failures }
+        ensures endless { IsErrOf result TraceFault.Endless → self.new.turns ≡ 0 }
+    {
+        if self.at < self.len {
+            let b = self.buffer[self.at];
+            self.at += 1;
+            return Ok(Some(b));
+        }
+        if self.ended {
+            return Ok(None);
+        }
+        if self.turns == 0 {
+            return Err(TraceFault::Endless);
+        }
+        self.turns -= 1;
+        self.at = 0;
+        self.len = 0;
+        match self.reader.read(self.buffer.as_mut_slice()) {
+            Err(_) => Err(TraceFault::Read),
+            Ok(0) => {
+                self.ended = true;
+                Ok(None)
+            }
+            Ok(n) => {
+                self.at = 1;
+                self.len = n;
+                Ok(Some(self.buffer[0]))
+            }
+        }
+    }
+
+    // Reads a line into an empty buffer, without the byte that ends it, and says whether there was one. Of a line
+    // that is too long it reads enough to tell.
+    fn read_line(&mut self, line: &mut Vec<u8, Alloc>) -> Result<bool, TraceFault>
+        requires { line.old.items ≡ [] }
+        ensures line { IfOk result (λ found. MatchBool found
+            ((read : List ℕ) × Consumes self.old.unread self.new.unread read × IsLineOf line.new.items read self.new.ended
+                × (self.new.ended ≡ true → IsOver self.new))
+            (Consumes self.old.unread self.new.unread [] × IsOver self.new)) }
+        ensures falls { result ≡ Ok true → self.new.budget < self.old.budget }
+        ensures over { self.old.ended ≡ true → result ≡ Ok false }
+        ensures on { ReadsOn self.old self.new }
+        ensures judged { self.new.judged ≡ self.old.judged }
+        ensures none_failed { OnOk result (self.new.failures ≡ self.old.failures) }
+        ensures faults { IfErr result (λ fault. IsOfBytes fault) }
+        ensures cut { IfErr result (λ fault. IsOfInput fault → (self.old.ended ≡ false)
+            × ((read : List ℕ) × Consumes self.old.unread self.new.unread read × (whole_lines_of read ≡ []))) }
+        ensures read { IsErrOf result TraceFault.Read → HasRisenBy 1 self.old.failures self.new.failures }
+        ensures endless { IsErrOf result TraceFault.Endless → self.new.turns ≡ 0 }
+    {
+        for _ in 0..LINE_MAX + 1 {
+            match self.next_byte()? {
+                None => return Ok(!line.is_empty()),
+                Some(b'\n') => return Ok(true),
+                Some(b) => line.push(b)?,
+            }
+        }
+        Ok(true)
+    }
+}
