@@ -193,3 +193,6 @@ unsafe impl<B: Allocator> Allocator for Heap<B> {
         self.gate.release(size);
     }
 }
+
+#[cfg(test)]
+mod tests;
