@@ -98,7 +98,7 @@ impl Key {
         ensures ok { IfOk result (λ key. key ≡ self.now) }
         ensures short { length self.now ≤ KEY_INLINE → IsOk result }
     {
-        match SmallVec::from_slice(*self.bytes.allocator(), self.bytes.as_slice()) {
+        match SmallVec::from_slice(*self.bytes.allocator(), self.bytes()) {
             Ok(bytes) => Ok(Key { bytes }),
             Err(_) => Err(Memory),
         }
