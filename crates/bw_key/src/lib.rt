@@ -50,9 +50,9 @@ pub const KEY_INLINE: usize = 24;
 
 /// A key: 0 to 64 bytes, in 48 bytes and, where they are more than 24, a block of memory.
 ///
-/// Keys are ordered byte by byte as unsigned numbers: the first bytes that differ decide, and a key that another one
-/// begins with is before it. So the empty key is before all others. Two keys are equal where they have the same bytes.
-/// Contracts see a key as the list of its bytes.
+/// Keys are ordered byte by byte as unsigned numbers: the first bytes that differ decide, and a key which is the
+/// beginning of another one is before it. So the empty key is before all others. Two keys are equal where they have the
+/// same bytes. Contracts see a key as the list of its bytes.
 #[derive(Debug, Drop)]
 pub struct Key {
     bytes: SmallVec<u8, KEY_INLINE, Alloc>,
@@ -86,10 +86,8 @@ impl Key {
         if bytes.len() > KEY_MAX {
             return Err(KeyFault::TooLong(bytes.len()));
         }
-        match SmallVec::from_slice(alloc, bytes) {
-            Ok(bytes) => Ok(Key { bytes }),
-            Err(_) => Err(KeyFault::Memory),
-        }
+        let bytes = SmallVec::from_slice(alloc, bytes).map_err(|_| KeyFault::Memory)?;
+        Ok(Key { bytes })
     }
 
     /// An equal key, from the allocator of this one. 0 to 24 bytes take no memory and always have a copy. 25 to 64
@@ -98,10 +96,8 @@ impl Key {
         ensures ok { IfOk result (λ key. key ≡ self.now) }
         ensures short { length self.now ≤ KEY_INLINE → IsOk result }
     {
-        match SmallVec::from_slice(*self.bytes.allocator(), self.bytes()) {
-            Ok(bytes) => Ok(Key { bytes }),
-            Err(_) => Err(Memory),
-        }
+        let bytes = SmallVec::from_slice(*self.bytes.allocator(), self.bytes())?;
+        Ok(Key { bytes })
     }
 
     /// The bytes, at most 64.
