@@ -172,7 +172,7 @@ fn admit_bytes(limit: u64, used: &AtomicU64, size: u64) -> bool
 }
 
 unsafe impl<B: Allocator> Allocator for Heap<B> {
-    ghost dealloc_token = { λ heap ty ptr. B.dealloc_token heap.inner ty ptr };
+    ghost dealloc_token = { λ heap ty ptr. B.dealloc_token (inner_of heap) ty ptr };
 
     fn allocate(&self, size: usize, align: usize) -> Result<*mut u8, AllocError> {
         if !self.gate.admit(size) {
