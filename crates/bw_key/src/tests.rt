@@ -119,6 +119,21 @@ fn a_long_key_has_as_many_bytes_of_memory(rt: HostRuntime) -> Result<(), Fail> {
     Ok(())
 }
 
+fn one_byte(alloc: Alloc) -> Result<Vec<u8, Alloc>, Memory> {
+    let mut bytes = Vec::new(alloc);
+    bytes.push(7)?;
+    Ok(bytes)
+}
+
+#[test]
+fn a_refused_push_is_want_of_memory(rt: HostRuntime) -> Result<(), Fail> {
+    let alloc = heap(&rt)?;
+    alloc.refuse(1);
+    assert_eq!(rt; one_byte(alloc).err(), Some(Memory));
+    assert_eq!(rt; one_byte(alloc)?.as_slice(), [7].as_slice());
+    Ok(())
+}
+
 #[test]
 fn faults_say_what_is_wrong(rt: HostRuntime) -> Result<(), Fail> {
     let alloc = rt.alloc();
