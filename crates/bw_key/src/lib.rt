@@ -1,4 +1,5 @@
-//! Keys of an ordered index: short byte strings in lexicographic order.
+//! Keys of an ordered index: byte strings of 0 to 64 bytes in lexicographic order, of which the short ones lie in the
+//! key itself and take no memory. And `Memory`, which is how every crate of the workspace says that there is none.
 #![tactic(auto)]
 
 ghost use Rattle.std.specs.Prelude.{◌≡◌, ◌<◌, ◌≤◌, length, IsOk, IfOk, IsOkUnless};
@@ -12,7 +13,8 @@ use std::cmp::Ordering;
 use std::marker::Model;
 use thiserror::Error;
 
-/// Want of memory, the same in every crate of the workspace.
+/// Want of memory, the same in every crate of the workspace: the allocator refused a growth, since the system has no
+/// more or the heap has reached its limit. Each call says what stands after it.
 #[derive(Clone, Copy, Debug, PartialEq, Eq, Error)]
 #[error("out of memory")]
 pub struct Memory;
@@ -29,31 +31,37 @@ impl<T: Drop> From<AllocFailed<T>> for Memory {
     }
 }
 
-/// Why there is no key.
+/// Why there is no key. The first that applies is answered.
 #[derive(Clone, Copy, Debug, PartialEq, Eq, Error)]
 pub enum KeyFault {
-    /// The bytes are more than a key holds, and this many.
-    #[error("key longer than 64 bytes")]
+    /// The bytes are more than `KEY_MAX`: this many.
+    #[error("key of {0} bytes is longer than {most} bytes", most = KEY_MAX)]
     TooLong(usize),
+    /// They are more than `KEY_INLINE`, and there is no memory for them.
     #[error("out of memory")]
     Memory,
 }
 
-/// The most bytes that a key has.
+/// The most bytes of a key.
 pub const KEY_MAX: usize = 64;
 
-/// How many bytes a key keeps without an allocation.
+/// The most bytes that lie in the key itself. A longer key has them in one block of its own, of as many bytes as it has.
 pub const KEY_INLINE: usize = 24;
 
-/// A key: 0 to 64 bytes. Contracts see it as the list of its bytes.
+/// A key: 0 to 64 bytes, in 48 bytes and, where they are more than 24, a block of memory.
+///
+/// Keys are ordered byte by byte as unsigned numbers: the first bytes that differ decide, and a key which is the
+/// beginning of another one is before it. So the empty key is before all others. Two keys are equal where they have the
+/// same bytes. Contracts see a key as the list of its bytes.
 #[derive(Debug, Drop)]
 pub struct Key {
     bytes: SmallVec<u8, KEY_INLINE, Alloc>,
 }
 
 impl Model for Key {
-    ghost use Rattle.std.specs.Prelude.{List, ℕ, length, ◌≤◌};
+    ghost use Rattle.bw_key.specs.declared.TheConstants.{KEY_MAX};
     ghost use Rattle.std.specs.Coded.{coded_list, coded_ℕ};
+    ghost use Rattle.std.specs.Prelude.{List, ℕ, length, ◌≤◌};
 
     ghost Value = { List ℕ };
 
@@ -61,11 +69,14 @@ impl Model for Key {
 
     ghost view = { λ k. k.bytes.items };
 
-    ghost invariant = { λ k. length k.bytes.items ≤ 64 };
+    ghost invariant = { λ k. length k.bytes.items ≤ KEY_MAX };
 }
 
 impl Key {
-    /// The key of these bytes. Up to 24 bytes take no memory.
+    /// The key of these bytes, with `alloc` for the memory of it and of its copies.
+    ///
+    /// More than 64 bytes answer `TooLong` with their number, whatever memory there is. 0 to 24 bytes take no memory
+    /// and are always a key. 25 to 64 bytes take one growth, and answer `Memory` where that is refused.
     pub fn new(alloc: Alloc, bytes: &[u8]) -> Result<Key, KeyFault>
         ensures ok { IfOk result (λ key. key ≡ bytes.now) }
         ensures long { KEY_MAX < length bytes.now → result ≡ Err (KeyFault.TooLong (length bytes.now)) }
@@ -75,24 +86,21 @@ impl Key {
         if bytes.len() > KEY_MAX {
             return Err(KeyFault::TooLong(bytes.len()));
         }
-        match SmallVec::from_slice(alloc, bytes) {
-            Ok(bytes) => Ok(Key { bytes }),
-            Err(_) => Err(KeyFault::Memory),
-        }
+        let bytes = SmallVec::from_slice(alloc, bytes).map_err(|_| KeyFault::Memory)?;
+        Ok(Key { bytes })
     }
 
-    /// An equal key. Up to 24 bytes take no memory.
+    /// An equal key, from the allocator of this one. 0 to 24 bytes take no memory and always have a copy. 25 to 64
+    /// bytes take one growth, and answer `Memory` where that is refused.
     pub fn copy(&self) -> Result<Key, Memory>
         ensures ok { IfOk result (λ key. key ≡ self.now) }
         ensures short { length self.now ≤ KEY_INLINE → IsOk result }
     {
-        match SmallVec::from_slice(*self.bytes.allocator(), self.bytes.as_slice()) {
-            Ok(bytes) => Ok(Key { bytes }),
-            Err(_) => Err(Memory),
-        }
+        let bytes = SmallVec::from_slice(*self.bytes.allocator(), self.bytes())?;
+        Ok(Key { bytes })
     }
 
-    /// The bytes.
+    /// The bytes, at most 64.
     pub fn bytes(&self) -> &[u8]
         ensures value { result.now ≡ self.now }
         ensures limit { length self.now ≤ KEY_MAX }
@@ -138,3 +146,6 @@ impl Ord for Key {
         self.bytes().cmp(&other.bytes())
     }
 }
+
+#[cfg(test)]
+mod tests;
