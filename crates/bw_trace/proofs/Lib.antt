@@ -2,3 +2,4 @@ pub mod Numbers
 pub mod Writing
 pub mod LinesLemmas
 pub mod Reading
+pub mod TracesLemmas

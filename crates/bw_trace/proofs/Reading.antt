@@ -1,16 +1,15 @@
 -- Steps of reading, one after another.
-use Rattle.std.proofs.Common.{◌≡◌, ℕ, ◌+◌, ◌-◌, ◌≤◌, ◌^◌, ◌∙◌, List, [], ◌++◌, Option, refl, subst, append-nil, arith}
+use Rattle.std.proofs.Common.{◌≡◌, ℕ, ◌+◌, ◌-◌, ◌≤◌, ◌^◌, List, [], ◌++◌, Option, subst, append-nil, arith}
 use Rattle.std.proofs.KnownBytes.{Consumes-trans}
 use Rattle.std.specs.Io.KnownBytes.{Consumes}
 use Rattle.bw_trace.specs.Counts.{HasRisenBy}
 use Rattle.bw_trace.specs.Sources.{SourceView, ReadsOn}
 
 pub reads_on_none : (s : SourceView) → ReadsOn s s
-reads_on_none s = record { fault = refl; turns = omega arith; calls = omega arith; budget = omega arith }
+reads_on_none s = record { turns = omega arith; calls = omega arith; budget = omega arith }
 
 pub reads_on_more : (a b c : SourceView) → ReadsOn a b → ReadsOn b c → ReadsOn a c
 reads_on_more a b c first second = record {
-  fault = second.fault ∙ first.fault;
   turns = omega (arith, first.turns, second.turns);
   calls = omega (arith, first.turns, second.turns, first.calls, second.calls);
   budget = omega (arith, first.budget, second.budget);

@@ -1,5 +1,5 @@
 -- What a line of a trace means.
-use Rattle.std.specs.Prelude.{ℕ, ◌+◌, ◌-◌, ◌*◌, ◌^◌, Bool, not, ◌||◌, ◌&&◌, ◌==◌, false, nat_lt, nat_le, nat_eq, if◌then◌else◌, List, [], ◌∷◌, length, Result, Ok, Err, codes}
+use Rattle.std.specs.Prelude.{◌≡◌, ℕ, ◌+◌, ◌-◌, ◌*◌, ◌^◌, Bool, not, ◌||◌, ◌&&◌, ◌==◌, false, nat_lt, nat_le, nat_eq, if◌then◌else◌, List, [], ◌∷◌, length, Result, Ok, Err, codes}
 use Rattle.std.specs.Char.{is_ascii_digit}
 use Rattle.std.specs.Str.Lines.{strip_carriage_return}
 use Rattle.std.specs.List.{slice_split, filter, list_all}
@@ -7,7 +7,7 @@ use Rattle.std.specs.Cmp.Lexicographic.{pointwise}
 use Rattle.bw_key.specs.Order.{KeyBytes}
 use Rattle.bw_model.specs.Values.{ValueBytes}
 use Rattle.bw_model.specs.declared.operations.Op.TheVariants.{Get, Upsert}
-use Rattle.bw_trace.specs.Lines.{line_max}
+use Rattle.bw_trace.specs.Lines.{line_max, IsLineOf}
 use Rattle.bw_trace.specs.Spelling.{is_plain}
 use Rattle.bw_trace.specs.declared.faults.Cause.{Cause}
 use Rattle.bw_trace.specs.declared.faults.Cause.TheVariants.{LongLine, Verb, Words, KeyText, KeyLength, Number}
@@ -85,3 +85,7 @@ meaning_of_words (verb ∷ rest) =
 -- A line is tested for its length first. One byte 13 at its end is taken away.
 abbrev pub meaning_of : List ℕ → Meaning
 meaning_of line = if nat_lt line_max (length line) then Faulty LongLine else meaning_of_words (words_of (strip_carriage_return line))
+
+-- the bytes that were read are a line of this meaning, whatever follows them
+abbrev pub IsLineMeaning : List ℕ → Meaning → Bool → Type 0
+IsLineMeaning read meaning ended = (line : List ℕ) × IsLineOf line read ended × (meaning ≡ meaning_of line)

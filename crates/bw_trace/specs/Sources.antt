@@ -32,9 +32,8 @@ pub record IsOver (s : SourceView) : Type 0 where
   pub nothing_left : IsAtEnd s.unread
   pub told : s.has_ended ≡ true
 
--- Each call of the reader is paid by a turn, and the fault stays.
+-- Each call of the reader is paid by a turn.
 pub record ReadsOn (old new : SourceView) : Type 0 where
-  pub fault : new.fault ≡ old.fault
   pub turns : new.turns ≤ old.turns
   pub calls : HasRisenBy (old.turns - new.turns) old.calls new.calls
   pub budget : new.budget ≤ old.budget

@@ -12,5 +12,5 @@ mod std_ports;
 pub use faults::{Cause, TraceFault};
 pub use ports::{Failed, Inlet, Outlet};
 pub use printing::print_replies;
-pub use sources::Source;
+pub use sources::{Source, read_batch};
 pub use std_ports::{FromRead, FromWrite};

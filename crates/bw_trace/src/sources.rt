@@ -5,6 +5,7 @@ ghost use Rattle.std.specs.Io.KnownBytes.{Consumes, IsAtEnd};
 ghost use Rattle.bw_trace.specs.Counts.{HasRisenBy};
 ghost use Rattle.bw_trace.specs.Faults.{IsOfBytes, IsOfInput, IsOfReading, IfLine};
 ghost use Rattle.bw_trace.specs.Lines.{IsLineOf, whole_lines_of};
+ghost use Rattle.bw_trace.specs.Grammar.{IsLineMeaning};
 ghost use Rattle.bw_trace.specs.Sources.{IsOver, ReadsOn};
 ghost use Rattle.bw_trace.specs.Traces.{StandFor, IsFaultyAt, trace_from, cut_trace_from, no_trace};
 
@@ -93,7 +94,7 @@ impl<R: Inlet> Source<R> {
         ensures falls { IfOk result (λ next. IfSome next (λ _. self.new.budget < self.old.budget)) }
         ensures over { self.old.ended ≡ true → result ≡ Ok None }
         ensures on { ReadsOn self.old self.new }
-        ensures judged { self.new.judged ≡ self.old.judged }
+        ensures same { (self.new.judged ≡ self.old.judged) × (self.new.fault ≡ self.old.fault) }
         ensures none_failed { OnOk result (self.new.failures ≡ self.old.failures) }
         ensures faults { IfErr result (λ fault. IsOfInput fault × (self.old.ended ≡ false) × Consumes self.old.unread self.new.unread []) }
         ensures read { IsErrOf result TraceFault.Read → HasRisenBy 1 self.old.failures self.new.failures }
@@ -138,7 +139,7 @@ impl<R: Inlet> Source<R> {
         ensures falls { result ≡ Ok true → self.new.budget < self.old.budget }
         ensures over { self.old.ended ≡ true → result ≡ Ok false }
         ensures on { ReadsOn self.old self.new }
-        ensures judged { self.new.judged ≡ self.old.judged }
+        ensures same { (self.new.judged ≡ self.old.judged) × (self.new.fault ≡ self.old.fault) }
         ensures none_failed { OnOk result (self.new.failures ≡ self.old.failures) }
         ensures faults { IfErr result (λ fault. IsOfBytes fault) }
         ensures cut { IfErr result (λ fault. IsOfInput fault → (self.old.ended ≡ false)
@@ -154,5 +155,122 @@ impl<R: Inlet> Source<R> {
             }
         }
         Ok(true)
+    }
+
+    // One more line was judged.
+    fn count_line(&mut self)
+        requires { self.old.judged + 1 + self.old.budget < 2 ^ 64 }
+        ensures { self.new ≡ record self.old { judged = self.old.judged + 1 } }
+    {
+        self.judged += 1;
+    }
+
+    // Reads a line and judges it. None at the end.
+    fn next_line(&mut self, line: &mut Vec<u8, Alloc>) -> Result<Option<Meaning>, TraceFault>
+        requires { self.old.judged + self.old.budget < 2 ^ 64 }
+        ensures meaning { IfOk result (λ next. (read : List ℕ) × Consumes self.old.unread self.new.unread read × MatchOption next
+            ((read ≡ []) × (self.new.judged ≡ self.old.judged) × IsOver self.new)
+            (λ meaning. IsLineMeaning read meaning self.new.ended × (self.new.judged ≡ self.old.judged + 1) × (self.old.ended ≡ false)
+                × (self.new.ended ≡ true → IsOver self.new))) }
+        ensures over { self.old.ended ≡ true → result ≡ Ok None }
+        ensures cut { IfErr result (λ fault. IsOfInput fault → (self.old.ended ≡ false)
+            × ((read : List ℕ) × Consumes self.old.unread self.new.unread read × (whole_lines_of read ≡ []))) }
+        ensures falls { IfOk result (λ next. IfSome next (λ _. self.new.judged + self.new.budget < 2 ^ 64 × (self.new.budget < self.old.budget))) }
+        ensures on { ReadsOn self.old self.new }
+        ensures fault { self.new.fault ≡ self.old.fault }
+        ensures none_failed { OnOk result (self.new.failures ≡ self.old.failures) }
+        ensures faults { IfErr result (λ fault. IsOfBytes fault) }
+        ensures read { IsErrOf result TraceFault.Read → HasRisenBy 1 self.old.failures self.new.failures }
+        ensures endless { IsErrOf result TraceFault.Endless → self.new.turns ≡ 0 }
+    {
+        line.clear();
+        if !self.read_line(line)? {
+            return Ok(None);
+        }
+        self.count_line();
+        let meaning = judge(*line.allocator(), line)?;
+        Ok(Some(meaning))
+    }
+
+    // The operations up to the next `go` or the end.
+    fn gather(&mut self) -> Result<Option<Vec<Op, Alloc>>, TraceFault>
+        ensures batch { IfOk result (λ next. (read : List ℕ) × Consumes self.old.unread self.new.unread read × MatchOption next
+            ((trace_from self.old.judged read ≡ no_trace) × (self.old.ended ≡ true → read ≡ []) × IsOver self.new)
+            (λ ops. StandFor self.old.judged read (ops.items ∷ []) self.new.judged self.new.ended)) }
+        ensures over { self.old.ended ≡ true → result ≡ Ok None }
+        ensures line { IfErr result (λ fault. IfLine fault (λ number cause. (read : List ℕ) × Consumes self.old.unread self.new.unread read
+            × IsFaultyAt self.old.judged read number cause self.new.ended × (self.new.ended ≡ true → IsOver self.new))) }
+        ensures cut { IfErr result (λ fault. IsOfInput fault → (self.old.ended ≡ false)
+            × ((read : List ℕ) × Consumes self.old.unread self.new.unread read × (cut_trace_from self.old.judged read ≡ no_trace))) }
+        ensures falls { IfOk result (λ next. IfSome next (λ _. self.new.budget < self.old.budget)) }
+        ensures on { ReadsOn self.old self.new }
+        ensures fault { self.new.fault ≡ self.old.fault }
+        ensures none_failed { OnOk result (self.new.failures ≡ self.old.failures) }
+        ensures faults { IfErr result (λ fault. IsOfReading fault) }
+        ensures read { IsErrOf result TraceFault.Read → HasRisenBy 1 self.old.failures self.new.failures }
+        ensures endless { IsErrOf result TraceFault.Endless → self.new.turns ≡ 0 }
+    {
+        let alloc = *self.buffer.allocator();
+        let mut ops = Vec::new(alloc);
+        let mut line = Vec::new(alloc);
+        while let Some(meaning) = self.next_line(&mut line)? {
+            match meaning {
+                Meaning::Nothing => {}
+                Meaning::Operation(op) => ops.push(op)?,
+                Meaning::EndsBatch => return Ok(Some(ops)),
+                Meaning::Faulty(cause) => {
+                    return Err(TraceFault::Line {
+                        number: self.judged,
+                        cause,
+                    });
+                }
+            }
+        }
+        if ops.is_empty() {
+            return Ok(None);
+        }
+        Ok(Some(ops))
+    }
+}
+
+/// The next batch of a trace: the operations up to the next line `go`, or up to the end of the input where there are
+/// any. None at the end.
+///
+/// Its faults are `Read`, `Endless`, `Memory` and `Line`. After a fault the source answers the same fault from then on.
+pub fn read_batch<R: Inlet>(
+    source: &mut Source<R>,
+) -> Result<Option<Vec<Op, Alloc>>, TraceFault>
+    // The bytes that were read stand for the batch. At the end they stand for none, and the reader told its end.
+    ensures batch { IfOk result (λ next. (read : List ℕ) × Consumes source.old.unread source.new.unread read × MatchOption next
+        ((trace_from source.old.judged read ≡ no_trace) × (source.old.ended ≡ true → read ≡ []) × IsOver source.new)
+        (λ ops. StandFor source.old.judged read (ops.items ∷ []) source.new.judged source.new.ended)) }
+    // The line of this number is the first that is faulty, whatever follows.
+    ensures line { source.old.fault ≡ None → IfErr result (λ fault. IfLine fault (λ number cause. (read : List ℕ)
+        × Consumes source.old.unread source.new.unread read × IsFaultyAt source.old.judged read number cause source.new.ended
+        × (source.new.ended ≡ true → IsOver source.new))) }
+    // Where the input failed or did not end, no line `go` was read whole.
+    ensures cut { source.old.fault ≡ None → IfErr result (λ fault. IsOfInput fault → (source.old.ended ≡ false)
+        × ((read : List ℕ) × Consumes source.old.unread source.new.unread read × (cut_trace_from source.old.judged read ≡ no_trace))) }
+    ensures read { source.old.fault ≡ None → IsErrOf result TraceFault.Read → HasRisenBy 1 source.old.failures source.new.failures }
+    ensures endless { source.old.fault ≡ None → IsErrOf result TraceFault.Endless → source.new.turns ≡ 0 }
+    ensures faults { source.old.fault ≡ None → IfErr result (λ fault. IsOfReading fault) }
+    ensures falls { IfOk result (λ next. IfSome next (λ _. source.new.budget < source.old.budget)) }
+    ensures on { ReadsOn source.old source.new }
+    ensures none_failed { OnOk result (source.new.failures ≡ source.old.failures) }
+
+    // The same fault from then on, and nothing is read for it.
+    ensures kept { IfErr result (λ fault. source.new.fault ≡ Some fault) }
+    ensures again { IfSome source.old.fault (λ fault. (result ≡ Err fault) × (source.new ≡ source.old)) }
+    ensures none { OnOk result (source.new.fault ≡ None) }
+{
+    if let Some(fault) = source.fault {
+        return Err(fault);
+    }
+    match source.gather() {
+        Ok(next) => Ok(next),
+        Err(fault) => {
+            source.fault = Some(fault);
+            Err(fault)
+        }
     }
 }
