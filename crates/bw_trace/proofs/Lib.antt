@@ -3,3 +3,4 @@ pub mod Writing
 pub mod LinesLemmas
 pub mod Reading
 pub mod TracesLemmas
+pub mod RunningLemmas

@@ -7,3 +7,5 @@ pub mod Counts
 pub mod Faults
 pub mod Writing
 pub mod Sources
+pub mod Running
+pub mod Statuses

@@ -5,12 +5,16 @@ mod faults;
 mod judging;
 mod ports;
 mod printing;
+mod running;
 mod sources;
 mod spelling;
 mod std_ports;
+mod summaries;
 
 pub use faults::{Cause, TraceFault};
 pub use ports::{Failed, Inlet, Outlet};
 pub use printing::print_replies;
+pub use running::{Job, run_trace, status};
 pub use sources::{Source, read_batch};
 pub use std_ports::{FromRead, FromWrite};
+pub use summaries::Summary;

@@ -28,6 +28,7 @@ pub fn print_replies<W: Outlet>(
     replies: &[Reply],
 ) -> Result<(), TraceFault>
     ensures ok { OnOk result (Appends (W.contents out.old) (W.contents out.new) (replies_text replies.now)) }
+    ensures none_failed { OnOk result (W.failures out.new ≡ W.failures out.old) }
     ensures memory { IsErrOf result TraceFault.Memory → TakesFront (W.contents out.old) (W.contents out.new) (replies_text replies.now) }
     ensures write { IsErrOf result TraceFault.Write → HasRisenBy 1 (W.failures out.old) (W.failures out.new) }
     ensures faults { IfErr result (λ fault. IsOfWriting fault) }
@@ -118,8 +119,24 @@ fn push_number(text: &mut Vec<u8, Alloc>, number: u64) -> Result<(), Memory>
     Ok(())
 }
 
-/// Puts the line of a refused batch behind a text.
-pub(crate) fn push_refusal(text: &mut Vec<u8, Alloc>, refusal: &Refusal) -> Result<(), Memory>
+/// Prints the line of a refused batch. Its faults are those of `print_replies`.
+pub(crate) fn print_refusal<W: Outlet>(
+    alloc: Alloc,
+    out: &mut W,
+    refusal: &Refusal,
+) -> Result<(), TraceFault>
+    ensures ok { OnOk result (Appends (W.contents out.old) (W.contents out.new) (refusal_text refusal.now)) }
+    ensures none_failed { OnOk result (W.failures out.new ≡ W.failures out.old) }
+    ensures memory { IsErrOf result TraceFault.Memory → TakesFront (W.contents out.old) (W.contents out.new) (refusal_text refusal.now) }
+    ensures write { IsErrOf result TraceFault.Write → HasRisenBy 1 (W.failures out.old) (W.failures out.new) }
+    ensures faults { IfErr result (λ fault. IsOfWriting fault) }
+{
+    let mut text = Vec::new(alloc);
+    push_refusal(&mut text, refusal)?;
+    put_text(out, &text)
+}
+
+fn push_refusal(text: &mut Vec<u8, Alloc>, refusal: &Refusal) -> Result<(), Memory>
     ensures { OnOk result (text.new.items ≡ text.old.items ++ refusal_text refusal.now) }
 {
     match refusal {

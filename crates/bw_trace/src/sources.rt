@@ -196,7 +196,8 @@ impl<R: Inlet> Source<R> {
     fn gather(&mut self) -> Result<Option<Vec<Op, Alloc>>, TraceFault>
         ensures batch { IfOk result (λ next. (read : List ℕ) × Consumes self.old.unread self.new.unread read × MatchOption next
             ((trace_from self.old.judged read ≡ no_trace) × (self.old.ended ≡ true → read ≡ []) × IsOver self.new)
-            (λ ops. StandFor self.old.judged read (ops.items ∷ []) self.new.judged self.new.ended)) }
+            (λ ops. StandFor self.old.judged read (ops.items ∷ []) self.new.judged self.new.ended × (self.old.ended ≡ false)
+                × (self.new.ended ≡ true → IsOver self.new))) }
         ensures over { self.old.ended ≡ true → result ≡ Ok None }
         ensures line { IfErr result (λ fault. IfLine fault (λ number cause. (read : List ℕ) × Consumes self.old.unread self.new.unread read
             × IsFaultyAt self.old.judged read number cause self.new.ended × (self.new.ended ≡ true → IsOver self.new))) }
@@ -243,7 +244,9 @@ pub fn read_batch<R: Inlet>(
     // The bytes that were read stand for the batch. At the end they stand for none, and the reader told its end.
     ensures batch { IfOk result (λ next. (read : List ℕ) × Consumes source.old.unread source.new.unread read × MatchOption next
         ((trace_from source.old.judged read ≡ no_trace) × (source.old.ended ≡ true → read ≡ []) × IsOver source.new)
-        (λ ops. StandFor source.old.judged read (ops.items ∷ []) source.new.judged source.new.ended)) }
+        (λ ops. StandFor source.old.judged read (ops.items ∷ []) source.new.judged source.new.ended × (source.old.ended ≡ false)
+            × (source.new.ended ≡ true → IsOver source.new))) }
+    ensures over { source.old.fault ≡ None → source.old.ended ≡ true → result ≡ Ok None }
     // The line of this number is the first that is faulty, whatever follows.
     ensures line { source.old.fault ≡ None → IfErr result (λ fault. IfLine fault (λ number cause. (read : List ℕ)
         × Consumes source.old.unread source.new.unread read × IsFaultyAt source.old.judged read number cause source.new.ended
