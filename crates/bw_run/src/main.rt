@@ -1,0 +1,38 @@
+//! Runs a trace of operations on an ordered index, and prints the replies.
+#![tactic(auto)]
+
+mod command;
+#[cfg(test)]
+mod tests;
+
+use bw_memory::{Alloc, Heap};
+use bw_trace::{FromRead, FromWrite};
+use command::run_words;
+use std::env;
+use std::process::ExitCode;
+
+// How often the input is read at the most: 2^32 times.
+const TURNS: u64 = 4_294_967_296;
+
+fn main(rt: HostRuntime) -> ExitCode {
+    let mut errors = FromWrite::new(rt.stderr());
+    let Ok(alloc) = Heap::new(rt.alloc()).leak(rt.alloc()) else {
+        return ExitCode::from(command::no_memory(&mut errors));
+    };
+    let Ok(arguments) = env::args(&rt) else {
+        return ExitCode::from(command::wrong_usage(&mut errors));
+    };
+    let Ok(arguments) = arguments.skip(1).collect::<Vec<String>>(rt.alloc()) else {
+        return ExitCode::from(command::no_memory(&mut errors));
+    };
+    let Ok(words) = arguments
+        .iter()
+        .map(|word| word.as_str())
+        .collect::<Vec<&str>>(rt.alloc())
+    else {
+        return ExitCode::from(command::no_memory(&mut errors));
+    };
+    let input = FromRead::new(rt.stdin());
+    let mut output = FromWrite::new(rt.stdout());
+    ExitCode::from(run_words(alloc, &words, input, &mut output, &mut errors, TURNS))
+}
