@@ -1,0 +1,157 @@
+// Each growth of memory refused in turn.
+use super::making::{LONG, Maker};
+use crate::{Done, Index, Memory, Op, OpenGate, Refusal, Reply};
+use bw_memory::Alloc;
+use bw_model::ReferenceMap;
+use std::process::Abort;
+
+// The pairs that each piece of work starts from.
+const BEFORE: &[(&str, &str)] = &[("a", "1"), (LONG, LONG)];
+
+// An index and the plain program, which both hold these pairs.
+fn filled<R: Abort>(rt: &R, make: &Maker<R>) -> (Index, ReferenceMap) {
+    let mut index = make.index(65536);
+    let mut map = ReferenceMap::new(make.alloc);
+    for (key, value) in BEFORE {
+        let ops = [make.upsert(key, value)];
+        index.run(&ops, &OpenGate).expect(rt, "memory");
+        map.run(&ops).expect(rt, "memory");
+    }
+    (index, map)
+}
+
+// Whether the growth of this number was refused since the heap was told to. It refuses none from now on.
+fn was_refused(alloc: Alloc, growth: u64) -> bool {
+    let left = alloc.left();
+    alloc.refuse(0);
+    left == 0 || left > growth
+}
+
+fn first<R: Abort>(make: &Maker<R>) -> Vec<Op, Alloc> {
+    make.list([
+        make.upsert("c", LONG),
+        make.get(LONG),
+        make.delete("a"),
+        make.scan("", None, 9),
+    ])
+}
+
+fn second<R: Abort>(make: &Maker<R>) -> Vec<Op, Alloc> {
+    make.list([
+        make.swap_if(LONG, LONG, "2"),
+        make.insert("c", "3"),
+        make.rscan("", None, 9),
+    ])
+}
+
+#[test]
+fn a_new_index_meets_each_refusal(rt: HostRuntime) {
+    let make = Maker::new(&rt, rt.alloc());
+    for growth in 1..1000 {
+        make.alloc.refuse(growth);
+        let outcome = Index::new(make.alloc, make.options(3));
+        let was_refused = was_refused(make.alloc, growth);
+        match outcome {
+            Ok(index) => {
+                assert!(rt; !was_refused);
+                assert_eq!(rt; index.contents().expect(&rt, "memory"), make.pairs(&[]));
+                return;
+            }
+            Err(_) => assert!(rt; was_refused),
+        }
+    }
+    panic!(rt; "no call met no refusal");
+}
+
+#[test]
+fn contents_meet_each_refusal(rt: HostRuntime) {
+    let make = Maker::new(&rt, rt.alloc());
+    let (index, _) = filled(&rt, &make);
+    for growth in 1..1000 {
+        make.alloc.refuse(growth);
+        let outcome = index.contents();
+        if !was_refused(make.alloc, growth) {
+            assert_eq!(rt; outcome.expect(&rt, "memory"), make.pairs(BEFORE));
+            assert!(rt; growth > 2);
+            return;
+        }
+        assert_eq!(rt; outcome, Err(Memory), "growth {growth}");
+    }
+    panic!(rt; "no call met no refusal");
+}
+
+#[test]
+fn a_batch_meets_each_refusal(rt: HostRuntime) {
+    let make = Maker::new(&rt, rt.alloc());
+    let replies = [
+        Reply::New,
+        make.found(LONG),
+        make.was("1"),
+        make.scanned(&[(LONG, LONG), ("c", LONG)]),
+    ];
+    let ops = first(&make);
+    for growth in 1..1000 {
+        let (mut index, _) = filled(&rt, &make);
+        make.alloc.refuse(growth);
+        let outcome = index.run(&ops, &OpenGate);
+        let was_refused = was_refused(make.alloc, growth);
+        if let Ok(done) = outcome {
+            assert!(rt; !was_refused && growth > 5);
+            assert_eq!(rt; done.replies.as_slice(), replies.as_slice());
+            return;
+        }
+        assert_eq!(rt; outcome.map(|done| done.tidy), Err(Refusal::Memory));
+        assert!(rt; was_refused);
+        assert_eq!(rt; index.contents().expect(&rt, "memory"), make.pairs(BEFORE));
+        let done = index.run(&ops, &OpenGate).expect(&rt, "ample memory");
+        assert_eq!(rt; done.replies.as_slice(), replies.as_slice());
+    }
+    panic!(rt; "no batch met no refusal");
+}
+
+// Runs the accepted batches on the plain program, and compares the replies. Answers how many were refused.
+fn follow<R: Abort>(
+    rt: &R,
+    map: &mut ReferenceMap,
+    batches: &[Vec<Op, Alloc>],
+    outcomes: &[Result<Done, Refusal>],
+) -> usize {
+    assert_eq!(rt; outcomes.len(), batches.len());
+    for (ops, outcome) in batches.iter().zip(outcomes) {
+        match outcome {
+            Ok(done) => {
+                let replies = map.run(ops).expect(rt, "memory");
+                assert_eq!(rt; done.replies.as_slice(), replies.as_slice());
+            }
+            Err(refusal) => assert_eq!(rt; *refusal, Refusal::Memory),
+        }
+    }
+    outcomes.iter().filter(|outcome| outcome.is_err()).count()
+}
+
+#[test]
+fn batches_meet_each_refusal(rt: HostRuntime) {
+    let make = Maker::new(&rt, rt.alloc());
+    let batches = make.list([first(&make), second(&make)]);
+    for growth in 1..1000 {
+        let (mut index, mut map) = filled(&rt, &make);
+        make.alloc.refuse(growth);
+        let outcomes = index.run_all(&batches, &OpenGate);
+        let was_refused = was_refused(make.alloc, growth);
+        let refused = match outcomes {
+            Ok(outcomes) => follow(&rt, &mut map, &batches, &outcomes),
+            Err(Memory) => 1,
+        };
+        assert_eq!(rt; refused, was_refused as usize, "growth {growth}");
+
+        // Where the list of outcomes was refused, no batch ran.
+        let contents = index.contents().expect(&rt, "memory");
+        let expected = map.entries().expect(&rt, "memory");
+        assert_eq!(rt; contents, expected, "growth {growth}");
+        if !was_refused {
+            assert!(rt; growth > 10);
+            return;
+        }
+    }
+    panic!(rt; "no batches met no refusal");
+}
