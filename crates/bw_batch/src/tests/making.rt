@@ -7,6 +7,9 @@ use std::process::Abort;
 /// Longer than a key or a value that takes no memory.
 pub const LONG: &str = "a text of more than 24 bytes";
 
+/// A key and its value.
+pub type Pair = (&'static str, &'static str);
+
 /// Makes them on one heap, and ends the test where there is no memory.
 #[derive(Drop)]
 pub struct Maker<'a, R: Abort> {
@@ -42,7 +45,7 @@ impl<'a, R: Abort> Maker<'a, R> {
         list
     }
 
-    pub fn pairs(&self, texts: &[(&str, &str)]) -> Pairs {
+    pub fn pairs(&self, texts: &[Pair]) -> Pairs {
         let mut pairs = Vec::new(self.alloc);
         for (key, value) in texts {
             let pair = (self.key(key), self.value(value));
@@ -83,7 +86,7 @@ impl<'a, R: Abort> Maker<'a, R> {
         Op::SwapIf(self.key(key), self.value(old), self.value(new))
     }
 
-    pub fn scan(&self, from: &str, to: Option<&str>, most: u64) -> Op {
+    pub fn scan(&self, from: &str, to: Option<&'static str>, most: u64) -> Op {
         Op::Scan {
             from: self.key(from),
             to: to.map(|to| self.key(to)),
@@ -91,7 +94,7 @@ impl<'a, R: Abort> Maker<'a, R> {
         }
     }
 
-    pub fn rscan(&self, from: &str, to: Option<&str>, most: u64) -> Op {
+    pub fn rscan(&self, from: &str, to: Option<&'static str>, most: u64) -> Op {
         Op::Rscan {
             from: self.key(from),
             to: to.map(|to| self.key(to)),
@@ -111,7 +114,7 @@ impl<'a, R: Abort> Maker<'a, R> {
         Reply::Was(self.value(value))
     }
 
-    pub fn scanned(&self, pairs: &[(&str, &str)]) -> Reply {
+    pub fn scanned(&self, pairs: &[Pair]) -> Reply {
         Reply::Pairs(self.pairs(pairs))
     }
 }

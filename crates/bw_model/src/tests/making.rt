@@ -8,6 +8,9 @@ use std::process::Abort;
 /// Longer than a key or a value that takes no memory.
 pub const LONG: &str = "a text of more than 24 bytes";
 
+/// A key and its value.
+pub type Pair = (&'static str, &'static str);
+
 /// Makes them on one heap, and ends the test where there is no memory.
 #[derive(Drop)]
 pub struct Maker<'a, R: Abort> {
@@ -33,7 +36,7 @@ impl<'a, R: Abort> Maker<'a, R> {
         Value::new(self.alloc, text.as_bytes()).expect(self.rt, "a value")
     }
 
-    pub fn pairs(&self, texts: &[(&str, &str)]) -> Pairs {
+    pub fn pairs(&self, texts: &[Pair]) -> Pairs {
         let mut pairs = Vec::new(self.alloc);
         for (key, value) in texts {
             let pair = (self.key(key), self.value(value));
@@ -66,7 +69,7 @@ impl<'a, R: Abort> Maker<'a, R> {
         Op::SwapIf(self.key(key), self.value(old), self.value(new))
     }
 
-    pub fn scan(&self, from: &str, to: Option<&str>, most: u64) -> Op {
+    pub fn scan(&self, from: &str, to: Option<&'static str>, most: u64) -> Op {
         Op::Scan {
             from: self.key(from),
             to: to.map(|to| self.key(to)),
@@ -74,7 +77,7 @@ impl<'a, R: Abort> Maker<'a, R> {
         }
     }
 
-    pub fn rscan(&self, from: &str, to: Option<&str>, most: u64) -> Op {
+    pub fn rscan(&self, from: &str, to: Option<&'static str>, most: u64) -> Op {
         Op::Rscan {
             from: self.key(from),
             to: to.map(|to| self.key(to)),
@@ -94,7 +97,7 @@ impl<'a, R: Abort> Maker<'a, R> {
         Reply::Was(self.value(value))
     }
 
-    pub fn scanned(&self, pairs: &[(&str, &str)]) -> Reply {
+    pub fn scanned(&self, pairs: &[Pair]) -> Reply {
         Reply::Pairs(self.pairs(pairs))
     }
 }

@@ -1,10 +1,10 @@
 // The plain program: each operation over present and absent keys, and ranges.
-use super::making::{LONG, Maker};
-use crate::{Action, Op, ReferenceMap, Replies, Reply};
+use super::making::{LONG, Maker, Pair};
+use crate::{Action, Op, Pairs, ReferenceMap, Replies, Reply};
 use std::process::Abort;
 
 // A map of these pairs.
-fn map_of<R: Abort>(rt: &R, make: &Maker<R>, pairs: &[(&str, &str)]) -> ReferenceMap {
+fn map_of<R: Abort>(rt: &R, make: &Maker<R>, pairs: &[Pair]) -> ReferenceMap {
     let mut map = ReferenceMap::new(make.alloc);
     for (key, value) in pairs {
         map.apply(&make.upsert(key, value)).expect(rt, "memory");
@@ -16,7 +16,10 @@ fn map_of<R: Abort>(rt: &R, make: &Maker<R>, pairs: &[(&str, &str)]) -> Referenc
 fn compare<R: Abort>(
     rt: &R,
     make: &Maker<R>,
-    (before, ops, replies, after): (&[(&str, &str)], &[Op], &[Reply], &[(&str, &str)]),
+    before: &[Pair],
+    ops: &[Op],
+    replies: &[Reply],
+    after: &[Pair],
 ) {
     let mut map = map_of(rt, make, before);
     let answered = map.run(ops).expect(rt, "memory");
@@ -29,6 +32,14 @@ fn compare<R: Abort>(
         assert_eq!(rt; answer, *reply, "{op:?}");
     }
     assert_eq!(rt; map.entries().expect(rt, "memory"), make.pairs(after));
+}
+
+// Three pairs, or two where `b` has no value.
+fn with_b<R: Abort>(make: &Maker<R>, b: Option<&'static str>) -> Pairs {
+    match b {
+        Some(b) => make.pairs(&[("a", "1"), ("b", b), ("c", "3")]),
+        None => make.pairs(&[("a", "1"), ("c", "3")]),
+    }
 }
 
 #[test]
@@ -47,23 +58,39 @@ fn each_operation_over_a_key_that_is_there(rt: HostRuntime) {
     let make = Maker::new(&rt, rt.alloc());
     let before = &[("a", "1"), ("b", "2"), ("c", "3")];
     let rows = [
-        (make.get("b"), make.found("2"), Some("2")),
-        (make.insert("b", "9"), make.held("2"), Some("2")),
-        (make.upsert("b", "9"), make.was("2"), Some("9")),
-        (make.update("b", "9"), make.was("2"), Some("9")),
-        (make.delete("b"), make.was("2"), None),
-        (make.swap_if("b", "2", "9"), make.was("2"), Some("9")),
-        (make.swap_if("b", "1", "9"), make.held("2"), Some("2")),
+        (make.get("b"), make.found("2"), with_b(&make, Some("2"))),
+        (
+            make.insert("b", "9"),
+            make.held("2"),
+            with_b(&make, Some("2")),
+        ),
+        (
+            make.upsert("b", "9"),
+            make.was("2"),
+            with_b(&make, Some("9")),
+        ),
+        (
+            make.update("b", "9"),
+            make.was("2"),
+            with_b(&make, Some("9")),
+        ),
+        (make.delete("b"), make.was("2"), with_b(&make, None)),
+        (
+            make.swap_if("b", "2", "9"),
+            make.was("2"),
+            with_b(&make, Some("9")),
+        ),
+        (
+            make.swap_if("b", "1", "9"),
+            make.held("2"),
+            with_b(&make, Some("2")),
+        ),
     ];
-    for (op, reply, left) in &rows {
+    for (op, reply, after) in &rows {
         let mut map = map_of(&rt, &make, before);
         let answer = map.apply(op).expect(&rt, "memory");
         assert_eq!(rt; answer, *reply, "{op:?}");
-        let after = match left {
-            Some(left) => make.pairs(&[("a", "1"), ("b", left), ("c", "3")]),
-            None => make.pairs(&[("a", "1"), ("c", "3")]),
-        };
-        assert_eq!(rt; map.entries().expect(&rt, "memory"), after, "{op:?}");
+        assert_eq!(rt; map.entries().expect(&rt, "memory"), *after, "{op:?}");
     }
 }
 
@@ -72,22 +99,26 @@ fn each_operation_over_a_key_that_is_not_there(rt: HostRuntime) {
     let make = Maker::new(&rt, rt.alloc());
     let before = &[("a", "1"), ("c", "3")];
     let rows = [
-        (make.get("b"), Reply::Absent, None),
-        (make.insert("b", "9"), Reply::Inserted, Some("9")),
-        (make.upsert("b", "9"), Reply::New, Some("9")),
-        (make.update("b", "9"), Reply::Absent, None),
-        (make.delete("b"), Reply::Absent, None),
-        (make.swap_if("b", "1", "9"), Reply::Absent, None),
+        (make.get("b"), Reply::Absent, with_b(&make, None)),
+        (
+            make.insert("b", "9"),
+            Reply::Inserted,
+            with_b(&make, Some("9")),
+        ),
+        (make.upsert("b", "9"), Reply::New, with_b(&make, Some("9"))),
+        (make.update("b", "9"), Reply::Absent, with_b(&make, None)),
+        (make.delete("b"), Reply::Absent, with_b(&make, None)),
+        (
+            make.swap_if("b", "1", "9"),
+            Reply::Absent,
+            with_b(&make, None),
+        ),
     ];
-    for (op, reply, left) in &rows {
+    for (op, reply, after) in &rows {
         let mut map = map_of(&rt, &make, before);
         let answer = map.apply(op).expect(&rt, "memory");
         assert_eq!(rt; answer, *reply, "{op:?}");
-        let after = match left {
-            Some(left) => make.pairs(&[("a", "1"), ("b", left), ("c", "3")]),
-            None => make.pairs(before),
-        };
-        assert_eq!(rt; map.entries().expect(&rt, "memory"), after, "{op:?}");
+        assert_eq!(rt; map.entries().expect(&rt, "memory"), *after, "{op:?}");
     }
 }
 
@@ -107,7 +138,7 @@ fn a_range_has_its_lower_end_and_not_its_upper_one(rt: HostRuntime) {
     let make = Maker::new(&rt, rt.alloc());
     let map = map_of(&rt, &make, &[("", "0"), ("a", "1"), ("b", "2"), ("c", "3")]);
     let (none, a, b, c) = (("", "0"), ("a", "1"), ("b", "2"), ("c", "3"));
-    let rows: [(&str, Option<&str>, &[(&str, &str)]); 8] = [
+    let rows: [(&str, Option<&'static str>, &[Pair]); 8] = [
         ("", None, &[none, a, b, c]),
         ("a", None, &[a, b, c]),
         ("a", Some("c"), &[a, b]),
@@ -158,8 +189,8 @@ fn a_batch_runs_in_its_order(rt: HostRuntime) {
         make.was("1"),
         Reply::Absent,
     ];
-    compare(&rt, &make, (&[], &ops, &replies, &[("b", "2")]));
-    compare(&rt, &make, (&[("c", "3")], &[], &[], &[("c", "3")]));
+    compare(&rt, &make, &[], &ops, &replies, &[("b", "2")]);
+    compare(&rt, &make, &[("c", "3")], &[], &[], &[("c", "3")]);
 }
 
 #[test]
