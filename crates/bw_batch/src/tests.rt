@@ -6,3 +6,4 @@ mod options;
 mod randomly;
 mod refusals;
 mod refused;
+mod tracing;

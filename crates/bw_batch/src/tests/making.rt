@@ -10,6 +10,14 @@ pub const LONG: &str = "a text of more than 24 bytes";
 /// A key and its value.
 pub type Pair = (&'static str, &'static str);
 
+/// Compares replies.
+pub fn same<R: Abort>(rt: &R, left: &[Reply], right: &[Reply]) {
+    assert_eq!(rt; left.len(), right.len());
+    for (left, right) in left.iter().zip(right) {
+        assert_eq!(rt; *left, *right);
+    }
+}
+
 /// Makes them on one heap, and ends the test where there is no memory.
 #[derive(Drop)]
 pub struct Maker<'a, R: Abort> {
@@ -35,14 +43,6 @@ impl<'a, R: Abort> Maker<'a, R> {
     /// An empty index with this `batch_max`.
     pub fn index(&self, batch_max: u64) -> Index {
         Index::new(self.alloc, self.options(batch_max)).expect(self.rt, "an index")
-    }
-
-    pub fn list<T: Drop, const N: usize>(&self, items: [T; N]) -> Vec<T, Alloc> {
-        let mut list = Vec::new(self.alloc);
-        for item in items {
-            list.push(item).expect(self.rt, "an item");
-        }
-        list
     }
 
     pub fn pairs(&self, texts: &[Pair]) -> Pairs {

@@ -1,7 +1,7 @@
 // Some thousand operations drawn from a seed, compared with the plain program.
 ghost use Rattle.std.specs.Prelude.{◌<◌};
 
-use super::making::{LONG, Maker};
+use super::making::{LONG, Maker, same};
 use crate::{Op, OpenGate, Refusal};
 use bw_memory::Alloc;
 use bw_model::ReferenceMap;
@@ -80,8 +80,7 @@ fn batches_are_answered_as_by_the_plain_program(rt: HostRuntime) {
             Ok(done) => {
                 assert!(rt; ops.len() <= 16);
                 let expected = map.run(&ops).expect(&rt, "memory");
-                let replies = done.replies.as_slice();
-                assert_eq!(rt; replies, expected.as_slice(), "batch {number}: {ops:?}");
+                same(&rt, done.replies.as_slice(), expected.as_slice());
             }
             Err(refusal) => {
                 assert!(rt; ops.len() > 16);

@@ -1,12 +1,12 @@
 // Each growth of memory refused in turn.
-use super::making::{LONG, Maker};
+use super::making::{LONG, Maker, Pair, same};
 use crate::{Done, Index, Memory, Op, OpenGate, Refusal, Reply};
 use bw_memory::Alloc;
 use bw_model::ReferenceMap;
 use std::process::Abort;
 
 // The pairs that each piece of work starts from.
-const BEFORE: &[(&str, &str)] = &[("a", "1"), (LONG, LONG)];
+const BEFORE: &[Pair] = &[("a", "1"), (LONG, LONG)];
 
 // An index and the plain program, which both hold these pairs.
 fn filled<R: Abort>(rt: &R, make: &Maker<R>) -> (Index, ReferenceMap) {
@@ -27,21 +27,21 @@ fn was_refused(alloc: Alloc, growth: u64) -> bool {
     left == 0 || left > growth
 }
 
-fn first<R: Abort>(make: &Maker<R>) -> Vec<Op, Alloc> {
-    make.list([
-        make.upsert("c", LONG),
-        make.get(LONG),
-        make.delete("a"),
-        make.scan("", None, 9),
-    ])
+fn first<R: Abort>(rt: &R, make: &Maker<R>) -> Vec<Op, Alloc> {
+    let mut ops = Vec::new(make.alloc);
+    ops.push(make.upsert("c", LONG)).expect(rt, "memory");
+    ops.push(make.get(LONG)).expect(rt, "memory");
+    ops.push(make.delete("a")).expect(rt, "memory");
+    ops.push(make.scan("", None, 9)).expect(rt, "memory");
+    ops
 }
 
-fn second<R: Abort>(make: &Maker<R>) -> Vec<Op, Alloc> {
-    make.list([
-        make.swap_if(LONG, LONG, "2"),
-        make.insert("c", "3"),
-        make.rscan("", None, 9),
-    ])
+fn second<R: Abort>(rt: &R, make: &Maker<R>) -> Vec<Op, Alloc> {
+    let mut ops = Vec::new(make.alloc);
+    ops.push(make.swap_if(LONG, LONG, "2")).expect(rt, "memory");
+    ops.push(make.insert("c", "3")).expect(rt, "memory");
+    ops.push(make.rscan("", None, 9)).expect(rt, "memory");
+    ops
 }
 
 #[test]
@@ -89,7 +89,7 @@ fn a_batch_meets_each_refusal(rt: HostRuntime) {
         make.was("1"),
         make.scanned(&[(LONG, LONG), ("c", LONG)]),
     ];
-    let ops = first(&make);
+    let ops = first(&rt, &make);
     for growth in 1..1000 {
         let (mut index, _) = filled(&rt, &make);
         make.alloc.refuse(growth);
@@ -97,14 +97,14 @@ fn a_batch_meets_each_refusal(rt: HostRuntime) {
         let was_refused = was_refused(make.alloc, growth);
         if let Ok(done) = outcome {
             assert!(rt; !was_refused && growth > 5);
-            assert_eq!(rt; done.replies.as_slice(), replies.as_slice());
+            same(&rt, done.replies.as_slice(), &replies);
             return;
         }
-        assert_eq!(rt; outcome.map(|done| done.tidy), Err(Refusal::Memory));
+        assert_eq!(rt; outcome.err(), Some(Refusal::Memory));
         assert!(rt; was_refused);
         assert_eq!(rt; index.contents().expect(&rt, "memory"), make.pairs(BEFORE));
         let done = index.run(&ops, &OpenGate).expect(&rt, "ample memory");
-        assert_eq!(rt; done.replies.as_slice(), replies.as_slice());
+        same(&rt, done.replies.as_slice(), &replies);
     }
     panic!(rt; "no batch met no refusal");
 }
@@ -121,7 +121,7 @@ fn follow<R: Abort>(
         match outcome {
             Ok(done) => {
                 let replies = map.run(ops).expect(rt, "memory");
-                assert_eq!(rt; done.replies.as_slice(), replies.as_slice());
+                same(rt, done.replies.as_slice(), replies.as_slice());
             }
             Err(refusal) => assert_eq!(rt; *refusal, Refusal::Memory),
         }
@@ -132,7 +132,9 @@ fn follow<R: Abort>(
 #[test]
 fn batches_meet_each_refusal(rt: HostRuntime) {
     let make = Maker::new(&rt, rt.alloc());
-    let batches = make.list([first(&make), second(&make)]);
+    let mut batches = Vec::new(make.alloc);
+    batches.push(first(&rt, &make)).expect(&rt, "memory");
+    batches.push(second(&rt, &make)).expect(&rt, "memory");
     for growth in 1..1000 {
         let (mut index, mut map) = filled(&rt, &make);
         make.alloc.refuse(growth);

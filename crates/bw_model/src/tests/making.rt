@@ -11,6 +11,14 @@ pub const LONG: &str = "a text of more than 24 bytes";
 /// A key and its value.
 pub type Pair = (&'static str, &'static str);
 
+/// Compares replies.
+pub fn same<R: Abort>(rt: &R, left: &[Reply], right: &[Reply]) {
+    assert_eq!(rt; left.len(), right.len());
+    for (left, right) in left.iter().zip(right) {
+        assert_eq!(rt; *left, *right);
+    }
+}
+
 /// Makes them on one heap, and ends the test where there is no memory.
 #[derive(Drop)]
 pub struct Maker<'a, R: Abort> {

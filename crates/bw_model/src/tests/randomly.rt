@@ -1,7 +1,7 @@
 // Some thousand operations drawn from a seed, compared with a table of optional values.
 ghost use Rattle.std.specs.Prelude.{◌<◌};
 
-use super::making::{LONG, Maker};
+use super::making::{LONG, Maker, same};
 use crate::{Op, ReferenceMap, Reply};
 use std::process::Abort;
 
@@ -112,11 +112,7 @@ fn batches_are_answered_as_by_a_table(rt: HostRuntime) {
             replies.push(reply).expect(&rt, "memory");
         }
         let answered = map.run(&ops).expect(&rt, "memory");
-        assert_eq!(rt;
-            answered.as_slice(),
-            replies.as_slice(),
-            "batch {batch}: {ops:?}"
-        );
+        same(&rt, answered.as_slice(), &replies);
 
         let mut pairs = Vec::new(make.alloc);
         for (key, value) in KEYS.iter().zip(&table) {

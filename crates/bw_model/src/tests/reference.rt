@@ -1,5 +1,5 @@
 // The plain program: each operation over present and absent keys, and ranges.
-use super::making::{LONG, Maker, Pair};
+use super::making::{LONG, Maker, Pair, same};
 use crate::{Action, Op, Pairs, ReferenceMap, Replies, Reply};
 use std::process::Abort;
 
@@ -12,34 +12,20 @@ fn map_of<R: Abort>(rt: &R, make: &Maker<R>, pairs: &[Pair]) -> ReferenceMap {
     map
 }
 
-// Runs a batch over a map of some pairs, and compares its replies and the pairs afterwards.
+// Compares the reply to an operation, and the pairs afterwards.
 fn compare<R: Abort>(
     rt: &R,
     make: &Maker<R>,
     before: &[Pair],
-    ops: &[Op],
-    replies: &[Reply],
+    op: Op,
+    reply: Reply,
     after: &[Pair],
 ) {
     let mut map = map_of(rt, make, before);
-    let answered = map.run(ops).expect(rt, "memory");
-    assert_eq!(rt; answered.as_slice(), replies);
-    assert_eq!(rt; map.entries().expect(rt, "memory"), make.pairs(after));
-
-    let mut map = map_of(rt, make, before);
-    for (op, reply) in ops.iter().zip(replies) {
-        let answer = map.apply(op).expect(rt, "memory");
-        assert_eq!(rt; answer, *reply, "{op:?}");
-    }
-    assert_eq!(rt; map.entries().expect(rt, "memory"), make.pairs(after));
-}
-
-// Three pairs, or two where `b` has no value.
-fn with_b<R: Abort>(make: &Maker<R>, b: Option<&'static str>) -> Pairs {
-    match b {
-        Some(b) => make.pairs(&[("a", "1"), ("b", b), ("c", "3")]),
-        None => make.pairs(&[("a", "1"), ("c", "3")]),
-    }
+    let answer = map.apply(&op).expect(rt, "memory");
+    assert_eq!(rt; answer, reply, "{op:?}");
+    let entries = map.entries().expect(rt, "memory");
+    assert_eq!(rt; entries, make.pairs(after), "{op:?}");
 }
 
 #[test]
@@ -56,70 +42,39 @@ fn a_new_map_is_empty(rt: HostRuntime) {
 #[test]
 fn each_operation_over_a_key_that_is_there(rt: HostRuntime) {
     let make = Maker::new(&rt, rt.alloc());
-    let before = &[("a", "1"), ("b", "2"), ("c", "3")];
-    let rows = [
-        (make.get("b"), make.found("2"), with_b(&make, Some("2"))),
-        (
-            make.insert("b", "9"),
-            make.held("2"),
-            with_b(&make, Some("2")),
-        ),
-        (
-            make.upsert("b", "9"),
-            make.was("2"),
-            with_b(&make, Some("9")),
-        ),
-        (
-            make.update("b", "9"),
-            make.was("2"),
-            with_b(&make, Some("9")),
-        ),
-        (make.delete("b"), make.was("2"), with_b(&make, None)),
-        (
-            make.swap_if("b", "2", "9"),
-            make.was("2"),
-            with_b(&make, Some("9")),
-        ),
-        (
-            make.swap_if("b", "1", "9"),
-            make.held("2"),
-            with_b(&make, Some("2")),
-        ),
-    ];
-    for (op, reply, after) in &rows {
-        let mut map = map_of(&rt, &make, before);
-        let answer = map.apply(op).expect(&rt, "memory");
-        assert_eq!(rt; answer, *reply, "{op:?}");
-        assert_eq!(rt; map.entries().expect(&rt, "memory"), *after, "{op:?}");
-    }
+    let two = &[("a", "1"), ("b", "2"), ("c", "3")];
+    let nine = &[("a", "1"), ("b", "9"), ("c", "3")];
+    let none = &[("a", "1"), ("c", "3")];
+    compare(&rt, &make, two, make.get("b"), make.found("2"), two);
+    compare(&rt, &make, two, make.insert("b", "9"), make.held("2"), two);
+    compare(&rt, &make, two, make.upsert("b", "9"), make.was("2"), nine);
+    compare(&rt, &make, two, make.update("b", "9"), make.was("2"), nine);
+    compare(&rt, &make, two, make.delete("b"), make.was("2"), none);
+    let swap_if = make.swap_if("b", "2", "9");
+    compare(&rt, &make, two, swap_if, make.was("2"), nine);
+    let swap_if = make.swap_if("b", "1", "9");
+    compare(&rt, &make, two, swap_if, make.held("2"), two);
 }
 
 #[test]
 fn each_operation_over_a_key_that_is_not_there(rt: HostRuntime) {
     let make = Maker::new(&rt, rt.alloc());
-    let before = &[("a", "1"), ("c", "3")];
-    let rows = [
-        (make.get("b"), Reply::Absent, with_b(&make, None)),
-        (
-            make.insert("b", "9"),
-            Reply::Inserted,
-            with_b(&make, Some("9")),
-        ),
-        (make.upsert("b", "9"), Reply::New, with_b(&make, Some("9"))),
-        (make.update("b", "9"), Reply::Absent, with_b(&make, None)),
-        (make.delete("b"), Reply::Absent, with_b(&make, None)),
-        (
-            make.swap_if("b", "1", "9"),
-            Reply::Absent,
-            with_b(&make, None),
-        ),
-    ];
-    for (op, reply, after) in &rows {
-        let mut map = map_of(&rt, &make, before);
-        let answer = map.apply(op).expect(&rt, "memory");
-        assert_eq!(rt; answer, *reply, "{op:?}");
-        assert_eq!(rt; map.entries().expect(&rt, "memory"), *after, "{op:?}");
-    }
+    let nine = &[("a", "1"), ("b", "9"), ("c", "3")];
+    let none = &[("a", "1"), ("c", "3")];
+    compare(&rt, &make, none, make.get("b"), Reply::Absent, none);
+    compare(
+        &rt,
+        &make,
+        none,
+        make.insert("b", "9"),
+        Reply::Inserted,
+        nine,
+    );
+    compare(&rt, &make, none, make.upsert("b", "9"), Reply::New, nine);
+    compare(&rt, &make, none, make.update("b", "9"), Reply::Absent, none);
+    compare(&rt, &make, none, make.delete("b"), Reply::Absent, none);
+    let swap_if = make.swap_if("b", "1", "9");
+    compare(&rt, &make, none, swap_if, Reply::Absent, none);
 }
 
 #[test]
@@ -189,8 +144,14 @@ fn a_batch_runs_in_its_order(rt: HostRuntime) {
         make.was("1"),
         Reply::Absent,
     ];
-    compare(&rt, &make, &[], &ops, &replies, &[("b", "2")]);
-    compare(&rt, &make, &[("c", "3")], &[], &[], &[("c", "3")]);
+    let mut map = ReferenceMap::new(make.alloc);
+    let answered = map.run(&ops).expect(&rt, "memory");
+    same(&rt, answered.as_slice(), &replies);
+    let entries = map.entries().expect(&rt, "memory");
+    assert_eq!(rt; entries, make.pairs(&[("b", "2")]));
+    assert_eq!(rt; map.run(&[]).expect(&rt, "memory").as_slice().len(), 0);
+    let entries = map.entries().expect(&rt, "memory");
+    assert_eq!(rt; entries, make.pairs(&[("b", "2")]));
 }
 
 #[test]
@@ -208,23 +169,21 @@ fn a_copy_is_a_map_of_its_own(rt: HostRuntime) {
 fn lists_give_back_what_they_were_made_of(rt: HostRuntime) {
     let make = Maker::new(&rt, rt.alloc());
     let pairs = make.pairs(&[("a", "1"), ("b", "2")]);
-    assert_eq!(rt;
-        pairs.as_slice(),
-        [
-            (make.key("a"), make.value("1")),
-            (make.key("b"), make.value("2")),
-        ]
-        .as_slice()
-    );
+    assert_eq!(rt; pairs, make.pairs(&[("a", "1"), ("b", "2")]));
     assert_ne!(rt; pairs, make.pairs(&[("a", "1"), ("b", "3")]));
     assert_ne!(rt; pairs, make.pairs(&[("a", "1"), ("c", "2")]));
     assert_ne!(rt; pairs, make.pairs(&[("a", "1")]));
-    let vector = pairs.into_vec();
-    assert_eq!(rt; vector.len(), 2);
+    assert_eq!(rt; pairs.as_slice().len(), 2);
+    assert_eq!(rt; pairs.as_slice()[1].0, make.key("b"));
+    assert_eq!(rt; pairs.as_slice()[1].1, make.value("2"));
+    let pairs = Pairs::from_vec(pairs.into_vec());
+    assert_eq!(rt; pairs, make.pairs(&[("a", "1"), ("b", "2")]));
 
-    let replies = vec![in make.alloc; Reply::New, make.was("1")].expect(&rt, "memory");
+    let expected = [Reply::New, make.was("1")];
+    let mut replies = Vec::new(make.alloc);
+    replies.push(Reply::New).expect(&rt, "memory");
+    replies.push(make.was("1")).expect(&rt, "memory");
     let replies = Replies::from_vec(replies);
-    assert_eq!(rt; replies.as_slice(), [Reply::New, make.was("1")].as_slice());
-    let vector = replies.into_vec();
-    assert_eq!(rt; vector.as_slice(), [Reply::New, make.was("1")].as_slice());
+    same(&rt, replies.as_slice(), &expected);
+    same(&rt, &replies.into_vec(), &expected);
 }
