@@ -1,8 +1,9 @@
 // Some thousand operations drawn from a seed, compared with a table of optional values.
 ghost use Rattle.std.specs.Prelude.{◌<◌};
 
-use super::making::{LONG, Maker, same};
+use super::making::{LONG, Maker, Pair, same};
 use crate::{Op, ReferenceMap, Reply};
+use bw_memory::Alloc;
 use std::process::Abort;
 
 // The keys, in their order.
@@ -61,15 +62,26 @@ fn write<R: Abort>(make: &Maker<R>, table: &mut Table, random: &mut Random) -> (
     (op, reply)
 }
 
-// A range that is drawn, read upwards or downwards.
-fn range<R: Abort>(rt: &R, make: &Maker<R>, table: &Table, random: &mut Random) -> (Op, Reply) {
-    let (first, end, most) = (random.below(6), random.below(7), random.below(5));
+// The pairs of the table at the keys from the first place on and below the last.
+fn pairs_between<R: Abort>(
+    rt: &R,
+    make: &Maker<R>,
+    table: &Table,
+    (first, end): (usize, usize),
+) -> Vec<Pair, Alloc> {
     let mut pairs = Vec::new(make.alloc);
     for at in first..end.min(6) {
         if let Some(value) = table[at] {
             pairs.push((KEYS[at], value)).expect(rt, "a pair");
         }
     }
+    pairs
+}
+
+// A range that is drawn, read upwards or downwards.
+fn range<R: Abort>(rt: &R, make: &Maker<R>, table: &Table, random: &mut Random) -> (Op, Reply) {
+    let (first, end, most) = (random.below(6), random.below(7), random.below(5));
+    let mut pairs = pairs_between(rt, make, table, (first, end));
     let (from, to) = (KEYS[first], KEYS.get(end).copied());
     if random.below(2) == 0 {
         pairs.truncate(most);
@@ -114,12 +126,7 @@ fn batches_are_answered_as_by_a_table(rt: HostRuntime) {
         let answered = map.run(&ops).expect(&rt, "memory");
         same(&rt, answered.as_slice(), &replies);
 
-        let mut pairs = Vec::new(make.alloc);
-        for (key, value) in KEYS.iter().zip(&table) {
-            if let Some(value) = value {
-                pairs.push((*key, *value)).expect(&rt, "memory");
-            }
-        }
+        let pairs = pairs_between(&rt, &make, &table, (0, 6));
         let entries = map.entries().expect(&rt, "memory");
         assert_eq!(rt; entries, make.pairs(&pairs), "batch {batch}: {ops:?}");
     }
