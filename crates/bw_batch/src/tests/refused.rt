@@ -1,6 +1,6 @@
 // Each growth of memory refused in turn.
 use super::making::{LONG, Maker, Pair, same};
-use crate::{Done, Index, Memory, Op, OpenGate, Refusal, Reply};
+use crate::{Done, Index, Memory, Op, OpenGate, Pairs, Refusal, Reply};
 use bw_memory::Alloc;
 use bw_model::ReferenceMap;
 use std::process::Abort;
@@ -8,16 +8,14 @@ use std::process::Abort;
 // The pairs that each piece of work starts from.
 const BEFORE: &[Pair] = &[("a", "1"), (LONG, LONG)];
 
-// An index and the plain program, which both hold these pairs.
-fn filled<R: Abort>(rt: &R, make: &Maker<R>) -> (Index, ReferenceMap) {
+// An index that holds these pairs.
+fn filled<R: Abort>(rt: &R, make: &Maker<R>) -> Index {
     let mut index = make.index(65536);
-    let mut map = ReferenceMap::new(make.alloc);
     for (key, value) in BEFORE {
         let ops = [make.upsert(key, value)];
         index.run(&ops, &OpenGate).expect(rt, "memory");
-        map.run(&ops).expect(rt, "memory");
     }
-    (index, map)
+    index
 }
 
 // Whether the growth of this number was refused since the heap was told to. It refuses none from now on.
@@ -66,7 +64,7 @@ fn a_new_index_meets_each_refusal(rt: HostRuntime) {
 #[test]
 fn contents_meet_each_refusal(rt: HostRuntime) {
     let make = Maker::new(&rt, rt.alloc());
-    let (index, _) = filled(&rt, &make);
+    let index = filled(&rt, &make);
     for growth in 1..1000 {
         make.alloc.refuse(growth);
         let outcome = index.contents();
@@ -91,7 +89,7 @@ fn a_batch_meets_each_refusal(rt: HostRuntime) {
     ];
     let ops = first(&rt, &make);
     for growth in 1..1000 {
-        let (mut index, _) = filled(&rt, &make);
+        let mut index = filled(&rt, &make);
         make.alloc.refuse(growth);
         let outcome = index.run(&ops, &OpenGate);
         let was_refused = was_refused(make.alloc, growth);
@@ -109,13 +107,20 @@ fn a_batch_meets_each_refusal(rt: HostRuntime) {
     panic!(rt; "no batch met no refusal");
 }
 
-// Runs the accepted batches on the plain program, and compares the replies. Answers how many were refused.
+// Compares the replies and the pairs in the end with those of the plain program, which runs the accepted batches.
+// Answers how many were refused.
 fn follow<R: Abort>(
     rt: &R,
-    map: &mut ReferenceMap,
+    make: &Maker<R>,
     batches: &[Vec<Op, Alloc>],
     outcomes: &[Result<Done, Refusal>],
-) -> usize {
+    after: &Pairs,
+) -> u64 {
+    let mut map = ReferenceMap::new(make.alloc);
+    for (key, value) in BEFORE {
+        map.apply(&make.upsert(key, value)).expect(rt, "memory");
+    }
+    let mut refused = 0u64;
     assert_eq!(rt; outcomes.len(), batches.len());
     for (ops, outcome) in batches.iter().zip(outcomes) {
         match outcome {
@@ -123,10 +128,14 @@ fn follow<R: Abort>(
                 let replies = map.run(ops).expect(rt, "memory");
                 same(rt, done.replies.as_slice(), replies.as_slice());
             }
-            Err(refusal) => assert_eq!(rt; *refusal, Refusal::Memory),
+            Err(refusal) => {
+                assert_eq!(rt; *refusal, Refusal::Memory);
+                refused = refused.saturating_add(1);
+            }
         }
     }
-    outcomes.iter().filter(|outcome| outcome.is_err()).count()
+    assert_eq!(rt; map.entries().expect(rt, "memory"), *after);
+    refused
 }
 
 #[test]
@@ -136,20 +145,20 @@ fn batches_meet_each_refusal(rt: HostRuntime) {
     batches.push(first(&rt, &make)).expect(&rt, "memory");
     batches.push(second(&rt, &make)).expect(&rt, "memory");
     for growth in 1..1000 {
-        let (mut index, mut map) = filled(&rt, &make);
+        let mut index = filled(&rt, &make);
         make.alloc.refuse(growth);
         let outcomes = index.run_all(&batches, &OpenGate);
         let was_refused = was_refused(make.alloc, growth);
+        let after = index.contents().expect(&rt, "memory");
         let refused = match outcomes {
-            Ok(outcomes) => follow(&rt, &mut map, &batches, &outcomes),
-            Err(Memory) => 1,
+            Ok(outcomes) => follow(&rt, &make, &batches, &outcomes, &after),
+            // No batch ran.
+            Err(Memory) => {
+                assert_eq!(rt; after, make.pairs(BEFORE));
+                1
+            }
         };
-        assert_eq!(rt; refused, was_refused as usize, "growth {growth}");
-
-        // Where the list of outcomes was refused, no batch ran.
-        let contents = index.contents().expect(&rt, "memory");
-        let expected = map.entries().expect(&rt, "memory");
-        assert_eq!(rt; contents, expected, "growth {growth}");
+        assert_eq!(rt; refused, was_refused as u64, "growth {growth}");
         if !was_refused {
             assert!(rt; growth > 10);
             return;
