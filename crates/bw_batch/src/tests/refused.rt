@@ -25,7 +25,7 @@ fn was_refused(alloc: Alloc, growth: u64) -> bool {
     left == 0 || left > growth
 }
 
-fn first<R: Abort>(rt: &R, make: &Maker<R>) -> Vec<Op, Alloc> {
+fn batch<R: Abort>(rt: &R, make: &Maker<R>) -> Vec<Op, Alloc> {
     let mut ops = Vec::new(make.alloc);
     ops.push(make.upsert("c", LONG)).expect(rt, "memory");
     ops.push(make.get(LONG)).expect(rt, "memory");
@@ -34,12 +34,18 @@ fn first<R: Abort>(rt: &R, make: &Maker<R>) -> Vec<Op, Alloc> {
     ops
 }
 
-fn second<R: Abort>(rt: &R, make: &Maker<R>) -> Vec<Op, Alloc> {
-    let mut ops = Vec::new(make.alloc);
-    ops.push(make.swap_if(LONG, LONG, "2")).expect(rt, "memory");
-    ops.push(make.insert("c", "3")).expect(rt, "memory");
-    ops.push(make.rscan("", None, 9)).expect(rt, "memory");
-    ops
+fn batches<R: Abort>(rt: &R, make: &Maker<R>) -> Vec<Vec<Op, Alloc>, Alloc> {
+    let mut batches = Vec::new(make.alloc);
+    for value in ["2", "3"] {
+        let mut ops = Vec::new(make.alloc);
+        ops.push(make.upsert("c", LONG)).expect(rt, "memory");
+        ops.push(make.swap_if(LONG, LONG, value))
+            .expect(rt, "memory");
+        ops.push(make.delete("a")).expect(rt, "memory");
+        ops.push(make.rscan("", None, 9)).expect(rt, "memory");
+        batches.push(ops).expect(rt, "memory");
+    }
+    batches
 }
 
 #[test]
@@ -87,7 +93,7 @@ fn a_batch_meets_each_refusal(rt: HostRuntime) {
         make.was("1"),
         make.scanned(&[(LONG, LONG), ("c", LONG)]),
     ];
-    let ops = first(&rt, &make);
+    let ops = batch(&rt, &make);
     for growth in 1..1000 {
         let mut index = filled(&rt, &make);
         make.alloc.refuse(growth);
@@ -141,9 +147,7 @@ fn follow<R: Abort>(
 #[test]
 fn batches_meet_each_refusal(rt: HostRuntime) {
     let make = Maker::new(&rt, rt.alloc());
-    let mut batches = Vec::new(make.alloc);
-    batches.push(first(&rt, &make)).expect(&rt, "memory");
-    batches.push(second(&rt, &make)).expect(&rt, "memory");
+    let batches = batches(&rt, &make);
     for growth in 1..1000 {
         let mut index = filled(&rt, &make);
         make.alloc.refuse(growth);
