@@ -8,6 +8,8 @@ mod operations;
 mod outcomes;
 mod reference;
 mod sorted;
+#[cfg(test)]
+mod tests;
 mod values;
 
 pub use lists::{Pairs, Replies};

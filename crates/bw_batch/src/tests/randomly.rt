@@ -1,0 +1,95 @@
+// Some thousand operations drawn from a seed, compared with the plain program.
+ghost use Rattle.std.specs.Prelude.{◌<◌};
+
+use super::making::{LONG, Maker, same};
+use crate::{Op, OpenGate, Refusal};
+use bw_memory::Alloc;
+use bw_model::ReferenceMap;
+use std::process::Abort;
+
+const KEYS: [&str; 6] = ["", "a", "a\0", LONG, "ab", "b"];
+
+const VALUES: [&str; 4] = ["", "0", "18446744073709551615", LONG];
+
+// Pseudo-random numbers by a linear congruence, whose high bits are taken.
+#[derive(Drop)]
+struct Random {
+    state: u64,
+}
+
+impl Random {
+    fn below(&mut self, limit: usize) -> usize
+        requires { 0 < limit }
+        ensures { result < limit }
+    {
+        let state = self.state.wrapping_mul(6364136223846793005);
+        self.state = state.wrapping_add(1442695040888963407);
+        (self.state >> 33) as usize % limit
+    }
+
+    fn key(&mut self) -> &'static str {
+        KEYS[self.below(6)]
+    }
+
+    fn end(&mut self) -> Option<&'static str> {
+        KEYS.get(self.below(7)).copied()
+    }
+
+    fn value(&mut self) -> &'static str {
+        VALUES[self.below(4)]
+    }
+
+    fn most(&mut self) -> u64 {
+        self.below(5) as u64
+    }
+}
+
+// An operation that is drawn.
+fn draw<R: Abort>(make: &Maker<R>, random: &mut Random) -> Op {
+    let key = random.key();
+    match random.below(8) {
+        0 => make.get(key),
+        1 => make.insert(key, random.value()),
+        2 => make.upsert(key, random.value()),
+        3 => make.update(key, random.value()),
+        4 => make.delete(key),
+        5 => make.swap_if(key, random.value(), random.value()),
+        6 => make.scan(key, random.end(), random.most()),
+        _ => make.rscan(key, random.end(), random.most()),
+    }
+}
+
+// A batch of up to 20 operations.
+fn batch<R: Abort>(rt: &R, make: &Maker<R>, random: &mut Random) -> Vec<Op, Alloc> {
+    let mut ops = Vec::new(make.alloc);
+    for _ in 0..random.below(21) {
+        ops.push(draw(make, random)).expect(rt, "memory");
+    }
+    ops
+}
+
+#[test]
+fn batches_are_answered_as_by_the_plain_program(rt: HostRuntime) {
+    let make = Maker::new(&rt, rt.alloc());
+    let mut random = Random { state: 20180610 };
+    let mut index = make.index(16);
+    let mut map = ReferenceMap::new(make.alloc);
+    for number in 0..400u64 {
+        let ops = batch(&rt, &make, &mut random);
+        match index.run(&ops, &OpenGate) {
+            Ok(done) => {
+                assert!(rt; ops.len() <= 16);
+                let expected = map.run(&ops).expect(&rt, "memory");
+                same(&rt, done.replies.as_slice(), expected.as_slice());
+            }
+            Err(refusal) => {
+                assert!(rt; ops.len() > 16);
+                let ops = ops.len() as u64;
+                assert_eq!(rt; refusal, Refusal::TooLong { ops, most: 16 });
+            }
+        }
+        let contents = index.contents().expect(&rt, "memory");
+        let expected = map.entries().expect(&rt, "memory");
+        assert_eq!(rt; contents, expected, "batch {number}: {ops:?}");
+    }
+}

@@ -1,0 +1,172 @@
+// Each growth of memory refused in turn.
+use super::making::{LONG, Maker, Pair, same};
+use crate::{Done, Index, Memory, Op, OpenGate, Pairs, Refusal, Reply};
+use bw_memory::Alloc;
+use bw_model::ReferenceMap;
+use std::process::Abort;
+
+// The pairs that each piece of work starts from.
+const BEFORE: &[Pair] = &[("a", "1"), (LONG, LONG)];
+
+// An index that holds these pairs.
+fn filled<R: Abort>(rt: &R, make: &Maker<R>) -> Index {
+    let mut index = make.index(65536);
+    for (key, value) in BEFORE {
+        let ops = [make.upsert(key, value)];
+        index.run(&ops, &OpenGate).expect(rt, "memory");
+    }
+    index
+}
+
+// Whether the growth of this number was refused since the heap was told to. It refuses none from now on.
+fn was_refused(alloc: Alloc, growth: u64) -> bool {
+    let left = alloc.left();
+    alloc.refuse(0);
+    left == 0 || left > growth
+}
+
+fn batch<R: Abort>(rt: &R, make: &Maker<R>) -> Vec<Op, Alloc> {
+    let mut ops = Vec::new(make.alloc);
+    ops.push(make.upsert("c", LONG)).expect(rt, "memory");
+    ops.push(make.get(LONG)).expect(rt, "memory");
+    ops.push(make.delete("a")).expect(rt, "memory");
+    ops.push(make.scan("", None, 9)).expect(rt, "memory");
+    ops
+}
+
+fn batches<R: Abort>(rt: &R, make: &Maker<R>) -> Vec<Vec<Op, Alloc>, Alloc> {
+    let mut batches = Vec::new(make.alloc);
+    for value in ["2", "3"] {
+        let mut ops = Vec::new(make.alloc);
+        ops.push(make.upsert("c", LONG)).expect(rt, "memory");
+        ops.push(make.swap_if(LONG, LONG, value))
+            .expect(rt, "memory");
+        ops.push(make.delete("a")).expect(rt, "memory");
+        ops.push(make.rscan("", None, 9)).expect(rt, "memory");
+        batches.push(ops).expect(rt, "memory");
+    }
+    batches
+}
+
+#[test]
+fn a_new_index_meets_each_refusal(rt: HostRuntime) {
+    let make = Maker::new(&rt, rt.alloc());
+    for growth in 1..1000 {
+        make.alloc.refuse(growth);
+        let outcome = Index::new(make.alloc, make.options(3));
+        let was_refused = was_refused(make.alloc, growth);
+        match outcome {
+            Ok(index) => {
+                assert!(rt; !was_refused);
+                assert_eq!(rt; index.contents().expect(&rt, "memory"), make.pairs(&[]));
+                return;
+            }
+            Err(_) => assert!(rt; was_refused),
+        }
+    }
+    panic!(rt; "no call met no refusal");
+}
+
+#[test]
+fn contents_meet_each_refusal(rt: HostRuntime) {
+    let make = Maker::new(&rt, rt.alloc());
+    let index = filled(&rt, &make);
+    for growth in 1..1000 {
+        make.alloc.refuse(growth);
+        let outcome = index.contents();
+        if !was_refused(make.alloc, growth) {
+            assert_eq!(rt; outcome.expect(&rt, "memory"), make.pairs(BEFORE));
+            assert!(rt; growth > 2);
+            return;
+        }
+        assert_eq!(rt; outcome, Err(Memory), "growth {growth}");
+    }
+    panic!(rt; "no call met no refusal");
+}
+
+#[test]
+fn a_batch_meets_each_refusal(rt: HostRuntime) {
+    let make = Maker::new(&rt, rt.alloc());
+    let replies = [
+        Reply::New,
+        make.found(LONG),
+        make.was("1"),
+        make.scanned(&[(LONG, LONG), ("c", LONG)]),
+    ];
+    let ops = batch(&rt, &make);
+    for growth in 1..1000 {
+        let mut index = filled(&rt, &make);
+        make.alloc.refuse(growth);
+        let outcome = index.run(&ops, &OpenGate);
+        let was_refused = was_refused(make.alloc, growth);
+        if let Ok(done) = outcome {
+            assert!(rt; !was_refused && growth > 5);
+            same(&rt, done.replies.as_slice(), &replies);
+            return;
+        }
+        assert_eq!(rt; outcome.err(), Some(Refusal::Memory));
+        assert!(rt; was_refused);
+        assert_eq!(rt; index.contents().expect(&rt, "memory"), make.pairs(BEFORE));
+        let done = index.run(&ops, &OpenGate).expect(&rt, "ample memory");
+        same(&rt, done.replies.as_slice(), &replies);
+    }
+    panic!(rt; "no batch met no refusal");
+}
+
+// Compares the replies and the pairs in the end with those of the plain program, which runs the accepted batches.
+// Answers how many were refused.
+fn follow<R: Abort>(
+    rt: &R,
+    make: &Maker<R>,
+    batches: &[Vec<Op, Alloc>],
+    outcomes: &[Result<Done, Refusal>],
+    after: &Pairs,
+) -> u64 {
+    let mut map = ReferenceMap::new(make.alloc);
+    for (key, value) in BEFORE {
+        map.apply(&make.upsert(key, value)).expect(rt, "memory");
+    }
+    let mut refused = 0u64;
+    assert_eq!(rt; outcomes.len(), batches.len());
+    for (ops, outcome) in batches.iter().zip(outcomes) {
+        match outcome {
+            Ok(done) => {
+                let replies = map.run(ops).expect(rt, "memory");
+                same(rt, done.replies.as_slice(), replies.as_slice());
+            }
+            Err(refusal) => {
+                assert_eq!(rt; *refusal, Refusal::Memory);
+                refused = refused.saturating_add(1);
+            }
+        }
+    }
+    assert_eq!(rt; map.entries().expect(rt, "memory"), *after);
+    refused
+}
+
+#[test]
+fn batches_meet_each_refusal(rt: HostRuntime) {
+    let make = Maker::new(&rt, rt.alloc());
+    let batches = batches(&rt, &make);
+    for growth in 1..1000 {
+        let mut index = filled(&rt, &make);
+        make.alloc.refuse(growth);
+        let outcomes = index.run_all(&batches, &OpenGate);
+        let was_refused = was_refused(make.alloc, growth);
+        let after = index.contents().expect(&rt, "memory");
+        let refused = match outcomes {
+            Ok(outcomes) => follow(&rt, &make, &batches, &outcomes, &after),
+            // No batch ran.
+            Err(Memory) => {
+                assert_eq!(rt; after, make.pairs(BEFORE));
+                1
+            }
+        };
+        assert_eq!(rt; refused, was_refused as u64, "growth {growth}");
+        if !was_refused {
+            assert!(rt; growth > 10);
+            return;
+        }
+    }
+    panic!(rt; "no batches met no refusal");
+}

@@ -1,0 +1,73 @@
+// Batches with the replies that are expected to them.
+use super::making::{Maker, Pair, same};
+use crate::{Done, Op, OpenGate, Refusal, Reply, Tidy};
+use bw_memory::Alloc;
+use std::process::Abort;
+
+/// Operations and their replies, batch by batch.
+#[derive(Drop)]
+pub struct Trace {
+    alloc: Alloc,
+    ops: Vec<Op, Alloc>,
+    replies: Vec<Reply, Alloc>,
+    batches: Vec<Vec<Op, Alloc>, Alloc>,
+    expected: Vec<Vec<Reply, Alloc>, Alloc>,
+}
+
+impl Trace {
+    pub fn new(alloc: Alloc) -> Trace {
+        Trace {
+            alloc,
+            ops: Vec::new(alloc),
+            replies: Vec::new(alloc),
+            batches: Vec::new(alloc),
+            expected: Vec::new(alloc),
+        }
+    }
+
+    /// One more operation.
+    pub fn op(&mut self, rt: &impl Abort, op: Op, reply: Reply) {
+        self.ops.push(op).expect(rt, "memory");
+        self.replies.push(reply).expect(rt, "memory");
+    }
+
+    /// Ends a batch.
+    pub fn go(&mut self, rt: &impl Abort) {
+        let ops = std::mem::replace(&mut self.ops, Vec::new(self.alloc));
+        self.batches.push(ops).expect(rt, "memory");
+        let replies = std::mem::replace(&mut self.replies, Vec::new(self.alloc));
+        self.expected.push(replies).expect(rt, "memory");
+    }
+}
+
+/// Compares what an accepted batch answered.
+pub fn compare_done<R: Abort>(rt: &R, outcome: &Result<Done, Refusal>, expected: &[Reply]) {
+    match outcome {
+        Ok(done) => {
+            same(rt, done.replies.as_slice(), expected);
+            assert_eq!(rt; done.tidy, Tidy::default());
+        }
+        Err(refusal) => panic!(rt; "{refusal}"),
+    }
+}
+
+/// Runs the batches one by one on an empty index, and all at once on another. Compares the replies, and the pairs
+/// in the end.
+pub fn compare<R: Abort>(rt: &R, make: &Maker<R>, trace: &Trace, after: &[Pair]) {
+    let mut index = make.index(65536);
+    for (ops, expected) in trace.batches.iter().zip(&trace.expected) {
+        let outcome = index.run(ops, &OpenGate);
+        compare_done(rt, &outcome, expected);
+    }
+    assert_eq!(rt; index.contents().expect(rt, "memory"), make.pairs(after));
+
+    let mut index = make.index(65536);
+    let outcomes = index
+        .run_all(&trace.batches, &OpenGate)
+        .expect(rt, "memory");
+    assert_eq!(rt; outcomes.len(), trace.batches.len());
+    for (outcome, expected) in outcomes.iter().zip(&trace.expected) {
+        compare_done(rt, outcome, expected);
+    }
+    assert_eq!(rt; index.contents().expect(rt, "memory"), make.pairs(after));
+}

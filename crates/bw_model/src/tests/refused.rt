@@ -1,0 +1,83 @@
+// Each growth of memory refused in turn.
+use super::making::{LONG, Maker, Pair};
+use crate::{Action, Op, ReferenceMap};
+use bw_key::Key;
+use bw_memory::Alloc;
+use std::process::Abort;
+
+// The pairs that a piece of work starts from.
+const BEFORE: &[Pair] = &[("a", "1"), (LONG, LONG)];
+
+// What a map is asked for.
+#[derive(Debug, Drop)]
+enum Work {
+    Copy,
+    Entries,
+    Write(Key, Action),
+    Apply(Op),
+    Run(Vec<Op, Alloc>),
+}
+
+// Whether there was no memory for the work.
+fn lacks_memory(map: &mut ReferenceMap, work: &Work) -> bool {
+    match work {
+        Work::Copy => map.copy().is_err(),
+        Work::Entries => map.entries().is_err(),
+        Work::Write(key, action) => map.write(key, action).is_err(),
+        Work::Apply(op) => map.apply(op).is_err(),
+        Work::Run(ops) => map.run(ops).is_err(),
+    }
+}
+
+// Does the work with growth 1 refused, then with growth 2, until it meets no refusal, each time over a fresh map.
+// Answers how many were refused. After each refusal the map is as before.
+fn refusals<R: Abort>(rt: &R, make: &Maker<R>, work: &Work) -> u64 {
+    for growth in 1..1000 {
+        let mut map = ReferenceMap::new(make.alloc);
+        for (key, value) in BEFORE {
+            map.apply(&make.upsert(key, value)).expect(rt, "memory");
+        }
+        make.alloc.refuse(growth);
+        let lacked = lacks_memory(&mut map, work);
+        let was_refused = make.alloc.left() == 0 || make.alloc.left() > growth;
+        make.alloc.refuse(0);
+
+        assert_eq!(rt; lacked, was_refused, "growth {growth}");
+        if !was_refused {
+            return growth - 1;
+        }
+        let pairs = map.entries().expect(rt, "memory");
+        assert_eq!(rt; pairs, make.pairs(BEFORE), "growth {growth}");
+    }
+    panic!(rt; "no run met no refusal")
+}
+
+#[test]
+fn each_piece_of_work_meets_each_refusal(rt: HostRuntime) {
+    let make = Maker::new(&rt, rt.alloc());
+    let batch = vec![in make.alloc;
+        make.upsert("c", LONG),
+        make.delete("a"),
+        make.scan("", None, 9),
+        make.swap_if(LONG, LONG, "2"),
+    ];
+    let works = [
+        Work::Copy,
+        Work::Entries,
+        Work::Write(make.key(LONG), Action::Upsert(make.value(LONG))),
+        Work::Apply(make.get(LONG)),
+        Work::Apply(make.insert(LONG, "2")),
+        Work::Apply(make.upsert(LONG, "2")),
+        Work::Apply(make.update(LONG, "2")),
+        Work::Apply(make.delete(LONG)),
+        Work::Apply(make.swap_if(LONG, LONG, "2")),
+        Work::Apply(make.scan("", None, 9)),
+        Work::Apply(make.rscan("", None, 9)),
+        Work::Run(batch.expect(&rt, "memory")),
+        Work::Run(Vec::new(make.alloc)),
+    ];
+    for work in &works {
+        assert!(rt; refusals(&rt, &make, work) > 0, "{work:?}");
+    }
+    assert_eq!(rt; refusals(&rt, &make, &Work::Apply(make.get("a"))), 0);
+}
