@@ -1,8 +1,7 @@
 -- Steps of reading, one after another.
-use Rattle.std.proofs.Common.{◌≡◌, ℕ, ◌+◌, ◌-◌, ◌≤◌, ◌^◌, List, [], ◌++◌, Option, subst, append-nil, arith}
+use Rattle.std.proofs.Common.{ℕ, List, [], Option, subst, append-nil, arith}
 use Rattle.std.proofs.KnownBytes.{Consumes-trans}
 use Rattle.std.specs.Io.KnownBytes.{Consumes}
-use Rattle.bw_trace.specs.Counts.{HasRisenBy}
 use Rattle.bw_trace.specs.Sources.{SourceView, ReadsOn}
 
 pub reads_on_none : (s : SourceView) → ReadsOn s s

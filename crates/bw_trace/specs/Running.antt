@@ -1,5 +1,5 @@
 -- A trace that is run: its batches one after another, and what became of them.
-use Rattle.std.specs.Prelude.{◌≡◌, ℕ, Bool, true, false, List, length, count_by, Option, Some, None, Result, Ok, Err}
+use Rattle.std.specs.Prelude.{◌≡◌, ℕ, Bool, true, false, List, length, count_by, Option, Some, None, Ok, Err}
 use Rattle.std.specs.FinMap.{empty}
 use Rattle.bw_model.specs.Runs.{Outcome, AnswersInTurn}
 use Rattle.bw_model.specs.declared.operations.Op.{Op}

@@ -1,5 +1,5 @@
 -- What contracts see of a source, and what reading from it keeps.
-use Rattle.std.specs.Prelude.{◌≡◌, ℕ, ◌+◌, ◌-◌, ◌*◌, ◌≤◌, Bool, true, List, Option, take, drop}
+use Rattle.std.specs.Prelude.{◌≡◌, ℕ, ◌-◌, ◌≤◌, Bool, true, List, Option, take, drop}
 use Rattle.std.specs.Io.KnownBytes.{IsAtEnd, prepend_known}
 use Rattle.bw_trace.specs.Counts.{HasRisenBy}
 use Rattle.bw_trace.specs.declared.faults.TraceFault.{TraceFault}

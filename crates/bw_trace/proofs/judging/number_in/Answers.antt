@@ -1,7 +1,7 @@
-use Rattle.std.proofs.Common.{◌≡◌, ◌∙◌, ◌<◌, ◌^◌, sym, subst, ap, arith}
+use Rattle.std.proofs.Common.{◌∙◌, sym, arith}
 use Rattle.std.proofs.lemmas.List.{at_drop_all}
 use Rattle.bw_trace.specs.Grammar.{number_behind}
-use Rattle.bw_trace.proofs.Numbers.{digit_more, digit_le}
+use Rattle.bw_trace.proofs.Numbers.{digit_le}
 use Rattle.bw_trace.proofs.judging.number_in.Goals as goal
 
 pub returns-in_err-checked_mul : goal.returns-in_err-checked_mul

@@ -1,10 +1,7 @@
 use Rattle.std.proofs.Common.{◌≡◌, Ok, Err, ap, refl}
 use Rattle.std.proofs.lemmas.Result.{err_from_is_err_and}
-use Rattle.std.specs.Io.KnownBytes.{Appends}
 use Rattle.bw_batch.proofs.RunsLemmas.{answered, left_done}
 use Rattle.bw_batch.specs.View.{contents_of, settings_of}
-use Rattle.bw_model.specs.declared.operations.Reply.{Reply}
-use Rattle.bw_trace.specs.Texts.{replies_text}
 use Rattle.bw_trace.specs.declared.faults.TraceFault.TheVariants.{Memory}
 use Rattle.bw_trace.proofs.running.answer.Goals as goal
 

@@ -1,10 +1,6 @@
-use Rattle.std.proofs.Common.{◌≡◌, ◌≤◌, ◌<◌, ◌^◌, ◌+◌, ℕ, List, None}
-use Rattle.std.specs.Io.KnownBytes.{Appends, Consumes}
+use Rattle.std.proofs.Common.{◌≡◌, ◌≤◌, ◌<◌, ◌^◌, ◌+◌, None}
 use Rattle.bw_batch.specs.View.{contents_of, settings_of}
-use Rattle.bw_model.specs.Runs.{Outcome}
-use Rattle.bw_trace.specs.Running.{summary_of}
-use Rattle.bw_trace.specs.Sources.{ReadsOn, IsOver}
-use Rattle.bw_trace.specs.Texts.{outcomes_text}
+use Rattle.bw_trace.specs.Sources.{ReadsOn}
 use Rattle.bw_trace.proofs.RunningLemmas.{RunsTo}
 use Rattle.bw_trace.proofs.running.run_trace.Given as goal
 

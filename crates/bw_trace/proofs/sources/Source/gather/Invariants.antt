@@ -1,4 +1,4 @@
-use Rattle.std.proofs.Common.{◌≡◌, ◌≤◌, ◌<◌, ◌^◌, ◌+◌, ℕ, List, [], true, length}
+use Rattle.std.proofs.Common.{◌≡◌, ◌≤◌, ◌<◌, ◌^◌, ◌+◌, [], true, length}
 use Rattle.bw_trace.specs.Sources.{ReadsOn}
 use Rattle.bw_trace.proofs.TracesLemmas.{HasGathered}
 use Rattle.bw_trace.proofs.sources.Source.gather.Given as goal
