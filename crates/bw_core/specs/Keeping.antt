@@ -1,0 +1,79 @@
+-- One law for each event, over plain lists, and the law of whole runs.
+use Rattle.std.specs.Prelude.{◌≡◌, ◌≢◌, ℕ, ◌+◌, ◌<◌, ◌≤◌, ◌⊎◌, true, false, List, [], ◌∷◌, ◌++◌, length, slice_index, slice_set, Option, Some, None}
+use mathlib.Core.Option.{some}
+use lib.ListN.{get_elem?}
+use Rattle.bw_core.specs.declared.BookView.{BookView}
+use Rattle.bw_core.specs.declared.Event.{Event}
+use Rattle.bw_core.specs.declared.Played.{Played}
+use Rattle.bw_core.specs.World.{World, Lawful, Keeps, owns, posts_in, seen_at, end_at, spare_at, late, top, spent, IsLast}
+use Rattle.bw_core.specs.Events.{moved, under, looked, linked, won, lost_to, takes_piece, is_told, split_left, split_right, joined, replaced, came_late}
+use Rattle.bw_core.specs.Steps.{IsSeat, IsFresh, Applies, Runs, CanStart, start_world, claimed}
+
+-- the chain that the law speaks of is the one that the heads and links give
+abbrev pub FreshIsRead : Type 0
+FreshIsRead = (w : World) (q : Lawful w) (page : ℕ) (s : List ℕ) (x : ℕ) → page < length w.first → IsFresh w page s x → (s ≡ q.fresh page) × (x ≡ q.last page)
+
+abbrev pub StartIsLawful : Type 0
+StartIsLawful = (first : List ℕ) (floor records piece : ℕ) (spares : List (Option ℕ)) → CanStart first floor records piece spares → Lawful (start_world first floor records piece spares)
+
+abbrev pub LookKeeps : Type 0
+LookKeeps = (w : World) (q : Lawful w) (seat : ℕ) (b : BookView) (page : ℕ) → get_elem? w.books seat ≡ some b → b.live ≡ true → page < length w.first
+    → Keeps w q (moved w w.heads w.links (slice_set w.books seat (looked b page (q.fresh page) (q.last page))))
+
+-- the bound on `lost` is that of a record under way, and holds of a new record, which has lost nothing
+abbrev pub LinkKeeps : Type 0
+LinkKeeps = (w : World) (q : Lawful w) (seat : ℕ) (b : BookView) (rec page lost : ℕ) → get_elem? w.books seat ≡ some b → b.live ≡ true → page < length w.first → 0 < owns rec b → posts_in rec b.posted ≡ 0
+    → lost ≤ length (seen_at b page) + late (slice_index w.first page) (end_at b page)
+    → Keeps w q (moved w w.heads (slice_set w.links rec (top w.floor (end_at b page) (seen_at b page))) (slice_set w.books seat (linked b rec page lost)))
+
+abbrev pub WinKeeps : Type 0
+WinKeeps = (w : World) (q : Lawful w) (seat : ℕ) (b : BookView) (rec page lost : ℕ) → get_elem? w.books seat ≡ some b → b.under ≡ Some (under rec page lost true) → slice_index w.heads page ≡ slice_index w.links rec
+    → Keeps w q (moved w (slice_set w.heads page (w.floor + rec)) w.links (slice_set w.books seat (won b rec page lost)))
+
+abbrev pub LoseKeeps : Type 0
+LoseKeeps = (w : World) (q : Lawful w) (seat : ℕ) (b : BookView) (rec page lost : ℕ) → get_elem? w.books seat ≡ some b → b.under ≡ Some (under rec page lost true) → slice_index w.heads page ≢ slice_index w.links rec
+    → Keeps w q (moved w w.heads w.links (slice_set w.books seat (lost_to b rec page lost (q.fresh page) (q.last page))))
+
+-- a follow changes nothing
+abbrev pub FollowKeeps : Type 0
+FollowKeeps = (w : World) (q : Lawful w) → Keeps w q w
+
+abbrev pub ClaimKeepsPiece : Type 0
+ClaimKeepsPiece = (w : World) (q : Lawful w) (seat : ℕ) (b : BookView) → get_elem? w.books seat ≡ some b → b.live ≡ true → b.under ≡ None → b.told ≡ false → w.next < w.records
+    → Keeps w q (claimed w seat (takes_piece w.piece w.records w.next b))
+
+abbrev pub ClaimKeepsTold : Type 0
+ClaimKeepsTold = (w : World) (q : Lawful w) (seat : ℕ) (b : BookView) → get_elem? w.books seat ≡ some b → b.live ≡ true → b.under ≡ None → b.told ≡ false → w.records ≤ w.next
+    → Keeps w q (claimed w seat (is_told b))
+
+abbrev pub SplitKeeps : Type 0
+SplitKeeps = (w : World) (q : Lawful w) (seat : ℕ) (b : BookView) → get_elem? w.books seat ≡ some b → b.live ≡ true → b.under ≡ None → 2 ≤ b.width
+    → Keeps w q (moved w w.heads w.links (slice_set w.books seat (split_left b) ++ split_right b ∷ []))
+
+abbrev pub JoinKeeps : Type 0
+JoinKeeps = (w : World) (q : Lawful w) (into other : ℕ) (b d : BookView) → get_elem? w.books into ≡ some b → get_elem? w.books other ≡ some d → other ≢ into → b.live ≡ true → d.live ≡ true
+    → b.under ≡ None → d.under ≡ None → Keeps w q (moved w w.heads w.links (slice_set (slice_set w.books into (joined w.first b d)) other spent))
+
+abbrev pub ReplaceKeepsWon : Type 0
+ReplaceKeepsWon = (w : World) (q : Lawful w) (seat : ℕ) (b : BookView) (page spare : ℕ) → get_elem? w.books seat ≡ some b → b.live ≡ true → b.under ≡ None → page < length w.first → spare_at w page ≡ Some spare
+    → slice_index w.heads page ≡ slice_index w.first page → Keeps w q (moved w (slice_set w.heads page spare) w.links (slice_set w.books seat (replaced b page spare)))
+
+abbrev pub ReplaceKeepsLate : Type 0
+ReplaceKeepsLate = (w : World) (q : Lawful w) (seat : ℕ) (b : BookView) (page : ℕ) → get_elem? w.books seat ≡ some b → b.live ≡ true → b.under ≡ None → page < length w.first
+    → Keeps w q (moved w w.heads w.links (slice_set w.books seat (came_late b page (q.fresh page) (q.last page))))
+
+-- a head that is not the first word any more shows a new record, or the spare at the chain's end
+abbrev pub LateSawMore : Type 0
+LateSawMore = (w : World) (q : Lawful w) (page : ℕ) → page < length w.first → slice_index w.heads page ≢ slice_index w.first page → (0 < length (q.fresh page)) ⊎ (spare_at w page ≡ Some (q.last page))
+
+-- whatever the event and its answer
+abbrev pub EventKeeps : Type 0
+EventKeeps = (w : World) (q : Lawful w) (e : Event) (w' : World) (a : Played) → Applies w e w' a → Keeps w q w'
+
+-- whatever the list of events
+abbrev pub RunKeeps : Type 0
+RunKeeps = (w : World) (q : Lawful w) (es : List Event) (w' : World) → Runs w es w' → Keeps w q w'
+
+-- a page without a spare: its chain ends in its first word, and no bound on lost exchanges grows
+abbrev pub NoSpareNoChange : Type 0
+NoSpareNoChange = (w : World) (page x : ℕ) → spare_at w page ≡ None → IsLast w.first w.spares page x → (x ≡ slice_index w.first page) × (late (slice_index w.first page) x ≡ 0)
