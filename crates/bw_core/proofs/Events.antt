@@ -9,7 +9,7 @@ use Rattle.bw_core.specs.declared.Post.{Post}
 use Rattle.bw_core.specs.declared.Under.{Under}
 use Rattle.bw_core.specs.declared.BookView.{BookView}
 use Rattle.bw_core.specs.declared.Swap.{Swap}
-use Rattle.bw_core.specs.World.{end_at, spare_at, wins_in, late, Keeps, World, Claimed, one_if, total, times, owns, posts_in, posts_at, seen_at, top, Meets, IsEnd, beneath, Each, LawfulUnder, LawfulBook, Lawful}
+use Rattle.bw_core.specs.World.{SameStart, end_at, spare_at, wins_in, late, Keeps, World, Claimed, one_if, total, times, owns, posts_in, posts_at, seen_at, top, Meets, IsEnd, beneath, Each, LawfulUnder, LawfulBook, Lawful}
 use Rattle.bw_core.specs.Events.{swap, replaced, came_late, takes_piece, is_told, span, moved, under, post, looked, linked, won, lost_to}
 use Rattle.bw_core.proofs.Claims.{claimed_same, claimed_low, claim_takes, claim_tells}
 use Rattle.bw_core.proofs.Lists.{one_small, at_set, one_same, one_other, total-append, total_set, total-le, total-le_at, total_at, total_two, Each-append, Each-like, end_trans, end_self, end-length, end-times, beneath_more, meets_top, meets_set, same_top, late_first, late_other, late_within}
@@ -65,8 +65,12 @@ build w f l hw lw low spare_low met last_is swapped placed claims each =
 abbrev pub Grows : List ℕ → (ℕ → List ℕ) → (ℕ → ℕ) → (ℕ → List ℕ) → (ℕ → ℕ) → Type 0
 Grows first f l g k = (p : ℕ) → IsEnd (f p) (g p) × ((l p ≡ get_or first p 0) ⊎ (l p ≡ k p))
 
+-- worlds that differ in what events change
+pub start_same : {w : World} {n : ℕ} {hs ls : List ℕ} {bs : List BookView} → SameStart w (record w { next = n; heads = hs; links = ls; books = bs })
+start_same = record { first = refl; floor = refl; records = refl; piece = refl; spares = refl }
+
 -- the same after an event
-pub build_on : (w : World) (q : Lawful w) (w' : World) (f : ℕ → List ℕ) (l : ℕ → ℕ) → Grows w.first q.fresh q.last f l
+pub build_on : (w : World) (q : Lawful w) (w' : World) (f : ℕ → List ℕ) (l : ℕ → ℕ) → SameStart w w' → Grows w.first q.fresh q.last f l
     → ((r : ℕ) → 0 < total (λ (x : BookView). posts_in r x.posted) w.books → get_or w'.links r 0 ≡ get_or w.links r 0)
     → length w'.heads ≡ length w'.first → length w'.links ≡ w'.records → ((p : ℕ) → p < length w'.first → get_or w'.first p 0 < w'.floor)
     → ((p x : ℕ) → spare_at w' p ≡ Some x → (x < w'.floor) × (x ≢ get_or w'.first p 0))
@@ -76,8 +80,8 @@ pub build_on : (w : World) (q : Lawful w) (w' : World) (f : ℕ → List ℕ) (l
     → ((p r : ℕ) → p < length w'.first → times r (f p) ≡ total (λ b. posts_at p r b.posted) w'.books)
     → Claimed w'.piece w'.records w'.next w'.books → ((i : ℕ) (b : BookView) → get_elem? w'.books i ≡ some b → LawfulBook w' f l b) → Keeps w q w'
 unfolding build
-build_on w q w' f l grows stay hw lw low spare_low met last_is swapped placed claims each =
-    (build w' f l hw lw low spare_low met last_is swapped placed claims each, record { grows = λ p. (grows p).0; lasts = λ p. (grows p).1; links_stay = stay })
+build_on w q w' f l same grows stay hw lw low spare_low met last_is swapped placed claims each =
+    (build w' f l hw lw low spare_low met last_is swapped placed claims each, record { grows = λ p. (grows p).0; lasts = λ p. (grows p).1; links_stay = stay; start_stays = same })
 
 end-beneath : (r : ℕ) (a b : List ℕ) → IsEnd a b → beneath r a ≤ beneath r b
 end-beneath r a b (f, e) = subst (λ z. beneath r a ≤ beneath r z) (sym e) (beneath_more r f a)
@@ -152,7 +156,7 @@ pub one_book : (w : World) (q : Lawful w) (i : ℕ) (b c : BookView) (hs ls : Li
     → ((r : ℕ) → 0 < total (λ (x : BookView). posts_in r x.posted) w.books → get_or ls r 0 ≡ get_or w.links r 0)
     → LawfulBook (moved w hs ls (set w.books i c)) f l c → Keeps w q (moved w hs ls (set w.books i c))
 one_book w q i b c hs ls f l at hw lw met last_is swapped placed owned width told grows others stay mine =
-    build_on w q (moved w hs ls (set w.books i c)) f l grows stay (hw ∙ q.head_each_page) (lw ∙ q.link_each_record) q.low q.spare_low met last_is
+    build_on w q (moved w hs ls (set w.books i c)) f l start_same grows stay (hw ∙ q.head_each_page) (lw ∙ q.link_each_record) q.low q.spare_low met last_is
     (λ p h. let a = swapped p h in let k = q.swapped p h in let t = total_set (λ (x : BookView). wins_in p x.swaps) w.books i b c at in omega arith)
     (λ p r h. let a = placed p r h in let k = q.placed p r h in let t = total_set (λ (x : BookView). posts_at p r x.posted) w.books i b c at in omega arith)
     (claimed_same w.piece w.records w.next w.books i b c q.claims at owned width told)
@@ -323,7 +327,7 @@ posts_at-push k z r p lost ps = omega (arith, total-append (λ (x : Post). one_i
 pub posts_in-push : (z r p lost : ℕ) (ps : List Post) → posts_in z (ps ++ post r p lost ∷ []) ≡ posts_in z ps + one_if (eqb r z)
 posts_in-push z r p lost ps = omega (arith, total-append (λ (x : Post). one_if (eqb x.rec z)) ps (post r p lost ∷ []))
 
-and_here : (p k : ℕ) (b : Bool) → p ≡ k → one_if (eqb p k && b) ≡ one_if b
+pub and_here : (p k : ℕ) (b : Bool) → p ≡ k → one_if (eqb p k && b) ≡ one_if b
 and_here p k b e = ap (λ z. one_if (z && b)) (eq-eqb p k e)
 
 and_there : (p k : ℕ) (b : Bool) → p ≢ k → one_if (eqb p k && b) ≡ 0
@@ -450,7 +454,7 @@ replace_keeps_won w q i b p x at live idle within spare hit =
 claim_any : (w : World) (q : Lawful w) (i : ℕ) (b c : BookView) (n : ℕ) → get_elem? w.books i ≡ some b → b.live ≡ true → b.under ≡ None → c.live ≡ true → c.under ≡ None → c.posted ≡ b.posted → c.seen ≡ b.seen → c.ends ≡ b.ends → c.swaps ≡ b.swaps → c.width ≡ b.width
     → ((r : ℕ) → owns r b ≤ owns r c) → Claimed w.piece w.records n (set w.books i c) → Keeps w q (record w { next = n; books = set w.books i c })
 claim_any w q i b c n at live idle live' idle' posted seen ends swaps width more claims = let ok = q.each i b at in let w' : World = record w { next = n; books = set w.books i c } in
-    build_on w q w' q.fresh q.last (stays w.first q.fresh q.last) (λ r h. refl) q.head_each_page q.link_each_record q.low q.spare_low q.met q.last_is
+    build_on w q w' q.fresh q.last start_same (stays w.first q.fresh q.last) (λ r h. refl) q.head_each_page q.link_each_record q.low q.spare_low q.met q.last_is
     (λ p h. let k = q.swapped p h in let f : BookView → ℕ = λ b. wins_in p b.swaps in let t = total_set f w.books i b c at in let e : f c ≡ f b = ap (wins_in p) swaps in omega arith)
     (λ p z h. let k = q.placed p z h in let f : BookView → ℕ = λ b. posts_at p z b.posted in let t = total_set f w.books i b c at in let e : f c ≡ f b = ap (posts_at p z) posted in omega arith)
     claims

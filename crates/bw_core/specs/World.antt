@@ -167,11 +167,21 @@ pub record Lawful (w : World) : Type 0 where
   pub claims : Claimed w.piece w.records w.next w.books
   pub each : (i : ℕ) (b : BookView) → get_elem? w.books i ≡ some b → LawfulBook w fresh last b
 
+-- what no event changes
+pub record SameStart (w w' : World) : Type 0 where
+  pub first : w'.first ≡ w.first
+  pub floor : w'.floor ≡ w.floor
+  pub records : w'.records ≡ w.records
+  pub piece : w'.piece ≡ w.piece
+  pub spares : w'.spares ≡ w.spares
+
 -- what every event leaves: a chain before is an end of the chain after, over the same word or in place of the first word, and the links of posted records stay
 pub record Onward (w : World) (q : Lawful w) (w' : World) (q' : Lawful w') : Type 0 where
   pub grows : (p : ℕ) → IsEnd (q.fresh p) (q'.fresh p)
   pub lasts : (p : ℕ) → (q.last p ≡ slice_index w.first p) ⊎ (q.last p ≡ q'.last p)
   pub links_stay : (r : ℕ) → 0 < total (λ b. posts_in r b.posted) w.books → slice_index w'.links r ≡ slice_index w.links r
+  pub start_stays : SameStart w w'
 
+-- the world is lawful again, and went on from the one before
 abbrev pub Keeps : (w : World) → Lawful w → World → Type 0
 Keeps w q w' = (q' : Lawful w') × Onward w q w' q'
