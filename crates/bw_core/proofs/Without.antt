@@ -7,9 +7,11 @@ use Rattle.bw_core.specs.declared.Span.{Span}
 use Rattle.bw_core.specs.declared.Swap.{Swap}
 use Rattle.bw_core.specs.declared.Under.{Under}
 use Rattle.bw_core.specs.declared.BookView.{BookView}
-use Rattle.bw_core.specs.World.{World, Armed, LawfulBook, IsEnd, IsLast, one_if, late, top, owns, wins_in, seen_at, end_at}
+use Rattle.bw_core.specs.World.{World, Armed, Lawful, LawfulBook, Meets, IsEnd, IsLast, Each, one_if, beneath, late, top, owns, wins_in, seen_at, end_at}
 use Rattle.bw_core.specs.Events.{span, takes_piece, joined}
-use Rattle.bw_core.proofs.Lists.{total-append, late_first}
+use Rattle.bw_core.specs.Keeping.{SparelessPage}
+use Rattle.bw_core.proofs.Lists.{total-append, late_first, Each-like}
+use Rattle.bw_core.proofs.Events.{live_under, armed_in}
 
 -- a page without a spare has one word to end in, and no bound grows
 pub one_last : (first : List ℕ) (spares : List (Option ℕ)) (p x : ℕ) → get_or spares p None ≡ None → IsLast first spares p x → x ≡ get_or first p 0
@@ -37,6 +39,24 @@ armed_words w f l b u ok live h m = ⊎_elim (λ (e : m.last ≡ get_or w.first 
 pub words_armed : (w : World) (l : ℕ → ℕ) (b : BookView) (u : Under) → ArmedWords w l b u → Armed w b u
 words_armed w l b u (inl t) = record { end = t.0; last = end_at b u.page; is_end = t.1; last_is = inr refl; linked = t.2; few = t.3 }
 words_armed w l b u (inr t) = record { end = []; last = get_or w.first u.page 0; is_end = (seen_at b u.page, sym (append-nil (seen_at b u.page))); last_is = inl refl; linked = t.0; few = let z = t.2 in omega arith }
+
+-- the whole of the law at a page without a spare
+pub spareless_page : SparelessPage
+spareless_page w q page h none = let first : ℕ = get_or w.first page 0 in
+    let ends : q.last page ≡ first = one_last w.first w.spares page (q.last page) none (q.last_is page h) in
+    let in_time : late first (q.last page) ≡ 0 = late_first first (q.last page) ends in record {
+      met = subst (λ z. Meets w.floor w.links (get_or w.heads page 0) (q.fresh page) z) ends (q.met page h);
+      no_swap = q.swapped page h ∙ in_time;
+      ends_is = λ seat b at live. ⊎_elim (λ e. e) (λ e. e ∙ ends) ((q.each seat b at).ends_is page live h);
+      posts = λ seat b at. Each-like _ _ b.posted (λ x k e. let m = subst (λ z. x.lost ≤ beneath x.rec (q.fresh z) + late (get_or w.first z 0) (q.last z)) e k.1 in omega arith) (q.each seat b at).posts_page;
+      under_way = λ seat b u at is e. let ok = q.each seat b at in let live = live_under w q.fresh q.last b ok u is in
+          let m = subst (λ z. u.lost ≤ length (seen_at b z) + late (get_or w.first z 0) (end_at b z)) e (ok.lawful_under u is).few in
+          let z = late_first first (end_at b page) (⊎_elim (λ e. e) (λ e. e ∙ ends) (ok.ends_is page live h)) in omega arith;
+      armed = λ seat b u at is e armed. let m = armed_in w q seat b u at is armed in
+          let last_first : m.1 ≡ first = ⊎_elim (λ k. k ∙ ap (λ z. get_or w.first z 0) e) (λ k. k ∙ (ap q.last e ∙ ends)) m.4 in
+          let few = subst (λ z. u.lost ≤ length m.0 + late (get_or w.first z 0) m.1) e m.6 in let z = late_first first m.1 last_first in
+          (m.0, subst (λ z. IsEnd m.0 (seen_at b z)) e m.2, m.5 ∙ ap (λ z. top w.floor z m.0) last_first, omega arith);
+    }
 
 -- sums over split and joined books
 pub wins_joined : (first : List ℕ) (b d : BookView) (p : ℕ) → wins_in p (joined first b d).swaps ≡ wins_in p b.swaps + wins_in p d.swaps

@@ -3,9 +3,10 @@ use Rattle.std.specs.Prelude.{◌≡◌, ◌≢◌, ℕ, ◌+◌, ◌<◌, ◌�
 use mathlib.Core.Option.{some}
 use lib.ListN.{get_elem?}
 use Rattle.bw_core.specs.declared.BookView.{BookView}
+use Rattle.bw_core.specs.declared.Under.{Under}
 use Rattle.bw_core.specs.declared.Event.{Event}
 use Rattle.bw_core.specs.declared.Played.{Played}
-use Rattle.bw_core.specs.World.{World, Lawful, Keeps, owns, posts_in, seen_at, end_at, spare_at, late, top, spent, IsLast}
+use Rattle.bw_core.specs.World.{World, Lawful, Keeps, Meets, IsEnd, Each, total, beneath, wins_in, owns, posts_in, seen_at, end_at, spare_at, late, top, spent}
 use Rattle.bw_core.specs.Events.{moved, under, looked, linked, won, lost_to, takes_piece, is_told, split_left, split_right, joined, replaced, came_late}
 use Rattle.bw_core.specs.Steps.{IsSeat, IsFresh, Applies, Runs, CanStart, start_world, claimed}
 
@@ -74,6 +75,16 @@ EventKeeps = (w : World) (q : Lawful w) (e : Event) (w' : World) (a : Played) �
 abbrev pub RunKeeps : Type 0
 RunKeeps = (w : World) (q : Lawful w) (es : List Event) (w' : World) → Runs w es w' → Keeps w q w'
 
--- a page without a spare: its chain ends in its first word, and no bound on lost exchanges grows
-abbrev pub NoSpareNoChange : Type 0
-NoSpareNoChange = (w : World) (page x : ℕ) → spare_at w page ≡ None → IsLast w.first w.spares page x → (x ≡ slice_index w.first page) × (late (slice_index w.first page) x ≡ 0)
+-- each clause on a page, as it reads where no spare may replace the page's first word
+pub record WithoutSpare (w : World) (q : Lawful w) (page : ℕ) : Type 0 where
+  pub met : Meets w.floor w.links (slice_index w.heads page) (q.fresh page) (slice_index w.first page)
+  pub no_swap : total (λ b. wins_in page b.swaps) w.books ≡ 0
+  pub ends_is : (seat : ℕ) (b : BookView) → get_elem? w.books seat ≡ some b → b.live ≡ true → end_at b page ≡ slice_index w.first page
+  pub posts : (seat : ℕ) (b : BookView) → get_elem? w.books seat ≡ some b → Each (λ x. x.page ≡ page → x.lost ≤ beneath x.rec (q.fresh page)) b.posted
+  pub under_way : (seat : ℕ) (b : BookView) (u : Under) → get_elem? w.books seat ≡ some b → b.under ≡ Some u → u.page ≡ page → u.lost ≤ length (seen_at b page)
+  pub armed : (seat : ℕ) (b : BookView) (u : Under) → get_elem? w.books seat ≡ some b → b.under ≡ Some u → u.page ≡ page → u.armed ≡ true
+      → (end : List ℕ) × IsEnd end (seen_at b page) × (slice_index w.links u.rec ≡ top w.floor (slice_index w.first page) end) × (u.lost ≤ length end)
+
+-- a page without a spare
+abbrev pub SparelessPage : Type 0
+SparelessPage = (w : World) (q : Lawful w) (page : ℕ) → page < length w.first → spare_at w page ≡ None → WithoutSpare w q page

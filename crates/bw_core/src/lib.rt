@@ -1,6 +1,11 @@
 //! The pure model of posting to the mapping table of a Bw-tree.
 #![tactic(auto)]
 
+mod book;
+pub mod laws;
+
+pub use book::Book;
+
 /// Record numbers from `from` on, below `to`.
 #[derive(Clone, Copy, Debug, PartialEq, Eq)]
 pub struct Span {
@@ -64,8 +69,4 @@ pub struct BookView {
     pub swaps: [Swap; 0],
     pub width: u64,
     pub told: bool,
-}
-
-pub fn nothing(x: u64) -> u64 {
-    x
 }

@@ -1,0 +1,253 @@
+//! What one seat holds and knows.
+ghost use Rattle.std.specs.Prelude.{◌≡◌, ◌↔◌, ◌<◌, ◌≤◌, ℕ, List, [], ◌∷◌, ◌++◌, ◌+◌, ◌^◌, length, map, slice_index, IsTrue, IfOk, OnErr, Some};
+ghost use Rattle.bw_core.specs.World.{owns, posts_in, tries_in, times, seen_at, spent};
+ghost use Rattle.bw_core.specs.Events.{looked, linked, won, lost_to, takes_piece, is_told, span, split_left, split_right, joined, replaced, came_late};
+ghost use Rattle.bw_core.specs.Steps.{first_book};
+ghost use Rattle.bw_core.specs.declared.BookView.{BookView};
+
+use crate::{Post, Span, Swap, Under};
+use bw_key::Memory;
+use bw_memory::Alloc;
+use std::marker::Model;
+
+/// The book of a seat: what the seat may post, what it posted, and what it saw of each page.
+#[derive(Drop)]
+pub struct Book {
+    live: bool,
+    owned: Vec<Span, Alloc>,
+    posted: Vec<Post, Alloc>,
+    under: Option<Under>,
+    seen: Vec<Vec<u64, Alloc>, Alloc>,
+    ends: Vec<u64, Alloc>,
+    swaps: Vec<Swap, Alloc>,
+    width: u64,
+    told: bool,
+}
+
+impl Model for Book {
+    ghost Value = { BookView };
+
+    ghost view = { λ b. record { live = b.live; owned = b.owned.items; posted = b.posted.items; under = b.under; seen = map (λ v. v.items) b.seen.items; ends = b.ends.items; swaps = b.swaps.items; width = b.width; told = b.told } };
+}
+
+/// A page's new records, newest first, and the word below the floor that ends them.
+#[derive(Drop)]
+pub(crate) struct Chain {
+    pub(crate) records: Vec<u64, Alloc>,
+    pub(crate) last: u64,
+}
+
+/// Readers.
+impl Book {
+    /// Whether the seat goes on: not yet joined into another.
+    pub fn live(&self) -> bool
+        ensures { result ≡ self.now.live }
+    {
+        self.live
+    }
+
+    /// The record numbers that the seat may post, in the order of its claims.
+    pub fn owned(&self) -> &[Span]
+        ensures { result.now ≡ self.now.owned }
+    {
+        self.owned.as_slice()
+    }
+
+    /// What the seat posted, oldest first.
+    pub fn posted(&self) -> &[Post]
+        ensures { result.now ≡ self.now.posted }
+    {
+        self.posted.as_slice()
+    }
+
+    /// The record that is being posted.
+    pub fn under(&self) -> Option<Under>
+        ensures { result ≡ self.now.under }
+    {
+        self.under
+    }
+
+    /// The chain of new records that was last seen at the page, newest first.
+    pub fn seen(&self, page: u64) -> &[u64]
+        requires { page < length self.now.seen }
+        ensures { result.now ≡ seen_at self.now page }
+    {
+        self.seen[page as usize].as_slice()
+    }
+
+    /// For each page the word below the floor that was last seen there.
+    pub fn ends(&self) -> &[u64]
+        ensures { result.now ≡ self.now.ends }
+    {
+        self.ends.as_slice()
+    }
+
+    /// The pages whose first word the seat tried to replace, oldest first.
+    pub fn swaps(&self) -> &[Swap]
+        ensures { result.now ≡ self.now.swaps }
+    {
+        self.swaps.as_slice()
+    }
+
+    /// The seat's part of 1,024: a seat of width 1 can't be split.
+    pub fn width(&self) -> u64
+        ensures { result ≡ self.now.width }
+    {
+        self.width
+    }
+
+    /// Whether a claim found no record left.
+    pub fn told(&self) -> bool
+        ensures { result ≡ self.now.told }
+    {
+        self.told
+    }
+
+    /// Whether the seat may post this record, posted or not.
+    pub fn owns(&self, rec: u64) -> bool
+        ensures { IsTrue result ↔ (0 < owns rec self.now) }
+    {
+        self.owned.iter().any(|s| s.from <= rec && rec < s.to)
+    }
+
+    /// Whether the seat posted this record.
+    pub fn has_posted(&self, rec: u64) -> bool
+        ensures { IsTrue result ↔ (0 < posts_in rec self.now.posted) }
+    {
+        self.posted.iter().any(|p| p.rec == rec)
+    }
+
+    /// Whether the seat tried to replace this page's first word.
+    pub fn has_tried(&self, page: u64) -> bool
+        ensures { IsTrue result ↔ (0 < tries_in page self.now.swaps) }
+    {
+        self.swaps.iter().any(|s| s.page == page)
+    }
+
+    /// Whether this record stands in some chain that the seat saw.
+    pub fn has_seen(&self, rec: u64) -> bool
+        ensures { IsTrue result ↔ ((page : ℕ) × (page < length self.now.seen) × (0 < times rec (seen_at self.now page))) }
+    {
+        self.seen.iter().any(|chain| chain.iter().any(|r| *r == rec))
+    }
+}
+
+/// What each event makes of a book.
+impl Book {
+    pub(crate) fn new(alloc: Alloc, first: &[u64]) -> Result<Book, Memory>
+        ensures { IfOk result (λ b. b ≡ first_book first.now) }
+    {
+        let mut seen = Vec::new(alloc);
+        for _word in first {
+            seen.push(Vec::new(alloc))?;
+        }
+        Ok(Book {
+            live: true,
+            owned: Vec::new(alloc),
+            posted: Vec::new(alloc),
+            under: None,
+            seen,
+            ends: Vec::from_slice(alloc, first)?,
+            swaps: Vec::new(alloc),
+            width: 1024,
+            told: false,
+        })
+    }
+
+    pub(crate) fn spent(alloc: Alloc) -> Book
+        ensures { result ≡ spent }
+    {
+        Book {
+            live: false,
+            owned: Vec::new(alloc),
+            posted: Vec::new(alloc),
+            under: None,
+            seen: Vec::new(alloc),
+            ends: Vec::new(alloc),
+            swaps: Vec::new(alloc),
+            width: 0,
+            told: false,
+        }
+    }
+
+    pub(crate) fn look(&mut self, page: u64, chain: Chain)
+        requires { (page < length self.old.seen) × (page < length self.old.ends) }
+        ensures { self.new ≡ looked self.old page chain.entry.records.items chain.entry.last }
+    {
+        self.ends[page as usize] = chain.last;
+        self.seen[page as usize] = chain.records;
+    }
+
+    pub(crate) fn link(&mut self, rec: u64, page: u64, lost: u64)
+        ensures { self.new ≡ linked self.old rec page lost }
+    {
+        self.under = Some(Under {
+            rec,
+            page,
+            lost,
+            armed: true,
+        });
+    }
+
+    pub(crate) fn win(&mut self, alloc: Alloc, rec: u64, page: u64, lost: u64) -> Result<(), Memory>
+        requires { page < length self.old.seen }
+        ensures ok { IfOk result (λ _. self.new ≡ won self.old rec page lost) }
+        ensures err { OnErr result (self.new ≡ self.old) }
+    {
+        let mut chain = Vec::new(alloc);
+        chain.push(rec)?;
+        chain.extend_from_slice(self.seen[page as usize].as_slice())?;
+        self.posted.push(Post { rec, page, lost })?;
+        self.seen[page as usize] = chain;
+        self.under = None;
+        Ok(())
+    }
+
+    pub(crate) fn lose(&mut self, rec: u64, page: u64, lost: u64, chain: Chain)
+        requires pages { (page < length self.old.seen) × (page < length self.old.ends) }
+        requires few { lost < 2 ^ 33 }
+        ensures { self.new ≡ lost_to self.old rec page lost chain.entry.records.items chain.entry.last }
+    {
+        self.look(page, chain);
+        self.under = Some(Under {
+            rec,
+            page,
+            lost: lost + 1,
+            armed: false,
+        });
+    }
+
+    pub(crate) fn claim(&mut self, from: u64, to: u64) -> Result<(), Memory>
+        ensures ok { IfOk result (λ _. self.new ≡ record self.old { owned = self.old.owned ++ span from to ∷ [] }) }
+        ensures err { OnErr result (self.new ≡ self.old) }
+    {
+        self.owned.push(Span { from, to })?;
+        Ok(())
+    }
+
+    pub(crate) fn tell(&mut self)
+        ensures { self.new ≡ is_told self.old }
+    {
+        self.told = true;
+    }
+
+    pub(crate) fn replace(&mut self, page: u64, spare: u64) -> Result<(), Memory>
+        requires { page < length self.old.ends }
+        ensures ok { IfOk result (λ _. self.new ≡ replaced self.old page spare) }
+        ensures err { OnErr result (self.new ≡ self.old) }
+    {
+        self.swaps.push(Swap { page, won: true })?;
+        self.ends[page as usize] = spare;
+        Ok(())
+    }
+
+    pub(crate) fn come_late(&mut self, page: u64, chain: Chain) -> Result<(), Memory>
+        requires { (page < length self.old.ends) × (page < length self.old.seen) }
+        ensures ok { IfOk result (λ _. self.new ≡ came_late self.old page chain.entry.records.items chain.entry.last) }
+        ensures err { OnErr result (self.new ≡ self.old) }
+    {
+        self.swaps.push(Swap { page, won: false })?;
+        self.look(page, chain);
+        Ok(())
+    }
+}
