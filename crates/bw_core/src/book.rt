@@ -128,7 +128,9 @@ impl Book {
     pub fn has_seen(&self, rec: u64) -> bool
         ensures { IsTrue result ↔ ((page : ℕ) × (page < length self.now.seen) × (0 < times rec (seen_at self.now page))) }
     {
-        self.seen.iter().any(|chain| chain.iter().any(|r| *r == rec))
+        self.seen
+            .iter()
+            .any(|chain| chain.as_slice().contains(&rec))
     }
 }
 
@@ -172,7 +174,7 @@ impl Book {
 
     pub(crate) fn look(&mut self, page: u64, chain: Chain)
         requires { (page < length self.old.seen) × (page < length self.old.ends) }
-        ensures { self.new ≡ looked self.old page chain.entry.records.items chain.entry.last }
+        ensures { self.new ≡ looked self.old page chain.records.items chain.last }
     {
         self.ends[page as usize] = chain.last;
         self.seen[page as usize] = chain.records;
@@ -206,7 +208,7 @@ impl Book {
     pub(crate) fn lose(&mut self, rec: u64, page: u64, lost: u64, chain: Chain)
         requires pages { (page < length self.old.seen) × (page < length self.old.ends) }
         requires few { lost < 2 ^ 33 }
-        ensures { self.new ≡ lost_to self.old rec page lost chain.entry.records.items chain.entry.last }
+        ensures { self.new ≡ lost_to self.old rec page lost chain.records.items chain.last }
     {
         self.look(page, chain);
         self.under = Some(Under {
@@ -243,7 +245,7 @@ impl Book {
 
     pub(crate) fn come_late(&mut self, page: u64, chain: Chain) -> Result<(), Memory>
         requires { (page < length self.old.ends) × (page < length self.old.seen) }
-        ensures ok { IfOk result (λ _. self.new ≡ came_late self.old page chain.entry.records.items chain.entry.last) }
+        ensures ok { IfOk result (λ _. self.new ≡ came_late self.old page chain.records.items chain.last) }
         ensures err { OnErr result (self.new ≡ self.old) }
     {
         self.swaps.push(Swap { page, won: false })?;
