@@ -9,7 +9,7 @@ use Rattle.bw_core.specs.declared.Post.{Post}
 use Rattle.bw_core.specs.declared.Swap.{Swap}
 use Rattle.bw_core.specs.declared.BookView.{BookView}
 use Rattle.bw_core.specs.World.{wins_in, Keeps, World, one_if, posts_at, seen_at, IsEnd, LawfulBook, Lawful, spent}
-use Rattle.bw_core.specs.Events.{moved, split_left, split_right, longer_of, longest, latest, joined}
+use Rattle.bw_core.specs.Events.{moved, split_left, split_right, longer_of, longest, later_of, latest, joined}
 use Rattle.bw_core.proofs.Lists.{still_at, at_set, at_snoc, total-append, total_set, total_two, Each-append, end_self, end-times}
 use Rattle.bw_core.proofs.Events.{start_same, build_on, stays, book_keeps, end_same}
 use Rattle.bw_core.proofs.Claims.{claimed_split, claimed_join}
@@ -65,13 +65,13 @@ longer_ends a b c h k = elim (dec_le (length b) (length a)) [
       subst (λ (z : Bool). IsEnd a (cond z a b) × IsEnd b (cond z a b) × IsEnd (cond z a b) c) (sym t) (ends_nest h.0 k.0 a b (sym h.1 ∙ k.1) (omega arith), end_self b, k))
 ]
 
-longest_at : (xs ys : List (List ℕ)) (p : ℕ) → p < length xs → length xs ≡ length ys → get_or (longest xs ys) p [] ≡ longer_of (get_or xs p []) (get_or ys p [])
+pub longest_at : (xs ys : List (List ℕ)) (p : ℕ) → p < length xs → length xs ≡ length ys → get_or (longest xs ys) p [] ≡ longer_of (get_or xs p []) (get_or ys p [])
 longest_at [] ys p h e = absurd (omega arith)
 longest_at (x ∷ xs) [] p h e = absurd (omega arith)
 longest_at (x ∷ xs) (y ∷ ys) zero h e = refl
 longest_at (x ∷ xs) (y ∷ ys) (suc p) h e = longest_at xs ys p (omega arith) (omega arith)
 
-longest-length : (xs ys : List (List ℕ)) → length xs ≡ length ys → length (longest xs ys) ≡ length xs
+pub longest-length : (xs ys : List (List ℕ)) → length xs ≡ length ys → length (longest xs ys) ≡ length xs
 longest-length [] ys e = refl
 longest-length (x ∷ xs) [] e = refl
 longest-length (x ∷ xs) (y ∷ ys) e = ap suc' (longest-length xs ys (omega arith))
@@ -79,11 +79,18 @@ longest-length (x ∷ xs) (y ∷ ys) e = ap suc' (longest-length xs ys (omega ar
     suc' : ℕ → ℕ
     suc' n = suc n
 
-latest-length : (fs xs ys : List ℕ) → length (latest fs xs ys) ≡ length xs
+pub latest-length : (fs xs ys : List ℕ) → length (latest fs xs ys) ≡ length xs
 latest-length [] xs ys = refl
 latest-length (f ∷ fs) [] ys = refl
 latest-length (f ∷ fs) (x ∷ xs) [] = refl
 latest-length (f ∷ fs) (x ∷ xs) (y ∷ ys) = let h = latest-length fs xs ys in omega arith
+
+pub latest_at_page : (fs xs ys : List ℕ) (p : ℕ) → p < length fs → length xs ≡ length fs → length ys ≡ length fs → get_or (latest fs xs ys) p 0 ≡ later_of (get_or fs p 0) (get_or xs p 0) (get_or ys p 0)
+latest_at_page [] xs ys p h e k = absurd (omega arith)
+latest_at_page (f ∷ fs) [] ys p h e k = absurd (omega arith)
+latest_at_page (f ∷ fs) (x ∷ xs) [] p h e k = absurd (omega arith)
+latest_at_page (f ∷ fs) (x ∷ xs) (y ∷ ys) zero h e k = refl
+latest_at_page (f ∷ fs) (x ∷ xs) (y ∷ ys) (suc p) h e k = latest_at_page fs xs ys p (omega arith) (omega arith) (omega arith)
 
 -- what holds of both words holds of the one that is kept
 latest_at : (fs xs ys : List ℕ) (p : ℕ) (P : ℕ → Type 0) → p < length fs → length xs ≡ length fs → length ys ≡ length fs → P (get_or xs p 0) → P (get_or ys p 0) → P (get_or (latest fs xs ys) p 0)

@@ -1,6 +1,7 @@
 -- Tests and reads of lists: the number of members that pass a test, and a list of lists behind a list of vectors.
-use Rattle.std.proofs.Common.{◌==◌, zero, suc, length, get_or, map, ◌≡◌, ℕ, ◌+◌, ◌<◌, Bool, true, false, List, [], ◌∷◌, ◌||◌, arith, refl, sym, ap, ◌∙◌, IsTrue, ◌↔◌}
+use Rattle.std.proofs.Common.{◌==◌, zero, suc, length, get_or, map, take, ◌++◌, ◌≡◌, ℕ, ◌+◌, ◌<◌, Bool, true, false, List, [], ◌∷◌, ◌||◌, arith, refl, sym, ap, ◌∙◌, IsTrue, ◌↔◌}
 use Rattle.std.specs.List.{list_any}
+use Rattle.std.proofs.lemmas.List.{map-append, take_more}
 use Rattle.bw_core.specs.World.{one_if, total, times}
 
 module _ {X : Type 0} where
@@ -45,3 +46,10 @@ module _ {X : Type 0} (f : X → List ℕ) (r : ℕ) where
   found_if [] i h k = absurd (omega arith)
   found_if (x ∷ xs) zero h k = or_left (has r (f x)) _ ((some_passes (λ y. y == r) (f x)).1 k)
   found_if (x ∷ xs) (suc i) h k = or_right (has r (f x)) _ (found_if xs i (omega arith) k)
+
+-- one more of a list that is built from its front
+pub one_more : {X Y : Type 0} (f : X → Y) (zs : List X) (x : X) (ys : List Y) (i : ℕ) (d : Y) → map f zs ≡ take i ys → i < length ys → f x ≡ get_or ys i d → map f (zs ++ x ∷ []) ≡ take (i + 1) ys
+one_more f zs x ys i d e h k = map-append f zs (x ∷ []) ∙ ((λ j. e j ++ k j ∷ []) ∙ sym (take_more ys i d h))
+
+pub one_word_more : (zs : List ℕ) (x : ℕ) (ys : List ℕ) (i : ℕ) → zs ≡ take i ys → i < length ys → x ≡ get_or ys i 0 → zs ++ x ∷ [] ≡ take (i + 1) ys
+one_word_more zs x ys i e h k = (λ j. e j ++ k j ∷ []) ∙ sym (take_more ys i 0 h)

@@ -5,7 +5,7 @@ ghost use Rattle.bw_core.specs.Events.{looked, linked, won, lost_to, takes_piece
 ghost use Rattle.bw_core.specs.Steps.{first_book};
 ghost use Rattle.bw_core.specs.declared.BookView.{BookView};
 
-use crate::{Post, Span, Swap, Under};
+use crate::{Post, Span, Swap, Under, copies};
 use bw_key::Memory;
 use bw_memory::Alloc;
 use std::marker::Model;
@@ -231,6 +231,47 @@ impl Book {
         ensures { self.new ≡ is_told self.old }
     {
         self.told = true;
+    }
+
+    pub(crate) fn half(&self, alloc: Alloc) -> Result<Book, Memory>
+        ensures { IfOk result (λ b. b ≡ split_right self.now) }
+    {
+        Ok(Book {
+            live: true,
+            owned: Vec::new(alloc),
+            posted: Vec::new(alloc),
+            under: None,
+            seen: copies::copied(alloc, self.seen.as_slice())?,
+            ends: Vec::from_slice(alloc, self.ends.as_slice())?,
+            swaps: Vec::new(alloc),
+            width: self.width / 2,
+            told: self.told,
+        })
+    }
+
+    pub(crate) fn narrow(&mut self)
+        ensures { self.new ≡ split_left self.old }
+    {
+        self.width -= self.width / 2;
+    }
+
+    pub(crate) fn joined(&self, alloc: Alloc, first: &[u64], other: &Book) -> Result<Book, Memory>
+        requires seen { (length self.now.seen ≡ length first.now) × (length other.now.seen ≡ length first.now) }
+        requires ends { (length self.now.ends ≡ length first.now) × (length other.now.ends ≡ length first.now) }
+        requires width { self.now.width + other.now.width < 2 ^ 64 }
+        ensures { IfOk result (λ b. b ≡ joined first.now self.now other.now) }
+    {
+        Ok(Book {
+            live: self.live,
+            owned: copies::concat(alloc, self.owned(), other.owned())?,
+            posted: copies::concat(alloc, self.posted(), other.posted())?,
+            under: self.under,
+            seen: copies::longest(alloc, self.seen.as_slice(), other.seen.as_slice())?,
+            ends: copies::latest(alloc, first, self.ends(), other.ends())?,
+            swaps: copies::concat(alloc, self.swaps(), other.swaps())?,
+            width: self.width + other.width,
+            told: self.told || other.told,
+        })
     }
 
     pub(crate) fn replace(&mut self, page: u64, spare: u64) -> Result<(), Memory>

@@ -2,6 +2,7 @@
 #![tactic(auto)]
 
 mod book;
+mod copies;
 pub mod laws;
 
 pub use book::Book;
