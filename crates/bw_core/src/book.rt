@@ -1,7 +1,7 @@
 //! What one seat holds and knows.
-ghost use Rattle.std.specs.Prelude.{◌≡◌, ◌↔◌, ◌<◌, ◌≤◌, ℕ, List, [], ◌∷◌, ◌++◌, ◌+◌, ◌^◌, length, map, slice_index, IsTrue, IfOk, OnErr, Some};
+ghost use Rattle.std.specs.Prelude.{◌≡◌, ◌↔◌, ◌<◌, ◌≤◌, ℕ, List, [], ◌∷◌, ◌++◌, ◌+◌, ◌^◌, length, map, slice_index, IsTrue, IfOk, OnErr, MatchOption, Some, true};
 ghost use Rattle.bw_core.specs.World.{owns, posts_in, tries_in, times, seen_at, spent};
-ghost use Rattle.bw_core.specs.Events.{looked, linked, won, lost_to, takes_piece, is_told, span, split_left, split_right, joined, replaced, came_late};
+ghost use Rattle.bw_core.specs.Events.{under, Resumes, looked, linked, won, lost_to, takes_piece, is_told, span, split_left, split_right, joined, replaced, came_late};
 ghost use Rattle.bw_core.specs.Steps.{first_book};
 ghost use Rattle.bw_core.specs.declared.BookView.{BookView};
 
@@ -124,6 +124,27 @@ impl Book {
         self.swaps.iter().any(|s| s.page == page)
     }
 
+    /// How often this record has lost, where the seat may link it under this page: 0 where nothing is under way.
+    pub(crate) fn resumes(&self, rec: u64, page: u64) -> Option<u64>
+        ensures { MatchOption result ((lost : ℕ) → Resumes self.now rec page lost → ⊥) (Resumes self.now rec page) }
+    {
+        match self.under {
+            None => Some(0),
+            Some(under) if under.rec == rec && under.page == page => Some(under.lost),
+            Some(_) => None,
+        }
+    }
+
+    /// How often this record has lost, where it is armed under this page.
+    pub(crate) fn armed(&self, rec: u64, page: u64) -> Option<u64>
+        ensures { MatchOption result ((lost : ℕ) → self.now.under ≡ Some (under rec page lost true) → ⊥) (λ lost. self.now.under ≡ Some (under rec page lost true)) }
+    {
+        match self.under {
+            Some(under) if under.rec == rec && under.page == page && under.armed => Some(under.lost),
+            _ => None,
+        }
+    }
+
     /// Whether this record stands in some chain that the seat saw.
     pub fn has_seen(&self, rec: u64) -> bool
         ensures { IsTrue result ↔ ((page : ℕ) × (page < length self.now.seen) × (0 < times rec (seen_at self.now page))) }
@@ -207,7 +228,7 @@ impl Book {
 
     pub(crate) fn lose(&mut self, rec: u64, page: u64, lost: u64, chain: Chain)
         requires pages { (page < length self.old.seen) × (page < length self.old.ends) }
-        requires few { lost < 2 ^ 33 }
+        requires few { lost < 2 ^ 63 }
         ensures { self.new ≡ lost_to self.old rec page lost chain.records.items chain.last }
     {
         self.look(page, chain);
