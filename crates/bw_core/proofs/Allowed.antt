@@ -1,16 +1,55 @@
 -- Where an event is allowed: what the tests of a program show.
-use Rattle.std.proofs.Common.{◌≡◌, ◌≢◌, ℕ, zero, suc, ◌+◌, ◌<◌, ◌≤◌, Bool, true, false, length, sym, refl, ap, ◌∙◌, subst, arith, Option, Some, None, MatchOption, IsTrue, ◌↔◌}
+use Rattle.std.proofs.Common.{◌≡◌, ◌≢◌, ℕ, zero, suc, ◌+◌, ◌<◌, ◌≤◌, Bool, true, false, ◌^◌, List, [], ◌∷◌, ◌++◌, length, get_or, sym, refl, ap, ◌∙◌, subst, arith, Option, Some, None, MatchOption, IsTrue, ◌↔◌}
 use mathlib.Core.Option.{some, some-injective}
 use lib.ListN.{get_elem?}
-use native.Mathlib.Decide.{dec_lt}
+use mathlib.Core.Logic.{dite}
+use native.Mathlib.Decide.{ℕ_discrete, dec_lt}
 use Rattle.bw_core.specs.declared.BookView.{BookView}
-use Rattle.bw_core.specs.World.{World, owns, posts_in}
+use Rattle.bw_core.specs.World.{World, Lawful, Each, owns, posts_in, times, seen_at}
 use Rattle.bw_core.specs.Events.{Resumes}
-use Rattle.bw_core.specs.Steps.{IsSeat, MayLink}
+use Rattle.bw_core.specs.Steps.{IsWorld, IsSeat, MayLink, MayFollow}
+use Rattle.bw_core.proofs.Lists.{at_index, inside_at, meets_low, one_other, Each-like}
+use Rattle.bw_core.proofs.Events.{is_record}
 
 -- a seat has one book
 pub one_seat : (w : World) (seat : ℕ) (b d : BookView) → IsSeat w seat b → IsSeat w seat d → b ≡ d
 one_seat w seat b d h k = some-injective b d (sym h.0 ∙ k.0)
+
+-- the book that is read there is the seat's
+pub read_seat : (w : World) (seat : ℕ) (d b : BookView) → IsSeat w seat d → b ≡ get_or w.books seat b → b ≡ d
+read_seat w seat d b h e = some-injective b d (sym (at_index w.books seat b (inside_at w.books seat d h.0) e) ∙ h.0)
+
+-- a live book has a chain and an end for each page
+pub seat_pages : (w : World) → IsWorld w → (seat : ℕ) (b : BookView) (page : ℕ) → IsSeat w seat b → page < length w.first → (page < length b.seen) × (page < length b.ends)
+seat_pages w k seat b page h p = let ok = k.lawful.each seat b h.0 in let s = ok.seen_each_page h.1 in let e = ok.end_each_page h.1 in (omega arith, omega arith)
+
+pub page_heads : (w : World) → IsWorld w → (page : ℕ) → page < length w.first → page < length w.heads
+page_heads w k page p = let e = k.lawful.head_each_page in omega arith
+
+-- a record of a list is below what all of them are below
+times_below : (n r : ℕ) (rs : List ℕ) → Each (λ x. x < n) rs → 0 < times r rs → r < n
+times_below n r [] h t = absurd (omega arith)
+times_below n r (x ∷ rs) h t = dite (ℕ_discrete x r) (λ e. let l = h.0 in omega arith) (λ ne. times_below n r rs h.1 (let o = one_other x r ne in omega arith))
+
+-- what a seat saw are records
+seen_records : (w : World) → IsWorld w → (seat : ℕ) (b : BookView) (page : ℕ) → IsSeat w seat b → page < length w.first → Each (λ x. x < length w.links) (seen_at b page)
+seen_records w k seat b page h p = let q = k.lawful in let end = (q.each seat b h.0).seen_end page h.1 p in
+    Each-end (λ x. x < length w.links) end.0 (seen_at b page) (subst (Each (λ x. x < length w.links)) end.1 (meets_low w.floor w.links (get_or w.heads page 0) (q.fresh page) (q.last page) (q.met page p)))
+  where
+    Each-end : (P : ℕ → Type 0) (front rs : List ℕ) → Each P (front ++ rs) → Each P rs
+    Each-end P [] rs h = h
+    Each-end P (x ∷ front) rs h = Each-end P front rs h.1
+
+pub seen_link : (w : World) → IsWorld w → (seat rec : ℕ) (b : BookView) (page : ℕ) → MayFollow w seat rec b page → rec < length w.links
+seen_link w k seat rec b page may = times_below (length w.links) rec (seen_at b page) (seen_records w k seat b page may.0 may.1) may.2
+
+-- and they have words
+pub seen_words : (w : World) → IsWorld w → (seat : ℕ) (b : BookView) (page : ℕ) → IsSeat w seat b → page < length w.first → Each (λ r. w.floor + r < 2 ^ 64) (seen_at b page)
+seen_words w k seat b page h p = Each-like _ _ (seen_at b page) (λ x l. let e = k.lawful.link_each_record in let f = k.words_fit in omega arith) (seen_records w k seat b page h p)
+
+-- an own record has a link, and a word
+pub own_link : (w : World) → IsWorld w → (seat rec : ℕ) (b : BookView) → IsSeat w seat b → 0 < owns rec b → (rec < length w.links) × (w.floor + rec < 2 ^ 33)
+own_link w k seat rec b h own = let r = is_record w k.lawful seat b rec h.0 own in let e = k.lawful.link_each_record in let f = k.words_fit in (omega arith, omega arith)
 
 -- a test that failed
 pub is_zero : (r : Bool) (n : ℕ) → r ≡ false → (IsTrue r ↔ (0 < n)) → n ≡ 0

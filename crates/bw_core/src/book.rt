@@ -1,6 +1,6 @@
 //! What one seat holds and knows.
 ghost use Rattle.std.specs.Prelude.{◌≡◌, ◌↔◌, ◌<◌, ◌≤◌, ℕ, List, [], ◌∷◌, ◌++◌, ◌+◌, ◌^◌, length, map, slice_index, IsTrue, IfOk, OnErr, MatchOption, Some, true};
-ghost use Rattle.bw_core.specs.World.{owns, posts_in, tries_in, times, seen_at, spent};
+ghost use Rattle.bw_core.specs.World.{owns, posts_in, tries_in, times, seen_at, end_at, top, Each, spent};
 ghost use Rattle.bw_core.specs.Events.{under, Resumes, looked, linked, won, lost_to, takes_piece, is_told, span, split_left, split_right, joined, replaced, came_late};
 ghost use Rattle.bw_core.specs.Steps.{first_book};
 ghost use Rattle.bw_core.specs.declared.BookView.{BookView};
@@ -122,6 +122,18 @@ impl Book {
         ensures { IsTrue result ↔ (0 < tries_in page self.now.swaps) }
     {
         self.swaps.iter().any(|s| s.page == page)
+    }
+
+    /// The word that names the first record of the chain that was seen at the page, or the word that ended it.
+    pub(crate) fn top(&self, floor: u64, page: u64) -> u64
+        requires page { (page < length self.now.seen) × (page < length self.now.ends) }
+        requires fits { Each (λ r. floor + r < 2 ^ 64) (seen_at self.now page) }
+        ensures { result ≡ top floor (end_at self.now page) (seen_at self.now page) }
+    {
+        match self.seen(page).first() {
+            Some(rec) => floor + *rec,
+            None => self.ends[page as usize],
+        }
     }
 
     /// How often this record has lost, where the seat may link it under this page: 0 where nothing is under way.

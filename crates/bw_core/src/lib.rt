@@ -4,6 +4,7 @@
 mod book;
 mod copies;
 pub mod laws;
+mod playing;
 mod state;
 
 pub use book::Book;
