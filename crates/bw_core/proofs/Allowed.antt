@@ -1,15 +1,16 @@
 -- Where an event is allowed: what the tests of a program show.
-use Rattle.std.proofs.Common.{◌≡◌, ◌≢◌, ℕ, zero, suc, ◌+◌, ◌<◌, ◌≤◌, Bool, true, false, ◌^◌, List, [], ◌∷◌, ◌++◌, length, get_or, sym, refl, ap, ◌∙◌, subst, arith, Option, Some, None, MatchOption, IsTrue, ◌↔◌}
+use Rattle.std.proofs.Common.{◌≡◌, ◌≢◌, ℕ, zero, suc, ◌+◌, ◌<◌, ◌≤◌, ◌==◌, cond, Bool, true, false, ◌^◌, List, [], ◌∷◌, ◌++◌, length, get_or, sym, refl, ap, ◌∙◌, subst, arith, Option, Some, None, MatchOption, IsTrue, ◌↔◌}
 use mathlib.Core.Option.{some, some-injective}
 use lib.ListN.{get_elem?}
 use mathlib.Core.Logic.{dite}
 use native.Mathlib.Decide.{ℕ_discrete, dec_lt}
 use Rattle.bw_core.specs.declared.BookView.{BookView}
-use Rattle.bw_core.specs.World.{World, Lawful, Each, owns, posts_in, times, seen_at}
-use Rattle.bw_core.specs.Events.{Resumes}
-use Rattle.bw_core.specs.Steps.{IsWorld, IsSeat, MayLink, MayFollow}
-use Rattle.bw_core.proofs.Lists.{at_index, inside_at, meets_low, one_other, Each-like}
+use Rattle.bw_core.specs.World.{World, Lawful, LawfulUnder, Each, owns, posts_in, times, seen_at, end_at, late}
+use Rattle.bw_core.specs.Events.{under, Resumes}
+use Rattle.bw_core.specs.Steps.{IsWorld, IsSeat, MayLink, MayTry, MayFollow, MayJoin}
+use Rattle.bw_core.proofs.Lists.{at_index, inside_at, meets_low, one_other, Each-like, few, end-length, total_two}
 use Rattle.bw_core.proofs.Events.{is_record}
+use Rattle.bw_core.proofs.Claims.{no_wrap}
 
 -- a seat has one book
 pub one_seat : (w : World) (seat : ℕ) (b d : BookView) → IsSeat w seat b → IsSeat w seat d → b ≡ d
@@ -50,6 +51,27 @@ seen_words w k seat b page h p = Each-like _ _ (seen_at b page) (λ x l. let e =
 -- an own record has a link, and a word
 pub own_link : (w : World) → IsWorld w → (seat rec : ℕ) (b : BookView) → IsSeat w seat b → 0 < owns rec b → (rec < length w.links) × (w.floor + rec < 2 ^ 33)
 own_link w k seat rec b h own = let r = is_record w k.lawful seat b rec h.0 own in let e = k.lawful.link_each_record in let f = k.words_fit in (omega arith, omega arith)
+
+-- a record under way
+pub tried : (w : World) → IsWorld w → (seat rec page : ℕ) (b : BookView) (lost : ℕ) → MayTry w seat rec page b lost → LawfulUnder w b (under rec page lost true)
+tried w k seat rec page b lost may = (k.lawful.each seat b may.0.0).lawful_under (under rec page lost true) may.1
+
+late_small : (first x : ℕ) → late first x ≤ 1
+late_small first x = elim (x == first) as (λ b. cond b 0 1 ≤ 1) [ true ↦ omega arith | false ↦ omega arith ]
+
+pub tried_few : (w : World) → IsWorld w → (seat rec page : ℕ) (b : BookView) (lost : ℕ) → MayTry w seat rec page b lost → lost < 2 ^ 63
+tried_few w k seat rec page b lost may = let q = k.lawful in let u = tried w k seat rec page b lost may in let p = u.on_page in
+    let end = end-length (seen_at b page) (q.fresh page) ((q.each seat b may.0.0).seen_end page may.0.1 p) in
+    let all = few (length w.links) (q.fresh page) (meets_low w.floor w.links (get_or w.heads page 0) (q.fresh page) (q.last page) (q.met page p)) (λ r. q.once page r p) in
+    let bound = u.few in let over = late_small (get_or w.first page 0) (end_at b page) in let e = q.link_each_record in let f = k.words_fit in omega arith
+
+-- two live books have widths that add up to a width
+pub two_widths : (w : World) → IsWorld w → (into other : ℕ) (b d : BookView) → MayJoin w into other b d → b.width + d.width < 2 ^ 64
+two_widths w k into other b d may = let t = total_two (λ (x : BookView). x.width) w.books into other b d may.2 may.0.0 may.1.0 in let m = k.lawful.claims.widths in omega arith
+
+-- the next claim fits
+pub claim_fits : (w : World) → IsWorld w → w.next + w.piece < 2 ^ 64
+claim_fits w k = no_wrap w.piece w.records w.next w.books k.lawful.claims (let f = k.words_fit in omega arith) k.piece_fits
 
 -- a test that failed
 pub is_zero : (r : Bool) (n : ℕ) → r ≡ false → (IsTrue r ↔ (0 < n)) → n ≡ 0

@@ -252,18 +252,19 @@ impl Book {
         });
     }
 
-    pub(crate) fn claim(&mut self, from: u64, to: u64) -> Result<(), Memory>
-        ensures ok { IfOk result (λ _. self.new ≡ record self.old { owned = self.old.owned ++ span from to ∷ [] }) }
+    pub(crate) fn claim(&mut self, piece: u64, records: u64, from: u64) -> Result<(), Memory>
+        requires { from + piece < 2 ^ 64 }
+        ensures piece { IfOk result (λ _. from < records → self.new ≡ takes_piece piece records from self.old) }
+        ensures told { IfOk result (λ _. records ≤ from → self.new ≡ is_told self.old) }
         ensures err { OnErr result (self.new ≡ self.old) }
     {
-        self.owned.push(Span { from, to })?;
+        if from < records {
+            let to = (from + piece).min(records);
+            self.owned.push(Span { from, to })?;
+        } else {
+            self.told = true;
+        }
         Ok(())
-    }
-
-    pub(crate) fn tell(&mut self)
-        ensures { self.new ≡ is_told self.old }
-    {
-        self.told = true;
     }
 
     pub(crate) fn half(&self, alloc: Alloc) -> Result<Book, Memory>

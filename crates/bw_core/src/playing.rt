@@ -97,14 +97,8 @@ impl State {
             return Ok(Played::NotAllowed);
         }
         let from = self.next;
-        let next = from + self.piece;
-        if from < self.records {
-            let to = next.min(self.records);
-            self.books[seat as usize].claim(from, to)?;
-        } else {
-            self.books[seat as usize].tell();
-        }
-        self.next = next;
+        self.books[seat as usize].claim(self.piece, self.records, from)?;
+        self.next = from + self.piece;
         Ok(Played::Done(from))
     }
 
