@@ -1,23 +1,28 @@
-use Rattle.std.proofs.Common.{rules, arith, sym, ap, subst, refl, inl, inr, ◌∙◌, ◌≡◌, ◌≢◌, ◌<◌, ◌≤◌, ◌+◌, ◌^◌, ℕ, List, [], ◌∷◌, ◌++◌, length, get_or, set, true, false, Some, None}
-use Rattle.std.proofs.lemmas.List.{get_or_read}
+use Rattle.std.proofs.Common.{rules, arith, sym, ap, subst, refl, inl, inr, ◌∙◌, ◌≡◌, ◌≢◌, ◌⊎◌, ◌<◌, ◌≤◌, ◌+◌, ◌^◌, ℕ, List, [], ◌∷◌, ◌++◌, length, get_or, set, true, false, Some, None}
+use Rattle.std.proofs.lemmas.List.{get_or_read, get_or_append_left, set-append_left, length_push}
+use native.Mathlib.Decide.{dec_lt}
 use Rattle.bw_core.specs.declared.BookView.{BookView}
 use Rattle.bw_core.specs.declared.Played.TheVariants.{Done, Lost, NotAllowed}
-use Rattle.bw_core.specs.World.{World, Each, seen_at, end_at, top, owns, spent}
-use Rattle.bw_core.specs.Events.{moved, looked, linked, won, lost_to, replaced, came_late, takes_piece, is_told, split_left, split_right, joined}
+use Rattle.bw_core.specs.World.{World, spent}
+use Rattle.bw_core.specs.Events.{moved, takes_piece, is_told, split_left, split_right, joined}
 use Rattle.bw_core.specs.Inside.{view_of}
-use Rattle.bw_core.specs.Steps.{IsWorld, IsSeat, IsFresh, MayTry, MayClaim, MaySplit, MayJoin, MayReplace, Tries, Claims, Splits, Joins, Replaces, claimed}
-use Rattle.bw_core.proofs.Allowed.{read_seat, seat_pages, own_link, page_heads, tried, tried_few, two_widths, claim_fits}
+use Rattle.bw_core.specs.Steps.{IsWorld, MayTry, MayClaim, MaySplit, MayJoin, Claims, Splits, Joins, claimed}
+use Rattle.bw_core.proofs.Allowed.{read_seat, own_link, page_heads, tried, two_widths, claim_fits}
 use Rattle.bw_core.proofs.Lists.{inside_at}
 use Rattle.bw_core.proofs.state.State.attempt.Goals as goal
 
 pub index-requires : goal.index-requires
-index-requires c = ?
+index-requires c = let i = c.self.inside in let w : World = view_of i in let k : IsWorld w = subst IsWorld (sym c.self.view_is) c.requires in let may = subst (λ (z : World). (b : BookView) × MayTry z c.args.seat c.args.rec c.args.page b c.in-Some.lost) (sym c.self.view_is) c.in-Some.ensures in let u = tried w k c.args.seat c.args.rec c.args.page may.0 c.in-Some.lost may.1 in let ok = i.heads.ok in let h = page_heads w k c.args.page u.on_page in omega arith
 
 pub index-requires-2 : goal.index-requires-2
-index-requires-2 c = ?
+index-requires-2 c = let i = c.self.inside in let w : World = view_of i in let k : IsWorld w = subst IsWorld (sym c.self.view_is) c.requires in let may = subst (λ (z : World). (b : BookView) × MayTry z c.args.seat c.args.rec c.args.page b c.in-Some.lost) (sym c.self.view_is) c.in-Some.ensures in let u = tried w k c.args.seat c.args.rec c.args.page may.0 c.in-Some.lost may.1 in let ok = i.links.ok in let l = (own_link w k c.args.seat c.args.rec may.0 may.1.0 u.own).0 in omega arith
 
 pub win-requires-clause-hit : goal.win-requires-clause-hit
-win-requires-clause-hit c = ?
+win-requires-clause-hit c = let i = c.self.inside in let w : World = view_of i in let k : IsWorld w = subst IsWorld (sym c.self.view_is) c.requires in let may = subst (λ (z : World). (b : BookView) × MayTry z c.args.seat c.args.rec c.args.page b c.in-Some.lost) (sym c.self.view_is) c.in-Some.ensures in let u = tried w k c.args.seat c.args.rec c.args.page may.0 c.in-Some.lost may.1 in let h = page_heads w k c.args.page u.on_page in let l = (own_link w k c.args.seat c.args.rec may.0 may.1.0 u.own).0 in
+    let head : c.index.result.now ≡ get_or i.heads.items c.args.page 0 = get_or_read i.heads.items c.args.page _ h c.index.ensures 0 in let link : c.index-2.result.now ≡ get_or i.links.items c.args.rec 0 = get_or_read i.links.items c.args.rec _ l c.index-2.ensures 0 in
+    subst (λ (z : World). get_or z.heads c.args.page 0 ≡ get_or z.links c.args.rec 0) c.self.view_is (sym head ∙ (c.if-index.true ∙ link))
 
 pub lose-requires-clause-miss : goal.lose-requires-clause-miss
-lose-requires-clause-miss c = ?
+lose-requires-clause-miss c = let i = c.self.inside in let w : World = view_of i in let k : IsWorld w = subst IsWorld (sym c.self.view_is) c.requires in let may = subst (λ (z : World). (b : BookView) × MayTry z c.args.seat c.args.rec c.args.page b c.in-Some.lost) (sym c.self.view_is) c.in-Some.ensures in let u = tried w k c.args.seat c.args.rec c.args.page may.0 c.in-Some.lost may.1 in let h = page_heads w k c.args.page u.on_page in let l = (own_link w k c.args.seat c.args.rec may.0 may.1.0 u.own).0 in
+    let head : c.index.result.now ≡ get_or i.heads.items c.args.page 0 = get_or_read i.heads.items c.args.page _ h c.index.ensures 0 in let link : c.index-2.result.now ≡ get_or i.links.items c.args.rec 0 = get_or_read i.links.items c.args.rec _ l c.index-2.ensures 0 in
+    subst (λ (z : World). get_or z.heads c.args.page 0 ≢ get_or z.links c.args.rec 0) c.self.view_is (λ e. c.if-index.false (head ∙ (e ∙ sym link)))
