@@ -1,8 +1,9 @@
 -- A new world is lawful, and any list of events keeps it so.
-use Rattle.std.proofs.Common.{◌⊎◌, inl, inr, ◌≡◌, ◌≢◌, ℕ, zero, suc, ◌+◌, ◌<◌, ◌≤◌, min, ltb, eqb, true, false, ◌&&◌, List, [], ◌∷◌, ◌++◌, length, get_or, set, sym, refl, ap, ◌∙◌, subst, arith, Option, Some, None}
+use Rattle.std.proofs.Common.{◌⊎◌, inl, inr, ◌≡◌, ◌≢◌, ℕ, zero, suc, ◌+◌, ◌<◌, ◌≤◌, min, ltb, eqb, true, false, ◌&&◌, List, [], ◌∷◌, ◌++◌, length, get_or, set, sym, refl, ap, ◌∙◌, subst, arith, Option, Some, None, Result, Ok, Err, IfOk, OnErr}
 use mathlib.Core.Option.{some, some-injective, some-ne-none}
 use lib.ListN.{get_elem?, replicate, length-replicate}
 use Rattle.std.proofs.lemmas.Bool.Decides.{nat_tests}
+use Rattle.bw_key.specs.declared.Memory.{Memory}
 use Rattle.bw_core.specs.declared.Event.{Event}
 use Rattle.bw_core.specs.declared.Event.TheVariants.{Look, Link, Try, Follow, Claim, Split, Join, Replace}
 use Rattle.bw_core.specs.declared.Played.{Played}
@@ -118,6 +119,11 @@ pub run_keeps : RunKeeps
 run_keeps w q [] w' e = same_world w q w' e
 run_keeps w q (e ∷ es) w' t = let k = event_keeps w q e t.0 t.1 t.2 in keeps_twice w q t.0 k w' (run_keeps t.0 k.0 es w' t.3)
 
+-- one event more
+pub runs-push : (w : World) (es : List Event) (m : World) (e : Event) (w' : World) (a : Played) → Runs w es m → Applies m e w' a → Runs w (es ++ e ∷ []) w'
+runs-push w [] m e w' a is h = (w', a, subst (λ z. Applies z e w' a) is h, refl)
+runs-push w (d ∷ es) m e w' a t h = (t.0, t.1, t.2, runs-push t.0 es m e w' a t.3 h)
+
 -- what holds of a world at run time stays so
 pub world_keeps : (w : World) (i : IsWorld w) (w' : World) → Keeps w i.lawful w' → IsWorld w'
 world_keeps w i w' k = let s = k.1.start_stays in record {
@@ -162,3 +168,15 @@ start_is_lawful first floor records piece spares can = let b : BookView = first_
       seen_end = λ p _ h. subst (λ z. IsEnd z []) (sym (blank (length first) p)) (end_self []);
       seen_own = λ p r _ h. omega arith;
     })
+
+pub start_is_world : (first : List ℕ) (floor records piece : ℕ) (spares : List (Option ℕ)) → CanStart first floor records piece spares → IsWorld (start_world first floor records piece spares)
+start_is_world first floor records piece spares can = record { lawful = start_is_lawful first floor records piece spares can; words_fit = can.words_fit; piece_fits = can.piece_fits; spare_each_page = can.spare_each_page }
+
+-- an event that was played, or found no memory
+pub played_world : (w w' : World) (e : Event) (r : Result Played Memory) → IsWorld w → IfOk r (λ a. Applies w e w' a) → OnErr r (w' ≡ w) → IsWorld w'
+played_world w w' e (Ok a) i h k = world_keeps w i w' (event_keeps w i.lawful e w' a h)
+played_world w w' e (Err m) i h k = subst IsWorld (sym k) i
+
+pub played_keeps : (w w' : World) (e : Event) (r : Result Played Memory) → IsWorld w → IfOk r (λ a. Applies w e w' a) → IfOk r (λ _. (q : Lawful w) × Keeps w q w')
+played_keeps w w' e (Ok a) i h = (i.lawful, event_keeps w i.lawful e w' a h)
+played_keeps w w' e (Err m) i h = tt

@@ -6,8 +6,10 @@ mod copies;
 pub mod laws;
 mod playing;
 mod state;
+mod world;
 
 pub use book::Book;
+pub use world::World;
 
 /// Record numbers from `from` on, below `to`.
 #[derive(Clone, Copy, Debug, PartialEq, Eq)]

@@ -1,16 +1,33 @@
 //! What each event changes and answers. What may find no memory comes before the first change.
 ghost use Rattle.std.specs.Prelude.{◌≡◌, ◌≢◌, ◌<◌, ◌≤◌, ℕ, None, Some, length, slice_index, IfOk, OnErr, false};
 ghost use Rattle.bw_core.specs.World.{World as WorldView};
-ghost use Rattle.bw_core.specs.Steps.{IsWorld, IsFresh, IsSeat, MayTry, MayReplace, Looks, Links, Tries, Follows, Claims, Splits, Joins, Replaces};
+ghost use Rattle.bw_core.specs.Steps.{IsWorld, IsFresh, IsSeat, MayTry, MayReplace, Applies, Looks, Links, Tries, Follows, Claims, Splits, Joins, Replaces};
 ghost use Rattle.bw_core.specs.declared.BookView.{BookView};
 
-use crate::Played;
+use crate::{Event, Played};
 use crate::book::Book;
 use crate::state::State;
 use bw_key::Memory;
 
 impl State {
-    pub(crate) fn look(&mut self, seat: u64, page: u64) -> Result<Played, Memory>
+    pub(crate) fn play(&mut self, event: Event) -> Result<Played, Memory>
+        requires { IsWorld self.old }
+        ensures ok { IfOk result (λ a. Applies self.old event self.new a) }
+        ensures err { OnErr result (self.new ≡ self.old) }
+    {
+        match event {
+            Event::Look { seat, page } => self.look(seat, page),
+            Event::Link { seat, rec, page } => Ok(self.link(seat, rec, page)),
+            Event::Try { seat, rec, page } => self.attempt(seat, rec, page),
+            Event::Follow { seat, rec } => Ok(self.follow(seat, rec)),
+            Event::Claim { seat } => self.claim(seat),
+            Event::Split { seat } => self.split(seat),
+            Event::Join { into, other } => self.join(into, other),
+            Event::Replace { seat, page } => self.replace(seat, page),
+        }
+    }
+
+    fn look(&mut self, seat: u64, page: u64) -> Result<Played, Memory>
         requires { IsWorld self.old }
         ensures ok { IfOk result (λ a. Looks self.old seat page self.new a) }
         ensures err { OnErr result (self.new ≡ self.old) }
@@ -23,7 +40,7 @@ impl State {
         Ok(Played::Done(self.heads[page as usize]))
     }
 
-    pub(crate) fn link(&mut self, seat: u64, rec: u64, page: u64) -> Played
+    fn link(&mut self, seat: u64, rec: u64, page: u64) -> Played
         requires { IsWorld self.old }
         ensures { Links self.old seat rec page self.new result }
     {
@@ -37,7 +54,7 @@ impl State {
         Played::Done(word)
     }
 
-    pub(crate) fn follow(&self, seat: u64, rec: u64) -> Played
+    fn follow(&self, seat: u64, rec: u64) -> Played
         requires { IsWorld self.now }
         ensures { Follows self.now seat rec self.now result }
     {
@@ -47,7 +64,7 @@ impl State {
         Played::Done(self.links[rec as usize])
     }
 
-    pub(crate) fn attempt(&mut self, seat: u64, rec: u64, page: u64) -> Result<Played, Memory>
+    fn attempt(&mut self, seat: u64, rec: u64, page: u64) -> Result<Played, Memory>
         requires { IsWorld self.old }
         ensures ok { IfOk result (λ a. Tries self.old seat rec page self.new a) }
         ensures err { OnErr result (self.new ≡ self.old) }
@@ -88,7 +105,7 @@ impl State {
         Ok(Played::Lost(self.heads[page as usize]))
     }
 
-    pub(crate) fn claim(&mut self, seat: u64) -> Result<Played, Memory>
+    fn claim(&mut self, seat: u64) -> Result<Played, Memory>
         requires { IsWorld self.old }
         ensures ok { IfOk result (λ a. Claims self.old seat self.new a) }
         ensures err { OnErr result (self.new ≡ self.old) }
@@ -102,7 +119,7 @@ impl State {
         Ok(Played::Done(from))
     }
 
-    pub(crate) fn split(&mut self, seat: u64) -> Result<Played, Memory>
+    fn split(&mut self, seat: u64) -> Result<Played, Memory>
         requires { IsWorld self.old }
         ensures ok { IfOk result (λ a. Splits self.old seat self.new a) }
         ensures err { OnErr result (self.new ≡ self.old) }
@@ -117,7 +134,7 @@ impl State {
         Ok(Played::Done(new))
     }
 
-    pub(crate) fn join(&mut self, into: u64, other: u64) -> Result<Played, Memory>
+    fn join(&mut self, into: u64, other: u64) -> Result<Played, Memory>
         requires { IsWorld self.old }
         ensures ok { IfOk result (λ a. Joins self.old into other self.new a) }
         ensures err { OnErr result (self.new ≡ self.old) }
@@ -135,7 +152,7 @@ impl State {
         Ok(Played::Done(other))
     }
 
-    pub(crate) fn replace(&mut self, seat: u64, page: u64) -> Result<Played, Memory>
+    fn replace(&mut self, seat: u64, page: u64) -> Result<Played, Memory>
         requires { IsWorld self.old }
         ensures ok { IfOk result (λ a. Replaces self.old seat page self.new a) }
         ensures err { OnErr result (self.new ≡ self.old) }

@@ -1,7 +1,7 @@
 //! The words and books of a world, before anything is said of them.
 ghost use Rattle.std.specs.Prelude.{◌≡◌, ◌≢◌, ◌↔◌, ◌<◌, ℕ, None, Some, length, slice_index, IsTrue, IfOk, MatchOption, false};
 ghost use Rattle.bw_core.specs.World.{World as WorldView};
-ghost use Rattle.bw_core.specs.Steps.{IsWorld, IsFresh, IsSeat, MayLook, MayLink, MayTry, MayFollow, MayClaim, MaySplit, MayJoin, MayReplace};
+ghost use Rattle.bw_core.specs.Steps.{IsWorld, start_world, IsFresh, IsSeat, MayLook, MayLink, MayTry, MayFollow, MayClaim, MaySplit, MayJoin, MayReplace};
 ghost use Rattle.bw_core.specs.declared.BookView.{BookView};
 
 use crate::book::{Book, Chain};
@@ -32,6 +32,38 @@ impl Model for State {
     ghost use Rattle.bw_core.specs.Inside.{view_of};
 
     ghost view = { view_of };
+}
+
+impl State {
+    pub(crate) fn start(
+        alloc: Alloc,
+        first: &[u64],
+        floor: u64,
+        records: u64,
+        piece: u64,
+        spares: &[Option<u64>],
+    ) -> Result<State, Memory>
+        ensures { IfOk result (λ s. s ≡ start_world first.now floor records piece spares.now) }
+    {
+        let mut links = Vec::new(alloc);
+        for rec in 0..records {
+            links.push(0)?;
+        }
+        let mut books = Vec::new(alloc);
+        books.push(Book::new(alloc, first)?)?;
+        Ok(State {
+            alloc,
+            first: Vec::from_slice(alloc, first)?,
+            floor,
+            records,
+            piece,
+            spares: Vec::from_slice(alloc, spares)?,
+            next: 0,
+            heads: Vec::from_slice(alloc, first)?,
+            links,
+            books,
+        })
+    }
 }
 
 /// What an event asks for. A number of lost exchanges, or a spare, comes with the answer where the event needs it.
