@@ -67,12 +67,16 @@ impl Book {
         self.under
     }
 
-    /// The chain of new records that was last seen at the page, newest first.
-    pub fn seen(&self, page: u64) -> &[u64]
-        requires { page < length self.now.seen }
-        ensures { result.now ≡ seen_at self.now page }
+    /// The chain of new records that was last seen at the page, newest first. None where there is no such page, and in a book
+    /// that was joined into another.
+    pub fn seen(&self, page: u64) -> Option<&[u64]>
+        ensures { MatchOption result (length self.now.seen ≤ page) (λ chain. (page < length self.now.seen) × (chain.now ≡ seen_at self.now page)) }
     {
-        self.seen[page as usize].as_slice()
+        if (page as usize) < self.seen.len() {
+            Some(self.seen[page as usize].as_slice())
+        } else {
+            None
+        }
     }
 
     /// For each page the word below the floor that was last seen there.
@@ -130,7 +134,7 @@ impl Book {
         requires fits { Each (λ r. floor + r < 2 ^ 64) (seen_at self.now page) }
         ensures { result ≡ top floor (end_at self.now page) (seen_at self.now page) }
     {
-        match self.seen(page).first() {
+        match self.seen[page as usize].first() {
             Some(rec) => floor + *rec,
             None => self.ends[page as usize],
         }

@@ -2,7 +2,7 @@ use Rattle.std.proofs.Common.{rules, arith, ℕ, ◌≡◌, ◌<◌, ◌++◌, �
 use Rattle.std.proofs.lemmas.List.{length-map, take_all}
 use Rattle.bw_memory.specs.Alloc.{Vec}
 use Rattle.bw_core.specs.Events.{later_of, latest}
-use Rattle.bw_core.proofs.Tests.{one_word_more}
+use Rattle.bw_core.proofs.Members.{one_word_more}
 use Rattle.bw_core.proofs.Seats.{latest_at_page, latest-length}
 use Rattle.bw_core.proofs.copies.latest.Goals as goal
 

@@ -2,7 +2,7 @@ use Rattle.std.proofs.Common.{rules, arith, ℕ, ◌≡◌, ◌<◌, ◌++◌, �
 use Rattle.std.proofs.lemmas.List.{length-map, take_all}
 use Rattle.bw_memory.specs.Alloc.{Vec}
 use Rattle.bw_core.specs.Events.{longer_of, longest}
-use Rattle.bw_core.proofs.Tests.{get_or-map, one_more}
+use Rattle.bw_core.proofs.Members.{get_or-map, one_more}
 use Rattle.bw_core.proofs.Seats.{longest_at, longest-length}
 use Rattle.bw_core.proofs.copies.longest.Goals as goal
 

@@ -6,7 +6,7 @@ use Rattle.std.proofs.lemmas.Iterator.Search.{any_from_yields_List}
 use Rattle.bw_memory.specs.Alloc.{Vec}
 use Rattle.bw_core.specs.declared.BookView.{BookView}
 use Rattle.bw_core.specs.World.{times, seen_at}
-use Rattle.bw_core.proofs.Tests.{found_in, found_if}
+use Rattle.bw_core.proofs.Members.{found_in, found_if}
 use Rattle.bw_core.proofs.book.Book.has_seen.Goals as goal
 
 pub returns : goal.returns

@@ -4,7 +4,7 @@ use Rattle.std.proofs.lemmas.Iterator.Search.{any_from_yields_List}
 use Rattle.bw_core.specs.declared.Swap.{Swap}
 use Rattle.bw_core.specs.declared.BookView.{BookView}
 use Rattle.bw_core.specs.World.{tries_in}
-use Rattle.bw_core.proofs.Tests.{test_is}
+use Rattle.bw_core.proofs.Members.{test_is}
 use Rattle.bw_core.proofs.book.Book.has_tried.Goals as goal
 
 pub returns : goal.returns

@@ -4,7 +4,7 @@ use Rattle.std.proofs.lemmas.Iterator.Search.{any_from_yields_List}
 use Rattle.bw_core.specs.declared.Span.{Span}
 use Rattle.bw_core.specs.declared.BookView.{BookView}
 use Rattle.bw_core.specs.World.{owns}
-use Rattle.bw_core.proofs.Tests.{test_is}
+use Rattle.bw_core.proofs.Members.{test_is}
 use Rattle.bw_core.proofs.book.Book.owns.Goals as goal
 
 pub returns : goal.returns

@@ -3,7 +3,7 @@ use Rattle.std.proofs.lemmas.List.{length-map}
 use lib.Seq.{map-set}
 use Rattle.bw_core.specs.declared.BookView.{BookView}
 use Rattle.bw_core.specs.Events.{won, post}
-use Rattle.bw_core.proofs.Tests.{get_or-map}
+use Rattle.bw_core.proofs.Members.{get_or-map}
 use Rattle.bw_core.proofs.book.Book.win.Goals as goal
 
 pub returns-clause-ok : goal.returns-clause-ok
