@@ -102,18 +102,21 @@ stays_posted w q w' k r h = let t = posted_on w q r h in let p = t.0 in let page
     let c = total-le (λ (b : BookView). posts_at p r b.posted) (λ b. posts_in r b.posted) w'.books (λ j x e. posts_at-le p r x.posted) in omega arith
 
 pub keeps_twice : (w : World) (q : Lawful w) (m : World) (k : Keeps w q m) (w' : World) → Keeps m k.0 w' → Keeps w q w'
-keeps_twice w q m k w' l = let a = k.1 in let c = l.1 in (l.0, record {
-  grows = λ p. end_trans (q.fresh p) (k.0.fresh p) (l.0.fresh p) (a.grows p) (c.grows p);
-  lasts = λ p. or_then (get_or w.first p 0) (q.last p) (k.0.last p) (l.0.last p) (a.lasts p) (subst (λ z. (k.0.last p ≡ get_or z p 0) ⊎ (k.0.last p ≡ l.0.last p)) a.start_stays.first (c.lasts p));
-  links_stay = λ r h. c.links_stay r (stays_posted w q m k r h) ∙ a.links_stay r h;
-  start_stays = record {
-    first = c.start_stays.first ∙ a.start_stays.first;
-    floor = c.start_stays.floor ∙ a.start_stays.floor;
-    records = c.start_stays.records ∙ a.start_stays.records;
-    piece = c.start_stays.piece ∙ a.start_stays.piece;
-    spares = c.start_stays.spares ∙ a.start_stays.spares;
-  };
-})
+keeps_twice w q m k w' l = let a = k.1 in let c = l.1 in (
+  l.0,
+  record {
+    grows = λ p. end_trans (q.fresh p) (k.0.fresh p) (l.0.fresh p) (a.grows p) (c.grows p);
+    lasts = λ p. or_then (get_or w.first p 0) (q.last p) (k.0.last p) (l.0.last p) (a.lasts p) (subst (λ z. (k.0.last p ≡ get_or z p 0) ⊎ (k.0.last p ≡ l.0.last p)) a.start_stays.first (c.lasts p));
+    links_stay = λ r h. c.links_stay r (stays_posted w q m k r h) ∙ a.links_stay r h;
+    start_stays = record {
+      first = c.start_stays.first ∙ a.start_stays.first;
+      floor = c.start_stays.floor ∙ a.start_stays.floor;
+      records = c.start_stays.records ∙ a.start_stays.records;
+      piece = c.start_stays.piece ∙ a.start_stays.piece;
+      spares = c.start_stays.spares ∙ a.start_stays.spares;
+    };
+  },
+)
 
 pub run_keeps : RunKeeps
 run_keeps w q [] w' e = same_world w q w' e

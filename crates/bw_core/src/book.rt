@@ -156,7 +156,9 @@ impl Book {
         ensures { MatchOption result ((lost : ℕ) → self.now.under ≡ Some (under rec page lost true) → ⊥) (λ lost. self.now.under ≡ Some (under rec page lost true)) }
     {
         match self.under {
-            Some(under) if under.rec == rec && under.page == page && under.armed => Some(under.lost),
+            Some(under) if under.rec == rec && under.page == page && under.armed => Some(
+                under.lost,
+            ),
             _ => None,
         }
     }

@@ -8,7 +8,11 @@ use bw_memory::Alloc;
 type Chains = Vec<Vec<u64, Alloc>, Alloc>;
 
 // One list after the other.
-pub(crate) fn concat<T: Copy>(alloc: Alloc, front: &[T], back: &[T]) -> Result<Vec<T, Alloc>, Memory>
+pub(crate) fn concat<T: Copy>(
+    alloc: Alloc,
+    front: &[T],
+    back: &[T],
+) -> Result<Vec<T, Alloc>, Memory>
     ensures { IfOk result (λ v. v.items ≡ front.now ++ back.now) }
 {
     let mut both = Vec::from_slice(alloc, front)?;

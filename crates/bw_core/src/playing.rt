@@ -4,9 +4,9 @@ ghost use Rattle.bw_core.specs.World.{World as WorldView};
 ghost use Rattle.bw_core.specs.Steps.{IsWorld, IsFresh, IsSeat, MayTry, MayReplace, Applies, Looks, Links, Tries, Follows, Claims, Splits, Joins, Replaces};
 ghost use Rattle.bw_core.specs.declared.BookView.{BookView};
 
-use crate::{Event, Played};
 use crate::book::Book;
 use crate::state::State;
+use crate::{Event, Played};
 use bw_key::Memory;
 
 impl State {
