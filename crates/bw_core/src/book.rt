@@ -156,9 +156,9 @@ impl Book {
         ensures { MatchOption result ((lost : ℕ) → self.now.under ≡ Some (under rec page lost true) → ⊥) (λ lost. self.now.under ≡ Some (under rec page lost true)) }
     {
         match self.under {
-            Some(under) if under.rec == rec && under.page == page && under.armed => Some(
-                under.lost,
-            ),
+            Some(under) if under.armed && under.rec == rec && under.page == page => {
+                Some(under.lost)
+            }
             _ => None,
         }
     }
@@ -278,14 +278,11 @@ impl Book {
     {
         Ok(Book {
             live: true,
-            owned: Vec::new(alloc),
-            posted: Vec::new(alloc),
-            under: None,
             seen: copies::copied(alloc, self.seen.as_slice())?,
             ends: Vec::from_slice(alloc, self.ends.as_slice())?,
-            swaps: Vec::new(alloc),
             width: self.width / 2,
             told: self.told,
+            ..Book::spent(alloc)
         })
     }
 
