@@ -250,12 +250,13 @@ impl Book {
         ensures { self.new ≡ lost_to self.old rec page lost chain.records.items chain.last }
     {
         self.look(page, chain);
-        self.under = Some(Under {
+        let unarmed = Under {
             rec,
             page,
             lost: lost + 1,
             armed: false,
-        });
+        };
+        self.under = Some(unarmed);
     }
 
     pub(crate) fn claim(&mut self, piece: u64, records: u64, from: u64) -> Result<(), Memory>
