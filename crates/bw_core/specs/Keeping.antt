@@ -14,23 +14,27 @@ use Rattle.bw_core.specs.Steps.{IsSeat, IsFresh, Applies, Runs, CanStart, start_
 abbrev pub FreshIsRead : Type 0
 FreshIsRead = (w : World) (q : Lawful w) (page : ℕ) (s : List ℕ) (x : ℕ) → page < length w.first → IsFresh w page s x → (s ≡ q.fresh page) × (x ≡ q.last page)
 
+-- a new world is lawful
 abbrev pub StartIsLawful : Type 0
 StartIsLawful = (first : List ℕ) (floor records piece : ℕ) (spares : List (Option ℕ)) → CanStart first floor records piece spares → Lawful (start_world first floor records piece spares)
 
+-- the page's whole chain is seen
 abbrev pub LookKeeps : Type 0
 LookKeeps = (w : World) (q : Lawful w) (seat : ℕ) (b : BookView) (page : ℕ) → get_elem? w.books seat ≡ some b → b.live ≡ true → page < length w.first
     → Keeps w q (moved w w.heads w.links (slice_set w.books seat (looked b page (q.fresh page) (q.last page))))
 
--- the bound on `lost` is that of a record under way, and holds of a new record, which has lost nothing
+-- the top of the seen chain is stored as the link; the bound on `lost` is that of a record under way, and holds of a new record, which has lost nothing
 abbrev pub LinkKeeps : Type 0
 LinkKeeps = (w : World) (q : Lawful w) (seat : ℕ) (b : BookView) (rec page lost : ℕ) → get_elem? w.books seat ≡ some b → b.live ≡ true → page < length w.first → 0 < owns rec b → posts_in rec b.posted ≡ 0
     → lost ≤ length (seen_at b page) + late (slice_index w.first page) (end_at b page)
     → Keeps w q (moved w w.heads (slice_set w.links rec (top w.floor (end_at b page) (seen_at b page))) (slice_set w.books seat (linked b rec page lost)))
 
+-- the head is the armed record's link, and becomes the record's word
 abbrev pub WinKeeps : Type 0
 WinKeeps = (w : World) (q : Lawful w) (seat : ℕ) (b : BookView) (rec page lost : ℕ) → get_elem? w.books seat ≡ some b → b.under ≡ Some (under rec page lost true) → slice_index w.heads page ≡ slice_index w.links rec
     → Keeps w q (moved w (slice_set w.heads page (w.floor + rec)) w.links (slice_set w.books seat (won b rec page lost)))
 
+-- the head is another word, and the page's whole chain is seen
 abbrev pub LoseKeeps : Type 0
 LoseKeeps = (w : World) (q : Lawful w) (seat : ℕ) (b : BookView) (rec page lost : ℕ) → get_elem? w.books seat ≡ some b → b.under ≡ Some (under rec page lost true) → slice_index w.heads page ≢ slice_index w.links rec
     → Keeps w q (moved w w.heads w.links (slice_set w.books seat (lost_to b rec page lost (q.fresh page) (q.last page))))
@@ -39,26 +43,32 @@ LoseKeeps = (w : World) (q : Lawful w) (seat : ℕ) (b : BookView) (rec page los
 abbrev pub FollowKeeps : Type 0
 FollowKeeps = (w : World) (q : Lawful w) → Keeps w q w
 
+-- a claim that finds records
 abbrev pub ClaimKeepsPiece : Type 0
 ClaimKeepsPiece = (w : World) (q : Lawful w) (seat : ℕ) (b : BookView) → get_elem? w.books seat ≡ some b → b.live ≡ true → b.under ≡ None → b.told ≡ false → w.next < w.records
     → Keeps w q (claimed w seat (takes_piece w.piece w.records w.next b))
 
+-- a claim that finds none
 abbrev pub ClaimKeepsTold : Type 0
 ClaimKeepsTold = (w : World) (q : Lawful w) (seat : ℕ) (b : BookView) → get_elem? w.books seat ≡ some b → b.live ≡ true → b.under ≡ None → b.told ≡ false → w.records ≤ w.next
     → Keeps w q (claimed w seat (is_told b))
 
+-- a seat parts in two
 abbrev pub SplitKeeps : Type 0
 SplitKeeps = (w : World) (q : Lawful w) (seat : ℕ) (b : BookView) → get_elem? w.books seat ≡ some b → b.live ≡ true → b.under ≡ None → 2 ≤ b.width
     → Keeps w q (moved w w.heads w.links (slice_set w.books seat (split_left b) ++ split_right b ∷ []))
 
+-- a seat takes over what another had
 abbrev pub JoinKeeps : Type 0
 JoinKeeps = (w : World) (q : Lawful w) (into other : ℕ) (b d : BookView) → get_elem? w.books into ≡ some b → get_elem? w.books other ≡ some d → other ≢ into → b.live ≡ true → d.live ≡ true
     → b.under ≡ None → d.under ≡ None → Keeps w q (moved w w.heads w.links (slice_set (slice_set w.books into (joined w.first b d)) other spent))
 
+-- the head is the first word, and becomes the spare
 abbrev pub ReplaceKeepsWon : Type 0
 ReplaceKeepsWon = (w : World) (q : Lawful w) (seat : ℕ) (b : BookView) (page spare : ℕ) → get_elem? w.books seat ≡ some b → b.live ≡ true → b.under ≡ None → page < length w.first → spare_at w page ≡ Some spare
     → slice_index w.heads page ≡ slice_index w.first page → Keeps w q (moved w (slice_set w.heads page spare) w.links (slice_set w.books seat (replaced b page spare)))
 
+-- the page's whole chain is seen, and the try is written down as late
 abbrev pub ReplaceKeepsLate : Type 0
 ReplaceKeepsLate = (w : World) (q : Lawful w) (seat : ℕ) (b : BookView) (page : ℕ) → get_elem? w.books seat ≡ some b → b.live ≡ true → b.under ≡ None → page < length w.first
     → Keeps w q (moved w w.heads w.links (slice_set w.books seat (came_late b page (q.fresh page) (q.last page))))

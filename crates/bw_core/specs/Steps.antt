@@ -22,84 +22,95 @@ IsSeat w seat b = (get_elem? w.books seat ≡ some b) × (b.live ≡ true)
 abbrev pub IsRefused : World → World → Played → Type 0
 IsRefused w w' a = (w' ≡ w) × (a ≡ NotAllowed)
 
--- look: the whole chain of the page is seen
+-- a look asks for a page
 abbrev pub MayLook : World → ℕ → ℕ → BookView → Type 0
 MayLook w seat page b = IsSeat w seat b × (page < length w.first)
 
+-- it sees the whole chain of the page, and answers the head
 abbrev pub Looks : World → ℕ → ℕ → World → Played → Type 0
 Looks w seat page w' a = ((b : BookView) × (s : List ℕ) × (x : ℕ) × MayLook w seat page b × IsFresh w page s x
     × (w' ≡ moved w w.heads w.links (slice_set w.books seat (looked b page s x))) × (a ≡ Done (slice_index w.heads page)))
     ⊎ (((b : BookView) → MayLook w seat page b → ⊥) × IsRefused w w' a)
 
--- link: an own record that is not posted gets the top of the seen chain as its link
+-- a link asks for an own record that is not posted, with nothing else under way
 abbrev pub MayLink : World → ℕ → ℕ → ℕ → BookView → ℕ → Type 0
 MayLink w seat rec page b lost = IsSeat w seat b × (page < length w.first) × (0 < owns rec b) × (posts_in rec b.posted ≡ 0) × Resumes b rec page lost
 
+-- it stores the top of the seen chain as the record's link, and answers that word
 abbrev pub Links : World → ℕ → ℕ → ℕ → World → Played → Type 0
 Links w seat rec page w' a = ((b : BookView) × (lost : ℕ) × MayLink w seat rec page b lost
     × (w' ≡ moved w w.heads (slice_set w.links rec (top w.floor (end_at b page) (seen_at b page))) (slice_set w.books seat (linked b rec page lost)))
     × (a ≡ Done (top w.floor (end_at b page) (seen_at b page))))
     ⊎ (((b : BookView) (lost : ℕ) → MayLink w seat rec page b lost → ⊥) × IsRefused w w' a)
 
--- try: an armed record becomes the head where the head is still its link, and else it has lost and the chain is seen
+-- a try asks for an armed record
 abbrev pub MayTry : World → ℕ → ℕ → ℕ → BookView → ℕ → Type 0
 MayTry w seat rec page b lost = IsSeat w seat b × (b.under ≡ Some (under rec page lost true))
 
+-- the head is still the record's link: the record becomes the head
 abbrev pub Wins : World → ℕ → ℕ → ℕ → BookView → ℕ → World → Played → Type 0
 Wins w seat rec page b lost w' a = (slice_index w.heads page ≡ slice_index w.links rec)
     × (w' ≡ moved w (slice_set w.heads page (w.floor + rec)) w.links (slice_set w.books seat (won b rec page lost))) × (a ≡ Done (w.floor + rec))
 
+-- the head is another word: the exchange is lost, and the present chain is seen
 abbrev pub Loses : World → ℕ → ℕ → ℕ → BookView → ℕ → World → Played → Type 0
 Loses w seat rec page b lost w' a = (s : List ℕ) × (x : ℕ) × (slice_index w.heads page ≢ slice_index w.links rec) × IsFresh w page s x
     × (w' ≡ moved w w.heads w.links (slice_set w.books seat (lost_to b rec page lost s x))) × (a ≡ Lost (slice_index w.heads page))
 
+-- it wins or loses
 abbrev pub Tries : World → ℕ → ℕ → ℕ → World → Played → Type 0
 Tries w seat rec page w' a = ((b : BookView) × (lost : ℕ) × MayTry w seat rec page b lost × (Wins w seat rec page b lost w' a ⊎ Loses w seat rec page b lost w' a))
     ⊎ (((b : BookView) (lost : ℕ) → MayTry w seat rec page b lost → ⊥) × IsRefused w w' a)
 
--- follow: the link of a record that was seen is read
+-- a follow asks for a record that the seat saw on some page
 abbrev pub MayFollow : World → ℕ → ℕ → BookView → ℕ → Type 0
 MayFollow w seat rec b page = IsSeat w seat b × (page < length w.first) × (0 < times rec (seen_at b page))
 
+-- it answers the link, and changes nothing
 abbrev pub Follows : World → ℕ → ℕ → World → Played → Type 0
 Follows w seat rec w' a = ((b : BookView) × (page : ℕ) × MayFollow w seat rec b page × (w' ≡ w) × (a ≡ Done (slice_index w.links rec)))
     ⊎ (((b : BookView) (page : ℕ) → MayFollow w seat rec b page → ⊥) × IsRefused w w' a)
 
--- claim: the next piece is owned, or the seat is told that there is none
+-- a claim asks for a seat with nothing under way, which was not told of no record left
 abbrev pub MayClaim : World → ℕ → BookView → Type 0
 MayClaim w seat b = IsSeat w seat b × (b.under ≡ None) × (b.told ≡ false)
 
+-- the world after a claim that left the seat's book as c
 abbrev pub claimed : World → ℕ → BookView → World
 claimed w seat c = record w { next = w.next + w.piece; books = slice_set w.books seat c }
 
+-- it takes the next piece, or the seat is told that there is none; the answer is the number of the next record
 abbrev pub Claims : World → ℕ → World → Played → Type 0
 Claims w seat w' a = ((b : BookView) × MayClaim w seat b
     × (((w.next < w.records) × (w' ≡ claimed w seat (takes_piece w.piece w.records w.next b))) ⊎ ((w.records ≤ w.next) × (w' ≡ claimed w seat (is_told b))))
     × (a ≡ Done w.next))
     ⊎ (((b : BookView) → MayClaim w seat b → ⊥) × IsRefused w w' a)
 
--- split: a new last book gets half the width and what was seen
+-- a split asks for a seat with nothing under way, and a width to share
 abbrev pub MaySplit : World → ℕ → BookView → Type 0
 MaySplit w seat b = IsSeat w seat b × (b.under ≡ None) × (2 ≤ b.width)
 
+-- it makes a new last book, and answers its number
 abbrev pub Splits : World → ℕ → World → Played → Type 0
 Splits w seat w' a = ((b : BookView) × MaySplit w seat b
     × (w' ≡ moved w w.heads w.links (slice_set w.books seat (split_left b) ++ split_right b ∷ [])) × (a ≡ Done (length w.books)))
     ⊎ (((b : BookView) → MaySplit w seat b → ⊥) × IsRefused w w' a)
 
--- join: one book gets what the other had, and the other is spent
+-- a join asks for two seats with nothing under way
 abbrev pub MayJoin : World → ℕ → ℕ → BookView → BookView → Type 0
 MayJoin w into other b d = IsSeat w into b × IsSeat w other d × (other ≢ into) × (b.under ≡ None) × (d.under ≡ None)
 
+-- one book gets what the other had, and the other is spent; the answer is the number of the other
 abbrev pub Joins : World → ℕ → ℕ → World → Played → Type 0
 Joins w into other w' a = ((b : BookView) × (d : BookView) × MayJoin w into other b d
     × (w' ≡ moved w w.heads w.links (slice_set (slice_set w.books into (joined w.first b d)) other spent)) × (a ≡ Done other))
     ⊎ (((b d : BookView) → MayJoin w into other b d → ⊥) × IsRefused w w' a)
 
--- replace: the spare becomes the head where the head is still the first word, and else the seat came late and sees the chain
+-- a replacement asks for a page with a spare, which the seat has not tried, and a seat with nothing under way
 abbrev pub MayReplace : World → ℕ → ℕ → BookView → ℕ → Type 0
 MayReplace w seat page b x = IsSeat w seat b × (b.under ≡ None) × (page < length w.first) × (spare_at w page ≡ Some x) × (tries_in page b.swaps ≡ 0)
 
+-- the spare becomes the head where that is still the first word; else the seat came late, and sees the present chain
 abbrev pub Replaces : World → ℕ → ℕ → World → Played → Type 0
 Replaces w seat page w' a = ((b : BookView) × (spare : ℕ) × MayReplace w seat page b spare
     × (((slice_index w.heads page ≡ slice_index w.first page)
