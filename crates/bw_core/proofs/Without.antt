@@ -1,15 +1,16 @@
--- What a caller of the definitions needs: nothing new without a spare, an armed link in the rule's own words, and sums over joined books.
+-- The law without a spare, an armed link told by what its seat saw, and sums over books.
 use Rattle.std.proofs.Common.{◌⊎◌, inl, inr, ⊎_elim, ◌≡◌, ℕ, ◌+◌, ◌<◌, ◌≤◌, ◌≢◌, leb, ltb, eqb, min, true, ◌&&◌, List, [], ◌∷◌, length, get_or, sym, refl, ap, ◌∙◌, subst, arith, Option, Some, None, append-nil}
 use mathlib.Core.Logic.{dite}
 use native.Mathlib.Decide.{ℕ_discrete}
 use Rattle.std.proofs.lemmas.Bool.Decides.{nat_tests}
 use Rattle.bw_core.specs.declared.Span.{Span}
+use Rattle.bw_core.specs.declared.Post.{Post}
 use Rattle.bw_core.specs.declared.Swap.{Swap}
 use Rattle.bw_core.specs.declared.Under.{Under}
 use Rattle.bw_core.specs.declared.BookView.{BookView}
 use Rattle.bw_core.specs.World.{World, Armed, Lawful, LawfulBook, Meets, IsEnd, IsLast, Each, one_if, beneath, late, top, owns, wins_in, seen_at, end_at}
 use Rattle.bw_core.specs.Events.{span, takes_piece, joined}
-use Rattle.bw_core.specs.Keeping.{SparelessPage}
+use Rattle.bw_core.specs.Keeping.{SparelessPage, ArmedLink, ArmedLinkIs, JoinAdds, ClaimAdds}
 use Rattle.bw_core.proofs.Lists.{total-append, late_first, Each-like}
 use Rattle.bw_core.proofs.Events.{live_under, armed_in}
 
@@ -21,22 +22,17 @@ one_last first spares p x none (inr e) = let f : None ≡ Some x = sym none ∙ 
 pub no_spare : (first : List ℕ) (spares : List (Option ℕ)) (p x : ℕ) → get_or spares p None ≡ None → IsLast first spares p x → late (get_or first p 0) x ≡ 0
 no_spare first spares p x none h = late_first (get_or first p 0) x (one_last first spares p x none h)
 
--- an armed record's link: the top of an end of the seen chain, or a first word that was replaced, under a record that lost nothing
-abbrev pub ArmedWords : (w : World) → (ℕ → ℕ) → BookView → Under → Type 0
-ArmedWords w last b u = ((end : List ℕ) × IsEnd end (seen_at b u.page) × (get_or w.links u.rec 0 ≡ top w.floor (end_at b u.page) end) × (u.lost ≤ length end + late (get_or w.first u.page 0) (end_at b u.page)))
-    ⊎ ((get_or w.links u.rec 0 ≡ get_or w.first u.page 0) × (last u.page ≢ get_or w.first u.page 0) × (u.lost ≡ 0))
-
-pub armed_words : (w : World) (f : ℕ → List ℕ) (l : ℕ → ℕ) (b : BookView) (u : Under) → LawfulBook w f l b → b.live ≡ true → u.page < length w.first → Armed w b u → ArmedWords w l b u
+armed_words : (w : World) (f : ℕ → List ℕ) (l : ℕ → ℕ) (b : BookView) (u : Under) → LawfulBook w f l b → b.live ≡ true → u.page < length w.first → Armed w b u → ArmedLink w l b u
 armed_words w f l b u ok live h m = ⊎_elim (λ (e : m.last ≡ get_or w.first u.page 0). by m.end m.is_end m.linked m.few e)
     (λ (e : m.last ≡ end_at b u.page). inl (m.end, m.is_end, m.linked ∙ ap (λ z. top w.floor z m.end) e, subst (λ z. u.lost ≤ length m.end + late (get_or w.first u.page 0) z) e m.few)) m.last_is
   where
-    by : (end : List ℕ) → IsEnd end (seen_at b u.page) → get_or w.links u.rec 0 ≡ top w.floor m.last end → u.lost ≤ length end + late (get_or w.first u.page 0) m.last → m.last ≡ get_or w.first u.page 0 → ArmedWords w l b u
+    by : (end : List ℕ) → IsEnd end (seen_at b u.page) → get_or w.links u.rec 0 ≡ top w.floor m.last end → u.lost ≤ length end + late (get_or w.first u.page 0) m.last → m.last ≡ get_or w.first u.page 0 → ArmedLink w l b u
     by (r ∷ end) is linked few e = inl (r ∷ end, is, linked, let a = late_first (get_or w.first u.page 0) m.last e in omega arith)
     by [] is linked few e = let a = late_first (get_or w.first u.page 0) m.last e in dite (ℕ_discrete (end_at b u.page) (get_or w.first u.page 0))
         (λ (s : end_at b u.page ≡ get_or w.first u.page 0). inl ([], is, linked ∙ (e ∙ sym s), omega arith))
         (λ n. inr (linked ∙ e, (λ z. n (⊎_elim (λ k. k) (λ k. k ∙ z) (ok.ends_is u.page live h))), omega arith))
 
-pub words_armed : (w : World) (l : ℕ → ℕ) (b : BookView) (u : Under) → ArmedWords w l b u → Armed w b u
+words_armed : (w : World) (l : ℕ → ℕ) (b : BookView) (u : Under) → ArmedLink w l b u → Armed w b u
 words_armed w l b u (inl t) = record { end = t.0; last = end_at b u.page; is_end = t.1; last_is = inr refl; linked = t.2; few = t.3 }
 words_armed w l b u (inr t) = record { end = []; last = get_or w.first u.page 0; is_end = (seen_at b u.page, sym (append-nil (seen_at b u.page))); last_is = inl refl; linked = t.0; few = let z = t.2 in omega arith }
 
@@ -58,14 +54,17 @@ spareless_page w q page h none = let first : ℕ = get_or w.first page 0 in
           (m.0, subst (λ z. IsEnd m.0 (seen_at b z)) e m.2, m.5 ∙ ap (λ z. top w.floor z m.0) last_first, omega arith);
     }
 
--- sums over split and joined books
-pub wins_joined : (first : List ℕ) (b d : BookView) (p : ℕ) → wins_in p (joined first b d).swaps ≡ wins_in p b.swaps + wins_in p d.swaps
-wins_joined first b d p = total-append (λ (s : Swap). one_if (eqb s.page p && s.won)) b.swaps d.swaps
+pub armed_link_is : ArmedLinkIs
+armed_link_is w q seat b u at live h = (armed_words w q.fresh q.last b u (q.each seat b at) live h, words_armed w q.last b u)
 
-pub owns_joined : (first : List ℕ) (b d : BookView) (r : ℕ) → owns r (joined first b d) ≡ owns r b + owns r d
-owns_joined first b d r = total-append (λ (s : Span). one_if (leb s.from r && ltb r s.to)) b.owned d.owned
+-- sums over joined books
+pub join_adds : JoinAdds
+join_adds first b d r p = (
+  total-append (λ (s : Span). one_if (leb s.from r && ltb r s.to)) b.owned d.owned,
+  total-append (λ (x : Post). one_if (eqb x.rec r)) b.posted d.posted,
+  total-append (λ (x : Post). one_if (eqb x.page p && eqb x.rec r)) b.posted d.posted,
+  total-append (λ (s : Swap). one_if (eqb s.page p && s.won)) b.swaps d.swaps,
+)
 
--- a piece that was claimed is owned
-pub takes_owns : (piece records n r : ℕ) (b : BookView) → n ≤ r → r < min (n + piece) records → owns r (takes_piece piece records n b) ≡ owns r b + 1
-takes_owns piece records n r b low high = let a = total-append (λ (s : Span). one_if (leb s.from r && ltb r s.to)) b.owned (span n (min (n + piece) records) ∷ []) in
-    let k : one_if (leb n r && ltb r (min (n + piece) records)) ≡ 1 = grind (arith, nat_tests) in omega arith
+pub claim_adds : ClaimAdds
+claim_adds piece records n r b = let a = total-append (λ (s : Span). one_if (leb s.from r && ltb r s.to)) b.owned (span n (min (n + piece) records) ∷ []) in omega arith

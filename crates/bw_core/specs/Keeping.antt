@@ -1,12 +1,12 @@
 -- One law for each event, over plain lists, and the law of whole runs.
-use Rattle.std.specs.Prelude.{◌≡◌, ◌≢◌, ℕ, ◌+◌, ◌<◌, ◌≤◌, ◌⊎◌, true, false, List, [], ◌∷◌, ◌++◌, length, slice_index, slice_set, Option, Some, None}
+use Rattle.std.specs.Prelude.{◌↔◌, ◌&&◌, nat_le, nat_lt, min, ◌≡◌, ◌≢◌, ℕ, ◌+◌, ◌<◌, ◌≤◌, ◌⊎◌, true, false, List, [], ◌∷◌, ◌++◌, length, slice_index, slice_set, Option, Some, None}
 use mathlib.Core.Option.{some}
 use lib.ListN.{get_elem?}
 use Rattle.bw_core.specs.declared.BookView.{BookView}
 use Rattle.bw_core.specs.declared.Under.{Under}
 use Rattle.bw_core.specs.declared.Event.{Event}
 use Rattle.bw_core.specs.declared.Played.{Played}
-use Rattle.bw_core.specs.World.{World, Lawful, Keeps, Meets, IsEnd, Each, total, beneath, wins_in, owns, posts_in, seen_at, end_at, spare_at, late, top, spent}
+use Rattle.bw_core.specs.World.{World, Lawful, Keeps, Armed, Meets, IsEnd, Each, one_if, total, beneath, wins_in, owns, posts_in, posts_at, seen_at, end_at, spare_at, late, top, spent}
 use Rattle.bw_core.specs.Events.{moved, under, looked, linked, won, lost_to, takes_piece, is_told, split_left, split_right, joined, replaced, came_late}
 use Rattle.bw_core.specs.Steps.{IsSeat, IsFresh, Applies, Runs, CanStart, start_world, claimed}
 
@@ -98,3 +98,22 @@ pub record WithoutSpare (w : World) (q : Lawful w) (page : ℕ) : Type 0 where
 -- a page without a spare
 abbrev pub SparelessPage : Type 0
 SparelessPage = (w : World) (q : Lawful w) (page : ℕ) → page < length w.first → spare_at w page ≡ None → WithoutSpare w q page
+
+-- an armed record's link, told by what its seat saw last: the top of an end of the seen chain, over the word that ended it, or a first word that was replaced, under a record that lost nothing
+abbrev pub ArmedLink : World → (ℕ → ℕ) → BookView → Under → Type 0
+ArmedLink w last b u = ((end : List ℕ) × IsEnd end (seen_at b u.page) × (slice_index w.links u.rec ≡ top w.floor (end_at b u.page) end) × (u.lost ≤ length end + late (slice_index w.first u.page) (end_at b u.page)))
+    ⊎ ((slice_index w.links u.rec ≡ slice_index w.first u.page) × (last u.page ≢ slice_index w.first u.page) × (u.lost ≡ 0))
+
+-- so it is, and that says no less
+abbrev pub ArmedLinkIs : Type 0
+ArmedLinkIs = (w : World) (q : Lawful w) (seat : ℕ) (b : BookView) (u : Under) → get_elem? w.books seat ≡ some b → b.live ≡ true → u.page < length w.first → Armed w b u ↔ ArmedLink w q.last b u
+
+-- a join adds up what two seats own, posted and replaced
+abbrev pub JoinAdds : Type 0
+JoinAdds = (first : List ℕ) (b d : BookView) (rec page : ℕ)
+    → (owns rec (joined first b d) ≡ owns rec b + owns rec d) × (posts_in rec (joined first b d).posted ≡ posts_in rec b.posted + posts_in rec d.posted)
+    × (posts_at page rec (joined first b d).posted ≡ posts_at page rec b.posted + posts_at page rec d.posted) × (wins_in page (joined first b d).swaps ≡ wins_in page b.swaps + wins_in page d.swaps)
+
+-- a claim adds its piece to what the seat owns, and nothing else
+abbrev pub ClaimAdds : Type 0
+ClaimAdds = (piece records next rec : ℕ) (b : BookView) → owns rec (takes_piece piece records next b) ≡ owns rec b + one_if (nat_le next rec && nat_lt rec (min (next + piece) records))

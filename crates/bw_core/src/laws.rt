@@ -1,7 +1,7 @@
 //! The laws of posting, over plain lists of heads, links and books: one for each kind of step.
 //!
 //! What keeps its own heads and links, as a table of atomic words does, cites them step by step. Each has an empty body: its contract is the law.
-ghost use Rattle.bw_core.specs.Keeping.{FreshIsRead, StartIsLawful, LookKeeps, LinkKeeps, WinKeeps, LoseKeeps, FollowKeeps, ClaimKeepsPiece, ClaimKeepsTold, SplitKeeps, JoinKeeps, ReplaceKeepsWon, ReplaceKeepsLate, LateSawMore, EventKeeps, RunKeeps, SparelessPage};
+ghost use Rattle.bw_core.specs.Keeping.{FreshIsRead, StartIsLawful, LookKeeps, LinkKeeps, WinKeeps, LoseKeeps, FollowKeeps, ClaimKeepsPiece, ClaimKeepsTold, SplitKeeps, JoinKeeps, ReplaceKeepsWon, ReplaceKeepsLate, LateSawMore, EventKeeps, RunKeeps, SparelessPage, ArmedLinkIs, JoinAdds, ClaimAdds};
 
 /// A new world is lawful.
 pub fn start_is_lawful()
@@ -86,4 +86,19 @@ pub fn run_keeps()
 /// At a page without a spare each clause reads as if there were no spares.
 pub fn spareless_page()
     ensures { SparelessPage }
+{}
+
+/// An armed record's link is the top of an end of the chain that its seat saw last, or a first word that was replaced.
+pub fn armed_link_is()
+    ensures { ArmedLinkIs }
+{}
+
+/// What a joined book owns, posted and replaced is the sum of what two books did.
+pub fn join_adds()
+    ensures { JoinAdds }
+{}
+
+/// What a book owns after a claim.
+pub fn claim_adds()
+    ensures { ClaimAdds }
 {}
