@@ -56,7 +56,7 @@ own_link w k seat rec b h own = let r = is_record w k.lawful seat b rec h.0 own 
 pub tried : (w : World) → IsWorld w → (seat rec page : ℕ) (b : BookView) (lost : ℕ) → MayTry w seat rec page b lost → LawfulUnder w b (under rec page lost true)
 tried w k seat rec page b lost may = (k.lawful.each seat b may.0.0).lawful_under (under rec page lost true) may.1
 
-late_small : (first x : ℕ) → late first x ≤ 1
+pub late_small : (first x : ℕ) → late first x ≤ 1
 late_small first x = elim (x == first) as (λ b. cond b 0 1 ≤ 1) [ true ↦ omega arith | false ↦ omega arith ]
 
 pub tried_few : (w : World) → IsWorld w → (seat rec page : ℕ) (b : BookView) (lost : ℕ) → MayTry w seat rec page b lost → lost < 2 ^ 63

@@ -1,5 +1,5 @@
 -- One law for each event, over plain lists, and the law of whole runs.
-use Rattle.std.specs.Prelude.{◌↔◌, ◌&&◌, nat_le, nat_lt, min, ◌≡◌, ◌≢◌, ℕ, ◌+◌, ◌<◌, ◌≤◌, ◌⊎◌, true, false, List, [], ◌∷◌, ◌++◌, length, slice_index, slice_set, Option, Some, None}
+use Rattle.std.specs.Prelude.{◌*◌, ◌/◌, ◌-◌, ◌↔◌, ◌&&◌, nat_le, nat_lt, min, ◌≡◌, ◌≢◌, ℕ, ◌+◌, ◌<◌, ◌≤◌, ◌⊎◌, true, false, List, [], ◌∷◌, ◌++◌, length, slice_index, slice_set, Option, Some, None}
 use mathlib.Core.Option.{some}
 use lib.ListN.{get_elem?}
 use Rattle.bw_core.specs.declared.BookView.{BookView}
@@ -117,3 +117,12 @@ JoinAdds = (first : List ℕ) (b d : BookView) (rec page : ℕ)
 -- a claim adds its piece to what the seat owns, and nothing else
 abbrev pub ClaimAdds : Type 0
 ClaimAdds = (piece records next rec : ℕ) (b : BookView) → owns rec (takes_piece piece records next b) ≡ owns rec b + one_if (nat_le next rec && nat_lt rec (min (next + piece) records))
+
+-- how many pairs n things make
+abbrev pub pairs_of : ℕ → ℕ
+pairs_of n = n * (n - 1) / 2
+
+-- all exchanges that a seat's posted records lost: at most the pairs that the records make, and one more for each record where a first word may be replaced
+abbrev pub LossesBound : Type 0
+LossesBound = (w : World) (q : Lawful w) (seat : ℕ) (b : BookView) → get_elem? w.books seat ≡ some b
+    → (total (λ x. x.lost) b.posted ≤ pairs_of w.records + w.records) × (((page : ℕ) → spare_at w page ≡ None) → total (λ x. x.lost) b.posted ≤ pairs_of w.records)

@@ -1,7 +1,7 @@
 //! The laws of posting, over plain lists of heads, links and books: one for each kind of step.
 //!
 //! What keeps its own heads and links, as a table of atomic words does, cites them step by step. Each has an empty body: its contract is the law.
-ghost use Rattle.bw_core.specs.Keeping.{FreshIsRead, StartIsLawful, LookKeeps, LinkKeeps, WinKeeps, LoseKeeps, FollowKeeps, ClaimKeepsPiece, ClaimKeepsTold, SplitKeeps, JoinKeeps, ReplaceKeepsWon, ReplaceKeepsLate, LateSawMore, EventKeeps, RunKeeps, SparelessPage, ArmedLinkIs, JoinAdds, ClaimAdds};
+ghost use Rattle.bw_core.specs.Keeping.{FreshIsRead, StartIsLawful, LookKeeps, LinkKeeps, WinKeeps, LoseKeeps, FollowKeeps, ClaimKeepsPiece, ClaimKeepsTold, SplitKeeps, JoinKeeps, ReplaceKeepsWon, ReplaceKeepsLate, LateSawMore, EventKeeps, RunKeeps, SparelessPage, ArmedLinkIs, JoinAdds, ClaimAdds, LossesBound};
 
 /// A new world is lawful.
 pub fn start_is_lawful()
@@ -101,4 +101,9 @@ pub fn join_adds()
 /// What a book owns after a claim.
 pub fn claim_adds()
     ensures { ClaimAdds }
+{}
+
+/// How many exchanges a seat's posted records can have lost in all.
+pub fn losses_bound()
+    ensures { LossesBound }
 {}
