@@ -1,11 +1,10 @@
 -- Where an event is allowed: what the tests of a program show.
-use Rattle.std.proofs.Common.{◌≡◌, ◌≢◌, ℕ, zero, suc, ◌+◌, ◌<◌, ◌≤◌, ◌==◌, cond, Bool, true, false, ◌^◌, List, [], ◌∷◌, ◌++◌, length, get_or, sym, refl, ap, ◌∙◌, subst, arith, Option, Some, None, MatchOption, IsTrue, ◌↔◌}
-use mathlib.Core.Option.{some, some-injective}
-use lib.ListN.{get_elem?}
+use Rattle.std.proofs.Common.{◌≡◌, ℕ, ◌+◌, ◌<◌, ◌≤◌, ◌==◌, cond, Bool, true, false, ◌^◌, List, [], ◌∷◌, ◌++◌, length, get_or, sym, ◌∙◌, subst, arith, Option, Some, None, MatchOption, IsTrue, ◌↔◌}
+use mathlib.Core.Option.{some-injective}
 use mathlib.Core.Logic.{dite}
 use native.Mathlib.Decide.{ℕ_discrete, dec_lt}
 use Rattle.bw_core.specs.declared.BookView.{BookView}
-use Rattle.bw_core.specs.World.{World, Lawful, LawfulUnder, Each, owns, posts_in, times, seen_at, end_at, late}
+use Rattle.bw_core.specs.World.{World, LawfulUnder, Each, owns, posts_in, times, seen_at, end_at, late}
 use Rattle.bw_core.specs.Events.{under, Resumes}
 use Rattle.bw_core.specs.Steps.{IsWorld, IsSeat, MayLink, MayTry, MayFollow, MayJoin}
 use Rattle.bw_core.proofs.Lists.{at_index, inside_at, meets_low, one_other, Each-like, few, end-length, total_two}

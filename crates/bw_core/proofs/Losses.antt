@@ -7,13 +7,13 @@ use native.Mathlib.Decide.{ℕ_discrete}
 use lib.ListN.{get_elem?}
 use Rattle.bw_core.specs.declared.Post.{Post}
 use Rattle.bw_core.specs.declared.BookView.{BookView}
-use Rattle.bw_core.specs.World.{World, one_if, total, times, posts_in, posts_at, Each, beneath, late, spare_at, Lawful}
+use Rattle.bw_core.specs.World.{World, one_if, total, times, posts_in, posts_at, Each, beneath, late, Lawful}
 use Rattle.bw_core.specs.Keeping.{pairs_of, LossesBound}
 use Rattle.bw_core.proofs.Allowed.{late_small}
 use Rattle.bw_core.proofs.Without.{no_spare}
 use Rattle.bw_core.proofs.Events.{is_record}
 use Rattle.std.proofs.Math.Nat.{mul-le-mul_right}
-use Rattle.bw_core.proofs.Lists.{one_same, total-append, total-le, total_at, total_same, Each-append, Each-like, beneath_more, meets_low, few}
+use Rattle.bw_core.proofs.Lists.{one_same, total-append, total-le, total_at, total_same, Each-append, beneath_more, meets_low, few}
 
 -- the numbers below n, added up
 abbrev tri : ℕ → ℕ
@@ -135,9 +135,11 @@ posts_few n ps once low = let f = few n (map (λ x. x.rec) ps) (below ps low) (�
     below : (ps : List Post) → Each (λ x. x.rec < n) ps → Each (λ r. r < n) (map (λ x. x.rec) ps)
     below [] h = tt
     below (x ∷ ps) h = (h.0, below ps h.1)
+
     same : (r : ℕ) (ps : List Post) → times r (map (λ x. x.rec) ps) ≡ posts_in r ps
     same r [] = refl
     same r (x ∷ ps) = let h = same r ps in omega arith
+
     wide : (ps : List Post) → total (λ _. 1) ps ≡ length (map (λ x. x.rec) ps)
     wide [] = refl
     wide (x ∷ ps) = let h = wide ps in omega arith
@@ -159,6 +161,7 @@ losses w q i b k at over = let n = length w.first in let c = flat q.fresh n in l
     within : (ps : List Post) → Each (λ x. (x.page < length w.first) × (x.lost ≤ beneath x.rec (q.fresh x.page) + late (get_or w.first x.page 0) (q.last x.page))) ps → Each (λ x. x.lost ≤ beneath x.rec (flat q.fresh (length w.first)) + 1 * k) ps
     within [] h = tt
     within (x ∷ ps) h = (let a = h.0.1 in let b = beneath_flat q.fresh (length w.first) x.rec x.page h.0.0 in let o = over x.page h.0.0 in omega arith, within ps h.1)
+
     owned : (ps : List Post) → ((r : ℕ) → 0 < posts_in r ps → 0 < posts_in r b.posted) → Each (λ x. x.rec < w.records) ps
     owned [] h = tt
     owned (x ∷ ps) h = (

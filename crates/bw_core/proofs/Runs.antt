@@ -1,5 +1,5 @@
 -- A new world is lawful, and any list of events keeps it so.
-use Rattle.std.proofs.Common.{◌⊎◌, inl, inr, ◌≡◌, ◌≢◌, ℕ, zero, suc, ◌+◌, ◌<◌, ◌≤◌, min, ltb, eqb, true, false, ◌&&◌, List, [], ◌∷◌, ◌++◌, length, get_or, set, sym, refl, ap, ◌∙◌, subst, arith, Option, Some, None, Result, Ok, Err, IfOk, OnErr}
+use Rattle.std.proofs.Common.{◌⊎◌, inl, inr, ◌≡◌, ℕ, zero, suc, ◌+◌, ◌<◌, ◌≤◌, min, ltb, eqb, true, false, ◌&&◌, List, [], ◌∷◌, ◌++◌, length, get_or, set, sym, refl, ap, ◌∙◌, subst, arith, Option, Some, None, Result, Ok, Err, IfOk, OnErr}
 use mathlib.Core.Option.{some, some-injective, some-ne-none}
 use lib.ListN.{get_elem?, replicate, length-replicate}
 use Rattle.std.proofs.lemmas.Bool.Decides.{nat_tests}
@@ -9,10 +9,10 @@ use Rattle.bw_core.specs.declared.Event.TheVariants.{Look, Link, Try, Follow, Cl
 use Rattle.bw_core.specs.declared.Played.{Played}
 use Rattle.bw_core.specs.declared.Post.{Post}
 use Rattle.bw_core.specs.declared.BookView.{BookView}
-use Rattle.bw_core.specs.World.{World, Lawful, LawfulBook, Keeps, Onward, SameStart, Meets, IsEnd, one_if, total, times, posts_in, posts_at, seen_at, end_at, late}
+use Rattle.bw_core.specs.World.{World, Lawful, LawfulBook, Keeps, IsEnd, one_if, total, times, posts_in, posts_at, seen_at, end_at, late}
 use Rattle.bw_core.specs.Events.{moved, under, looked, lost_to, came_late, Resumes}
 use Rattle.bw_core.specs.Steps.{IsFresh, Looks, Links, Tries, Follows, Claims, Splits, Joins, Replaces, Applies, Runs, CanStart, start_world, first_book, IsWorld}
-use Rattle.bw_core.specs.Keeping.{FreshIsRead, StartIsLawful, LinkKeeps, FollowKeeps, EventKeeps, RunKeeps}
+use Rattle.bw_core.specs.Keeping.{FreshIsRead, StartIsLawful, FollowKeeps, EventKeeps, RunKeeps}
 use Rattle.bw_core.proofs.Lists.{meets_same, end_self, end_trans, end-times, late_first, total-le, total_at, some_member, Each-at}
 use Rattle.bw_core.proofs.Events.{build, last_low, or_then, posts_at-le, and_here, look_keeps, link_keeps, lose_keeps, win_keeps, claim_keeps_piece, claim_keeps_told, replace_keeps_won, replace_keeps_late}
 use Rattle.bw_core.proofs.Seats.{split_keeps, join_keeps}

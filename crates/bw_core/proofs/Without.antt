@@ -1,15 +1,14 @@
 -- The law without a spare, an armed link told by what its seat saw, and sums over books.
-use Rattle.std.proofs.Common.{◌⊎◌, inl, inr, ⊎_elim, ◌≡◌, ℕ, ◌+◌, ◌<◌, ◌≤◌, ◌≢◌, leb, ltb, eqb, min, true, ◌&&◌, List, [], ◌∷◌, length, get_or, sym, refl, ap, ◌∙◌, subst, arith, Option, Some, None, append-nil}
+use Rattle.std.proofs.Common.{inl, inr, ⊎_elim, ◌≡◌, ℕ, ◌+◌, ◌<◌, ◌≤◌, leb, ltb, eqb, min, true, ◌&&◌, List, [], ◌∷◌, length, get_or, sym, refl, ap, ◌∙◌, subst, arith, Option, Some, None, append-nil}
 use mathlib.Core.Logic.{dite}
 use native.Mathlib.Decide.{ℕ_discrete}
-use Rattle.std.proofs.lemmas.Bool.Decides.{nat_tests}
 use Rattle.bw_core.specs.declared.Span.{Span}
 use Rattle.bw_core.specs.declared.Post.{Post}
 use Rattle.bw_core.specs.declared.Swap.{Swap}
 use Rattle.bw_core.specs.declared.Under.{Under}
 use Rattle.bw_core.specs.declared.BookView.{BookView}
-use Rattle.bw_core.specs.World.{World, Armed, Lawful, LawfulBook, Meets, IsEnd, IsLast, Each, one_if, beneath, late, top, owns, wins_in, seen_at, end_at}
-use Rattle.bw_core.specs.Events.{span, takes_piece, joined}
+use Rattle.bw_core.specs.World.{World, Armed, LawfulBook, Meets, IsEnd, IsLast, one_if, beneath, late, top, seen_at, end_at}
+use Rattle.bw_core.specs.Events.{span}
 use Rattle.bw_core.specs.Keeping.{SparelessPage, ArmedLink, ArmedLinkIs, JoinAdds, ClaimAdds}
 use Rattle.bw_core.proofs.Lists.{total-append, late_first, Each-like}
 use Rattle.bw_core.proofs.Events.{live_under, armed_in}

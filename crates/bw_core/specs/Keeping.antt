@@ -8,7 +8,7 @@ use Rattle.bw_core.specs.declared.Event.{Event}
 use Rattle.bw_core.specs.declared.Played.{Played}
 use Rattle.bw_core.specs.World.{World, Lawful, Keeps, Armed, Meets, IsEnd, Each, one_if, total, beneath, wins_in, owns, posts_in, posts_at, seen_at, end_at, spare_at, late, top, spent}
 use Rattle.bw_core.specs.Events.{moved, under, looked, linked, won, lost_to, takes_piece, is_told, split_left, split_right, joined, replaced, came_late}
-use Rattle.bw_core.specs.Steps.{IsSeat, IsFresh, Applies, Runs, CanStart, start_world, claimed}
+use Rattle.bw_core.specs.Steps.{IsFresh, Applies, Runs, CanStart, start_world, claimed}
 
 -- the chain that the law speaks of is the one that the heads and links give
 abbrev pub FreshIsRead : Type 0

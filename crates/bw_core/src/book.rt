@@ -1,7 +1,7 @@
 //! What one seat holds and knows.
-ghost use Rattle.std.specs.Prelude.{◌≡◌, ◌↔◌, ◌<◌, ◌≤◌, ℕ, List, [], ◌∷◌, ◌++◌, ◌+◌, ◌^◌, length, map, slice_index, IsTrue, IfOk, OnErr, MatchOption, Some, true};
+ghost use Rattle.std.specs.Prelude.{◌≡◌, ◌↔◌, ◌<◌, ◌≤◌, ℕ, ◌+◌, ◌^◌, length, map, IsTrue, IfOk, OnErr, MatchOption, true};
 ghost use Rattle.bw_core.specs.World.{owns, posts_in, tries_in, times, seen_at, end_at, top, Each, spent};
-ghost use Rattle.bw_core.specs.Events.{under, Resumes, looked, linked, won, lost_to, takes_piece, is_told, span, split_left, split_right, joined, replaced, came_late};
+ghost use Rattle.bw_core.specs.Events.{under, Resumes, looked, linked, won, lost_to, takes_piece, is_told, split_left, split_right, joined, replaced, came_late};
 ghost use Rattle.bw_core.specs.Steps.{first_book};
 ghost use Rattle.bw_core.specs.declared.BookView.{BookView};
 

@@ -1,7 +1,6 @@
 //! What each event changes and answers. What may find no memory comes before the first change.
-ghost use Rattle.std.specs.Prelude.{◌≡◌, ◌≢◌, ◌<◌, ◌≤◌, ℕ, None, Some, length, slice_index, IfOk, OnErr, false};
-ghost use Rattle.bw_core.specs.World.{World as WorldView};
-ghost use Rattle.bw_core.specs.Steps.{IsWorld, IsFresh, IsSeat, MayTry, MayReplace, Applies, Looks, Links, Tries, Follows, Claims, Splits, Joins, Replaces};
+ghost use Rattle.std.specs.Prelude.{◌≡◌, ◌≢◌, ℕ, slice_index, IfOk, OnErr};
+ghost use Rattle.bw_core.specs.Steps.{IsWorld, MayTry, MayReplace, Applies, Looks, Links, Tries, Follows, Claims, Splits, Joins, Replaces};
 ghost use Rattle.bw_core.specs.declared.BookView.{BookView};
 
 use crate::book::Book;

@@ -1,6 +1,5 @@
 //! The words and books of a world, before anything is said of them.
-ghost use Rattle.std.specs.Prelude.{◌≡◌, ◌≢◌, ◌↔◌, ◌<◌, ℕ, None, Some, length, slice_index, IsTrue, IfOk, MatchOption, false};
-ghost use Rattle.bw_core.specs.World.{World as WorldView};
+ghost use Rattle.std.specs.Prelude.{◌≡◌, ◌↔◌, ◌<◌, ℕ, length, IsTrue, IfOk, MatchOption};
 ghost use Rattle.bw_core.specs.Steps.{IsWorld, start_world, IsFresh, IsSeat, MayLook, MayLink, MayTry, MayFollow, MayClaim, MaySplit, MayJoin, MayReplace};
 ghost use Rattle.bw_core.specs.declared.BookView.{BookView};
 

@@ -1,5 +1,5 @@
-use Rattle.std.proofs.Common.{rules, arith, ℕ, ◌≡◌, ◌<◌, ◌++◌, ◌∷◌, [], List, ◌∙◌, ap, sym, length, get_or, map, take}
-use Rattle.std.proofs.lemmas.List.{length-map, take_all}
+use Rattle.std.proofs.Common.{rules, arith, ℕ, ◌≡◌, ◌<◌, ◌++◌, ◌∷◌, [], List, ◌∙◌, ap, sym, length, map}
+use Rattle.std.proofs.lemmas.List.{length-map}
 use Rattle.bw_memory.specs.Alloc.{Vec}
 use Rattle.bw_core.proofs.Members.{get_or-map, one_more}
 use Rattle.bw_core.proofs.copies.copied.Goals as goal

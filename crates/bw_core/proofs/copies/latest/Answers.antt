@@ -1,7 +1,6 @@
-use Rattle.std.proofs.Common.{rules, arith, ℕ, ◌≡◌, ◌<◌, ◌++◌, ◌∷◌, [], List, ◌∙◌, ap, sym, length, get_or, map, take}
-use Rattle.std.proofs.lemmas.List.{length-map, take_all}
-use Rattle.bw_memory.specs.Alloc.{Vec}
-use Rattle.bw_core.specs.Events.{later_of, latest}
+use Rattle.std.proofs.Common.{rules, arith, ◌≡◌, ◌++◌, ◌∷◌, [], ◌∙◌, sym}
+use Rattle.std.proofs.lemmas.List.{take_all}
+use Rattle.bw_core.specs.Events.{latest}
 use Rattle.bw_core.proofs.Members.{one_word_more}
 use Rattle.bw_core.proofs.Seats.{latest_at_page, latest-length}
 use Rattle.bw_core.proofs.copies.latest.Goals as goal

@@ -1,4 +1,4 @@
-use Rattle.std.proofs.Common.{rules, arith, ℕ, ◌≡◌, ◌<◌, ◌++◌, ◌∷◌, [], List, ◌∙◌, ap, sym, length, get_or, map, take}
+use Rattle.std.proofs.Common.{rules, arith, ℕ, ◌≡◌, ◌<◌, ◌++◌, ◌∷◌, [], List, ◌∙◌, ap, sym, length, map}
 use Rattle.std.proofs.lemmas.List.{length-map, take_all}
 use Rattle.bw_memory.specs.Alloc.{Vec}
 use Rattle.bw_core.specs.Events.{longer_of, longest}

@@ -1,4 +1,4 @@
-use Rattle.std.proofs.Common.{rules, tests, subst, sym, ap, ◌==◌, ◌<◌, ◌↔◌, ℕ, length, get_or, map, [], IsTrue, arith, ◌∙◌, ◌≡◌}
+use Rattle.std.proofs.Common.{rules, tests, subst, sym, ◌==◌, ◌<◌, ◌↔◌, ℕ, length, IsTrue, arith, ◌∙◌}
 use Rattle.std.specs.List.{list_any}
 use Rattle.std.proofs.lemmas.List.{length-map}
 use Rattle.std.proofs.lemmas.Iterator.{YieldsList-from_slice}

@@ -1,4 +1,4 @@
-use Rattle.std.proofs.Common.{◌≡◌, List, ℕ, [], map, replicate}
+use Rattle.std.proofs.Common.{◌≡◌, [], map, replicate}
 use Rattle.bw_core.proofs.book.Book.new.Given as goal
 
 abbrev pub invariant-loop-word : goal.invariant-loop-word

@@ -1,4 +1,4 @@
-use Rattle.std.proofs.Common.{rules, tests, subst, ◌==◌, ◌&&◌, leb, ltb, ◌<◌, ◌↔◌, IsTrue}
+use Rattle.std.proofs.Common.{rules, tests, subst, ◌&&◌, leb, ltb, ◌<◌, ◌↔◌, IsTrue}
 use Rattle.std.proofs.lemmas.Iterator.{YieldsList-from_slice}
 use Rattle.std.proofs.lemmas.Iterator.Search.{any_from_yields_List}
 use Rattle.bw_core.specs.declared.Span.{Span}

@@ -1,13 +1,12 @@
-use Rattle.std.proofs.Common.{rules, arith, sym, ap, subst, refl, inl, inr, ◌∙◌, ◌≡◌, ◌≢◌, ◌⊎◌, ◌<◌, ◌≤◌, ◌+◌, ◌^◌, ℕ, List, [], ◌∷◌, ◌++◌, length, get_or, set, true, false, Some, None}
-use Rattle.std.proofs.lemmas.List.{get_or_read, get_or_append_left, set-append_left, length_push}
+use Rattle.std.proofs.Common.{arith, sym, ap, subst, refl, inl, inr, ◌∙◌, ◌≡◌, ◌⊎◌, ◌<◌, ◌≤◌}
 use native.Mathlib.Decide.{dec_lt}
 use Rattle.bw_core.specs.declared.BookView.{BookView}
-use Rattle.bw_core.specs.declared.Played.TheVariants.{Done, Lost, NotAllowed}
-use Rattle.bw_core.specs.World.{World, spent}
-use Rattle.bw_core.specs.Events.{moved, takes_piece, is_told, split_left, split_right, joined}
+use Rattle.bw_core.specs.declared.Played.TheVariants.{Done}
+use Rattle.bw_core.specs.World.{World}
+use Rattle.bw_core.specs.Events.{takes_piece, is_told}
 use Rattle.bw_core.specs.Inside.{view_of}
-use Rattle.bw_core.specs.Steps.{IsWorld, MayTry, MayClaim, MaySplit, MayJoin, Claims, Splits, Joins, claimed}
-use Rattle.bw_core.proofs.Allowed.{read_seat, own_link, page_heads, tried, two_widths, claim_fits}
+use Rattle.bw_core.specs.Steps.{IsWorld, MayClaim, Claims, claimed}
+use Rattle.bw_core.proofs.Allowed.{read_seat}
 use Rattle.bw_core.proofs.Lists.{inside_at}
 use Rattle.bw_core.proofs.state.State.claim.Goals as goal
 

@@ -1,12 +1,11 @@
-use Rattle.std.proofs.Common.{rules, arith, sym, ap, subst, refl, inl, inr, ◌∙◌, ◌≡◌, ◌<◌, ◌≤◌, ◌+◌, ◌^◌, ℕ, List, [], ◌∷◌, ◌++◌, length, get_or, set, true, false, Some, None}
-use Rattle.std.proofs.lemmas.List.{get_or_read}
+use Rattle.std.proofs.Common.{arith, sym, ap, subst, inl, ◌∙◌, ◌≡◌, ◌<◌, ◌+◌, ◌^◌, length, set}
 use Rattle.bw_core.specs.declared.BookView.{BookView}
-use Rattle.bw_core.specs.declared.Played.TheVariants.{Done, Lost, NotAllowed}
-use Rattle.bw_core.specs.World.{World, Each, seen_at, end_at, top, owns}
-use Rattle.bw_core.specs.Events.{moved, looked, linked}
+use Rattle.bw_core.specs.declared.Played.TheVariants.{Done}
+use Rattle.bw_core.specs.World.{World, Each, seen_at, end_at, top}
+use Rattle.bw_core.specs.Events.{moved, linked}
 use Rattle.bw_core.specs.Inside.{view_of}
-use Rattle.bw_core.specs.Steps.{IsWorld, IsSeat, IsFresh, MayLook, MayLink, MayFollow, Looks, Links, Follows}
-use Rattle.bw_core.proofs.Allowed.{read_seat, seat_pages, seen_words, seen_link, own_link, page_heads}
+use Rattle.bw_core.specs.Steps.{IsWorld, MayLink, Links}
+use Rattle.bw_core.proofs.Allowed.{read_seat, seat_pages, seen_words, own_link}
 use Rattle.bw_core.proofs.Lists.{inside_at}
 use Rattle.bw_core.proofs.state.State.link.Goals as goal
 

@@ -1,4 +1,4 @@
-use Rattle.std.proofs.Common.{sym, subst, arith, List, ◌≡◌, ◌<◌, ◌++◌, ◌∷◌, [], take, get_or, length}
+use Rattle.std.proofs.Common.{sym, subst, List, take, get_or}
 use Rattle.std.proofs.lemmas.List.{take_more, take_all}
 use Rattle.bw_core.specs.declared.Event.{Event}
 use Rattle.bw_core.specs.declared.Event.TheVariants.{Look}
