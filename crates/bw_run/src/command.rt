@@ -1,5 +1,5 @@
 // The command line: what its words ask for, and the message and the status at the end.
-ghost use Rattle.std.specs.Prelude.{◌≡◌, ◌<◌, ◌≤◌, ◌^◌};
+ghost use Rattle.std.specs.Prelude.{◌≡◌, ◌≤◌};
 
 use bw_batch::Options;
 use bw_memory::Alloc;
@@ -13,8 +13,9 @@ const NO_MEMORY: &str = "bw_run: out of memory\n";
 /// read from `input`, writes its texts to `output`, and writes a message to `errors` where it ends by a fault.
 ///
 /// `turns` is how often the input is read at the most. The answer is the exit status: 0 where each batch was accepted,
-/// 1 at a fault of reading, writing or memory and where the input doesn't end, 2 for other words, 3 at a faulty line, and 4 where the input was
-/// read to its end and a batch was refused. A message that can't be written leaves the status as it is.
+/// 1 at a fault of reading, writing or memory and where the input doesn't end, 2 for other words, 3 at a faulty line,
+/// and 4 where the input was read to its end and a batch was refused. A message that can't be written leaves the status
+/// as it is.
 pub fn run_words<R: Inlet, W: Outlet, E: Outlet>(
     alloc: Alloc,
     words: &[&str],
@@ -23,7 +24,6 @@ pub fn run_words<R: Inlet, W: Outlet, E: Outlet>(
     errors: &mut E,
     turns: u64,
 ) -> u8
-    requires { turns < 2 ^ 52 }
     ensures { result ≤ 4 }
 {
     if !matches!(words, ["run", "-"]) {
@@ -43,7 +43,6 @@ fn run<R: Inlet, W: Outlet>(
     output: &mut W,
     turns: u64,
 ) -> Result<Summary, TraceFault>
-    requires { turns < 2 ^ 52 }
 {
     let mut source = Source::new(alloc, input, turns)?;
     run_trace(alloc, &mut source, output, Options::default(), Job::Run)

@@ -15,6 +15,6 @@ pub use faults::{Cause, TraceFault};
 pub use ports::{Failed, Inlet, Outlet};
 pub use printing::print_replies;
 pub use running::{Job, run_trace, status};
-pub use sources::{Source, read_batch};
+pub use sources::{Source, TURNS_MAX, read_batch};
 pub use std_ports::{FromRead, FromWrite};
 pub use summaries::Summary;

@@ -1,5 +1,5 @@
 // A reader of bytes, judged line by line.
-ghost use Rattle.std.specs.Prelude.{◌≡◌, ℕ, ◌+◌, ◌<◌, ◌≤◌, ◌^◌, ◌∷◌, [], List, true, false, IfOk, IfErr, OnOk, IfSome, MatchOption, Some, None, IsErrOf, IsOk};
+ghost use Rattle.std.specs.Prelude.{◌≡◌, ℕ, ◌+◌, ◌<◌, ◌≤◌, ◌^◌, ◌∷◌, [], List, true, false, IfOk, IfErr, OnOk, IfSome, MatchOption, Some, None, IsErrOf, min};
 ghost use Rattle.std.specs.Bool.{MatchBool};
 ghost use Rattle.std.specs.Io.KnownBytes.{Consumes, IsAtEnd};
 ghost use Rattle.bw_trace.specs.Counts.{HasRisenBy};
@@ -18,6 +18,9 @@ use std::marker::Model;
 
 // How many bytes are asked for at a call of the reader.
 const CHUNK: usize = 4096;
+
+/// How often a source calls its reader at the most: 2^52 - 1 times, for 16 exbibytes.
+pub const TURNS_MAX: u64 = 4_503_599_627_370_495;
 
 /// A reader, with what was read from it and not judged yet.
 #[derive(Drop)]
@@ -59,18 +62,18 @@ impl<R: Inlet> Model for Source<R> {
 impl<R: Inlet> Source<R> {
     /// A source over a reader, which it calls `turns` times at the most. After `Memory` the reader is gone.
     ///
-    /// A call takes in 4,096 bytes at the most. `turns` is below 2^52, so that each line has a 64-bit number.
+    /// A call takes in 4,096 bytes at the most. More than `TURNS_MAX` turns count as so many, so that each line has a
+    /// 64-bit number.
     pub fn new(alloc: Alloc, reader: R, turns: u64) -> Result<Source<R>, Memory>
-        requires { turns < 2 ^ 52 }
         ensures unread { IfOk result (λ source. source.unread ≡ R.remaining reader) }
         ensures fresh { IfOk result (λ source. (source.judged ≡ 0) × (source.fault ≡ None) × (source.ended ≡ false)) }
-        ensures turns { IfOk result (λ source. source.turns ≡ turns) }
+        ensures turns { IfOk result (λ source. source.turns ≡ min turns TURNS_MAX) }
         ensures reader { IfOk result (λ source. (source.calls ≡ R.calls reader) × (source.failures ≡ R.failures reader) × (source.has_ended ≡ R.has_ended reader)) }
     {
         let buffer = vec![in alloc; 0u8; CHUNK]?;
         Ok(Source {
             reader,
-            turns,
+            turns: turns.min(TURNS_MAX),
             buffer,
             at: 0,
             len: 0,
