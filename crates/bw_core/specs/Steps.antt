@@ -130,6 +130,17 @@ Applies w (Split seat) w' a = Splits w seat w' a
 Applies w (Join into other) w' a = Joins w into other w' a
 Applies w (Replace seat page) w' a = Replaces w seat page w' a
 
+-- a link and a follow take no memory
+abbrev pub TakesNoMemory : Event → Type 0
+TakesNoMemory (Look seat page) = ⊥
+TakesNoMemory (Link seat rec page) = Unit {0}
+TakesNoMemory (Try seat rec page) = ⊥
+TakesNoMemory (Follow seat rec) = Unit {0}
+TakesNoMemory (Claim seat) = ⊥
+TakesNoMemory (Split seat) = ⊥
+TakesNoMemory (Join into other) = ⊥
+TakesNoMemory (Replace seat page) = ⊥
+
 -- the events, one after another, take this world to that world
 abbrev pub Runs : World → List Event → World → Type 0
 Runs w [] w' = w' ≡ w

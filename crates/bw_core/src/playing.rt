@@ -1,6 +1,6 @@
 //! What each event changes and answers. What may find no memory comes before the first change.
-ghost use Rattle.std.specs.Prelude.{◌≡◌, ◌≢◌, ℕ, slice_index, IfOk, OnErr};
-ghost use Rattle.bw_core.specs.Steps.{IsWorld, MayTry, MayReplace, Applies, Looks, Links, Tries, Follows, Claims, Splits, Joins, Replaces};
+ghost use Rattle.std.specs.Prelude.{◌≡◌, ◌≢◌, ℕ, slice_index, IsOk, IfOk, OnErr};
+ghost use Rattle.bw_core.specs.Steps.{IsWorld, MayTry, MayReplace, TakesNoMemory, Applies, Looks, Links, Tries, Follows, Claims, Splits, Joins, Replaces};
 ghost use Rattle.bw_core.specs.declared.BookView.{BookView};
 
 use crate::book::Book;
@@ -12,6 +12,7 @@ impl State {
     pub(crate) fn play(&mut self, event: Event) -> Result<Played, Memory>
         requires { IsWorld self.old }
         ensures ok { IfOk result (λ a. Applies self.old event self.new a) }
+        ensures no_memory { TakesNoMemory event → IsOk result }
         ensures err { OnErr result (self.new ≡ self.old) }
     {
         match event {

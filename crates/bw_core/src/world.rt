@@ -1,7 +1,7 @@
 //! The world in which records are posted, step by step.
-ghost use Rattle.std.specs.Prelude.{◌≡◌, ◌<◌, ℕ, length, IfOk, OnErr};
+ghost use Rattle.std.specs.Prelude.{◌≡◌, ◌<◌, ℕ, length, IsOk, IfOk, OnErr};
 ghost use Rattle.bw_core.specs.World.{Lawful, Keeps};
-ghost use Rattle.bw_core.specs.Steps.{CanStart, IsFresh, Applies, Runs, start_world};
+ghost use Rattle.bw_core.specs.Steps.{CanStart, IsFresh, TakesNoMemory, Applies, Runs, start_world};
 
 use crate::state::State;
 use crate::{Book, Event, Played};
@@ -54,10 +54,12 @@ impl World {
         Ok(World { state })
     }
 
-    /// Plays one event. An event that isn't allowed answers `NotAllowed` and changes nothing, and neither does `Memory`.
+    /// Plays one event. An event that isn't allowed answers `NotAllowed` and changes nothing, and neither does `Memory`. A link
+    /// and a follow take no memory.
     pub fn apply(&mut self, event: Event) -> Result<Played, Memory>
         ensures played { IfOk result (λ a. Applies self.old event self.new a) }
         ensures lawful { IfOk result (λ _. (q : Lawful self.old) × Keeps self.old q self.new) }
+        ensures no_memory { TakesNoMemory event → IsOk result }
         ensures memory { OnErr result (self.new ≡ self.old) }
     {
         self.state.play(event)
