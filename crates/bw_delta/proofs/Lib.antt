@@ -1,0 +1,3 @@
+pub mod Zips
+pub mod Histories
+pub mod Orders

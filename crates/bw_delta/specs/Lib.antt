@@ -1,0 +1,4 @@
+pub mod Writes
+pub mod Arenas
+pub mod History
+pub mod Rising
