@@ -1,3 +1,4 @@
 pub mod Zips
 pub mod Histories
 pub mod Orders
+pub mod Batches

@@ -2,3 +2,4 @@ pub mod Writes
 pub mod Arenas
 pub mod History
 pub mod Rising
+pub mod Batches

@@ -6,10 +6,12 @@
 #![tactic(auto)]
 
 mod arena;
+mod laws;
 mod reading;
 mod writes;
 
 pub use arena::Arena;
+pub use laws::contents_are_history;
 pub use reading::value_as_of;
 pub use writes::{Delta, Write};
 

@@ -11,15 +11,15 @@ use Rattle.bw_key.specs.Order.{KeyBytes, key_cmp, key_eq, key_ties}
 use Rattle.bw_model.specs.Sorted.{place_of}
 use Rattle.bw_page.proofs.KeyOrder.{below_trans, below_self, neither_below, keys_tie, cmp_self}
 
-both : (a b : Bool) → T (a && b) → (a ≡ true) × (b ≡ true)
+pub both : (a b : Bool) → T (a && b) → (a ≡ true) × (b ≡ true)
 both true true h = (refl, refl)
 both true false h = absurd h
 both false b h = absurd h
 
-true_holds : (a : Bool) → a ≡ true → T a
+pub true_holds : (a : Bool) → a ≡ true → T a
 true_holds a e = subst T (sym e) tt
 
-same_keys : (k q : KeyBytes) → key_eq k q ≡ true → k ≡ q
+pub same_keys : (k q : KeyBytes) → key_eq k q ≡ true → k ≡ q
 same_keys k q e = elim (key_cmp k q) as (λ r. key_cmp k q ≡ r → k ≡ q) [
     | Less ↦ λ r. absurd (different (sym (sym (key_ties k q) ∙ e) ∙ ap is_eq r))
     | Equal ↦ λ r. keys_tie k q r
