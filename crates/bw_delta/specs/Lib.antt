@@ -3,3 +3,4 @@ pub mod Arenas
 pub mod History
 pub mod Rising
 pub mod Batches
+pub mod Pairs

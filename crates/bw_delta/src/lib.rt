@@ -6,11 +6,13 @@
 #![tactic(auto)]
 
 mod arena;
+mod folding;
 mod laws;
 mod reading;
 mod writes;
 
 pub use arena::Arena;
+pub use folding::leaf_as_of;
 pub use laws::contents_are_history;
 pub use reading::value_as_of;
 pub use writes::{Delta, Write};

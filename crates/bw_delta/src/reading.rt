@@ -32,7 +32,7 @@ pub fn value_as_of(
 }
 
 // The writes in the order of their stamps.
-fn in_order<'a>(alloc: Alloc, writes: &[&'a Write]) -> Result<Vec<&'a Write, Alloc>, Memory>
+pub(crate) fn in_order<'a>(alloc: Alloc, writes: &[&'a Write]) -> Result<Vec<&'a Write, Alloc>, Memory>
     requires { HasDistinctStamps (pointed_to writes.now) }
     ensures rising { IfOk result (λ ordered. HasRisingStamps 0 (pointed_to ordered.items)) }
     ensures same { IfOk result (λ ordered. IsPermutation (pointed_to writes.now) (pointed_to ordered.items)) }
