@@ -74,20 +74,27 @@ written_by (w ∷ ws) t a e = elim (nat_eq w.stamp t) as (λ b. nat_eq w.stamp t
     one : (x y : Action) → Some x ≡ Some y → x ≡ y
     one x y e = cc
 
--- what was written with a stamp doesn't depend on the order
-pub same_actions : (xs ys : List WriteView) (t : ℕ) → IsPermutation xs ys → HasDistinctStamps xs → action_at ys t ≡ action_at xs t
-same_actions xs ys t moved distinct = elim (action_at xs t) as (λ o. action_at xs t ≡ o → action_at ys t ≡ o) [
-    | Some a ↦ λ e. moves_on xs ys a moved (distinct_permuted xs ys moved distinct) e
+-- lists of the same writes have the same action at each stamp
+pub alike_actions : (xs ys : List WriteView) (t : ℕ) → ((v : WriteView) → Contains xs v → Contains ys v) → ((v : WriteView) → Contains ys v → Contains xs v) →
+    HasDistinctStamps xs → HasDistinctStamps ys → action_at ys t ≡ action_at xs t
+alike_actions xs ys t there back distinct distinct' = elim (action_at xs t) as (λ o. action_at xs t ≡ o → action_at ys t ≡ o) [
+    | Some a ↦ λ e. moves_on xs ys a there distinct' e
     | None ↦ λ e. elim (action_at ys t) as (λ o. action_at ys t ≡ o → o ≡ None) [
-        | Some b ↦ λ f. sym (moves_on ys xs b (IsPermutation-sym xs ys moved) distinct f) ∙ e
+        | Some b ↦ λ f. sym (moves_on ys xs b back distinct f) ∙ e
         | None ↦ λ f. refl
       ] refl
   ] refl
   where
-    moves_on : (xs ys : List WriteView) (a : Action) → IsPermutation xs ys → HasDistinctStamps ys → action_at xs t ≡ Some a → action_at ys t ≡ Some a
-    moves_on xs ys a moved distinct e =
+    moves_on : (xs ys : List WriteView) (a : Action) → ((v : WriteView) → Contains xs v → Contains ys v) → HasDistinctStamps ys → action_at xs t ≡ Some a → action_at ys t ≡ Some a
+    moves_on xs ys a there distinct e =
         let by = written_by xs t a e in
-        ap (action_at ys) (sym by.stamp) ∙ at_one ys by.write distinct (Contains-permutation xs ys by.write moved by.there) ∙ ap Some by.action
+        ap (action_at ys) (sym by.stamp) ∙ at_one ys by.write distinct (there by.write by.there) ∙ ap Some by.action
+
+-- what was written with a stamp doesn't depend on the order
+pub same_actions : (xs ys : List WriteView) (t : ℕ) → IsPermutation xs ys → HasDistinctStamps xs → action_at ys t ≡ action_at xs t
+same_actions xs ys t moved distinct =
+    alike_actions xs ys t (λ v. Contains-permutation xs ys v moved) (λ v. Contains-permutation ys xs v (IsPermutation-sym xs ys moved))
+    distinct (distinct_permuted xs ys moved distinct)
 
 -- and so neither does their history
 pub same_reading : (xs ys : List WriteView) (start value : Option ValueBytes) (stamp : ℕ) → IsPermutation xs ys → HasDistinctStamps xs →

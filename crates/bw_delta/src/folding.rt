@@ -11,7 +11,7 @@ ghost use Rattle.bw_delta.specs.History.{history, action_at, pointed_to, HasDist
 ghost use Rattle.bw_delta.specs.Pairs.{ArePairsAsOf, parts_of, value_in};
 ghost use Rattle.bw_delta.specs.Rising.{HasRisingStamps};
 
-use crate::reading::in_order;
+use crate::reading::{copied, in_order};
 use crate::writes::Write;
 use bw_key::{Key, Memory};
 use bw_memory::Alloc;
@@ -62,7 +62,7 @@ fn put_pairs(
     ensures { OnOk result ((q : KeyBytes) → tree.get key_cmp values.new q ≡ option_or (find key_cmp q pairs.now) (tree.get key_cmp values.old q)) }
 {
     for pair in pairs.iter().rev() {
-        values.insert(pair.0.copy()?, pair.1.copy()?)?;
+        set(values, &pair.0, Some(pair.1.copy()?))?;
     }
     Ok(())
 }
@@ -90,16 +90,24 @@ fn put_write(values: &mut BTreeMap<Key, Value, Alloc>, write: &Write) -> Result<
     ensures { OnOk result ((q : KeyBytes) → tree.get key_cmp values.new q ≡
         (if key_eq q write.now.key then effect write.now.action (tree.get key_cmp values.old q) else tree.get key_cmp values.old q)) }
 {
-    let left = match write.action.effect(values.get(&write.key)) {
-        Some(value) => Some(value.copy()?),
-        None => None,
-    };
-    match left {
+    let left = copied(write.action.effect(values.get(&write.key)))?;
+    set(values, &write.key, left)
+}
+
+// Puts a value at a key, or takes it away.
+fn set(
+    values: &mut BTreeMap<Key, Value, Alloc>,
+    key: &Key,
+    value: Option<Value>,
+) -> Result<(), Memory>
+    ensures { OnOk result ((q : KeyBytes) → tree.get key_cmp values.new q ≡ (if key_eq q key.now then value else tree.get key_cmp values.old q)) }
+{
+    match value {
         Some(value) => {
-            values.insert(write.key.copy()?, value)?;
+            values.insert(key.copy()?, value)?;
         }
         None => {
-            values.remove(&write.key);
+            values.remove(key);
         }
     }
     Ok(())

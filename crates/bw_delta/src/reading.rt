@@ -25,13 +25,20 @@ pub fn value_as_of(
     ensures { IfOk result (λ value. value ≡ history (option_copied start.entry) (action_at (pointed_to writes.now)) stamp) }
 {
     let ordered = in_order(alloc, writes)?;
-    match latest(start, &ordered, stamp) {
+    copied(latest(start, &ordered, stamp))
+}
+
+/// The same value again, if there is one.
+pub(crate) fn copied(value: Option<&Value>) -> Result<Option<Value>, Memory>
+    ensures { IfOk result (λ copy. copy ≡ option_copied value.entry) }
+{
+    match value {
         Some(value) => Ok(Some(value.copy()?)),
         None => Ok(None),
     }
 }
 
-// The writes in the order of their stamps.
+/// The writes in the order of their stamps.
 pub(crate) fn in_order<'a>(alloc: Alloc, writes: &[&'a Write]) -> Result<Vec<&'a Write, Alloc>, Memory>
     requires { HasDistinctStamps (pointed_to writes.now) }
     ensures rising { IfOk result (λ ordered. HasRisingStamps 0 (pointed_to ordered.items)) }
