@@ -5,6 +5,8 @@
 mod leaf;
 mod pages;
 mod sorted;
+#[cfg(test)]
+mod tests;
 
 pub use leaf::Leaf;
 pub use pages::PageId;
