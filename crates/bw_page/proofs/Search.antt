@@ -1,5 +1,5 @@
 -- A key's place in a sorted list of entries, and the look-up there.
-use Rattle.std.proofs.Common.{inl, inr, ltb, ◌≡◌, ◌≢◌, ℕ, zero, suc, ◌+◌, ◌<◌, ◌≤◌, Bool, true, false, cond, not, ◌-◌, ◌&&◌, List, [], ◌∷◌, length, get_or, Option, Some, None, T, refl, sym, ap, ◌∙◌, subst, arith, add-one}
+use Rattle.std.proofs.Common.{inl, inr, ◌≡◌, ℕ, zero, suc, ◌+◌, ◌<◌, ◌≤◌, Bool, true, false, cond, not, ◌&&◌, List, [], ◌∷◌, length, get_or, Some, None, T, refl, sym, ap, ◌∙◌, subst, arith, add-one}
 use Rattle.std.proofs.lemmas.Bool.{cases_lt}
 use Rattle.std.proofs.lemmas.List.{get_or_default}
 use Rattle.std.specs.List.Sorted.{IsPartitionedBy, IsPartitionPoint}
@@ -21,10 +21,10 @@ true_holds a e = subst T (sym e) tt
 
 pub same_keys : (k q : KeyBytes) → key_eq k q ≡ true → k ≡ q
 same_keys k q e = elim (key_cmp k q) as (λ r. key_cmp k q ≡ r → k ≡ q) [
-    | Less ↦ λ r. absurd (different (sym (sym (key_ties k q) ∙ e) ∙ ap is_eq r))
-    | Equal ↦ λ r. keys_tie k q r
-    | Greater ↦ λ r. absurd (different (sym (sym (key_ties k q) ∙ e) ∙ ap is_eq r))
-  ] refl
+  | Less ↦ λ r. absurd (different (sym (sym (key_ties k q) ∙ e) ∙ ap is_eq r))
+  | Equal ↦ λ r. keys_tie k q r
+  | Greater ↦ λ r. absurd (different (sym (sym (key_ties k q) ∙ e) ∙ ap is_eq r))
+] refl
   where
     different : true ≡ false → ⊥
     different e = cc
@@ -35,19 +35,19 @@ less_no_tie q k h = elim (key_cmp q k) as (λ r. is_lt r ≡ true → is_eq r �
 
 not_tied : (q k : KeyBytes) → is_lt (key_cmp k q) ≡ true → is_eq (key_cmp q k) ≡ false
 not_tied q k h = elim (key_cmp q k) as (λ r. key_cmp q k ≡ r → is_eq r ≡ false) [
-    | Less ↦ λ e. refl
-    | Equal ↦ λ e. absurd (different (sym h ∙ ap (λ (x : KeyBytes). is_lt (key_cmp k x)) (keys_tie q k e) ∙ below_self k))
-    | Greater ↦ λ e. refl
-  ] refl
+  | Less ↦ λ e. refl
+  | Equal ↦ λ e. absurd (different (sym h ∙ ap (λ (x : KeyBytes). is_lt (key_cmp k x)) (keys_tie q k e) ∙ below_self k))
+  | Greater ↦ λ e. refl
+] refl
   where
     different : true ≡ false → ⊥
     different e = cc
 
 over : (q k : KeyBytes) → is_lt (key_cmp k q) ≡ false → key_eq k q ≡ false → is_lt (key_cmp q k) ≡ true
 over q k b differs = elim (is_lt (key_cmp q k)) as (λ t. is_lt (key_cmp q k) ≡ t → t ≡ true) [
-    | true ↦ λ e. refl
-    | false ↦ λ e. absurd (different (sym differs ∙ key_ties k q ∙ ap is_eq (ap (λ (x : KeyBytes). key_cmp k x) (neither_below q k e b) ∙ cmp_self k)))
-  ] refl
+  | true ↦ λ e. refl
+  | false ↦ λ e. absurd (different (sym differs ∙ key_ties k q ∙ ap is_eq (ap (λ (x : KeyBytes). key_cmp k x) (neither_below q k e b) ∙ cmp_self k)))
+] refl
   where
     different : false ≡ true → ⊥
     different e = cc
@@ -106,9 +106,9 @@ module _ {X : Type 0} where
   pub place_before : (q : KeyBytes) (es : List (KeyBytes × X)) (i : ℕ) (x : KeyBytes × X) → i < place_of q es → x ≡ get_or es i x → is_lt (key_cmp x.0 q) ≡ true
   place_before q [] i x lt is = absurd (omega arith)
   place_before q (e ∷ es) i x lt is = elim (is_lt (key_cmp e.0 q)) as (λ b. is_lt (key_cmp e.0 q) ≡ b → i < cond b (place_of q es + 1) 0 → is_lt (key_cmp x.0 q) ≡ true) [
-      | true ↦ λ b lt. at i (λ j lt. place_before q es j x lt) b lt is
-      | false ↦ λ b lt. absurd (omega arith)
-    ] refl lt
+    | true ↦ λ b lt. at i (λ j lt. place_before q es j x lt) b lt is
+    | false ↦ λ b lt. absurd (omega arith)
+  ] refl lt
     where
       at : (i : ℕ) → ((j : ℕ) → j < place_of q es → x ≡ get_or es j x → is_lt (key_cmp x.0 q) ≡ true) → is_lt (key_cmp e.0 q) ≡ true → i < place_of q es + 1 → x ≡ get_or (e ∷ es) i x → is_lt (key_cmp x.0 q) ≡ true
       at zero more b lt is = ap (λ (y : KeyBytes × X). is_lt (key_cmp y.0 q)) is ∙ b
@@ -118,16 +118,17 @@ module _ {X : Type 0} where
   pub find_there : (q : KeyBytes) (es : List (KeyBytes × X)) (x : KeyBytes × X) → place_of q es < length es → x ≡ get_or es (place_of q es) x → key_eq x.0 q ≡ true → find key_cmp q es ≡ Some x.1
   find_there q [] x lt is same = absurd (omega arith)
   find_there q (e ∷ es) x lt is same = elim (is_lt (key_cmp e.0 q)) as (λ b. is_lt (key_cmp e.0 q) ≡ b → cond b (place_of q es + 1) 0 < suc (length es) → x ≡ get_or (e ∷ es) (cond b (place_of q es + 1) 0) x → find key_cmp q (e ∷ es) ≡ Some x.1) [
-      | true ↦ λ b lt is.
+    | true ↦ λ b lt is.
         let passed : is_eq (key_cmp q e.0) ≡ false = apart q e.0 b in
         ap (λ t. cond t (Some e.1) (find key_cmp q es)) passed ∙ find_there q es x (omega arith) (is ∙ ap (λ n. get_or (e ∷ es) n x) (add-one (place_of q es))) same
-      | false ↦ λ b lt is.
+    | false ↦ λ b lt is.
         let here : is_eq (key_cmp q e.0) ≡ true = tie q e.0 (ap (λ (y : KeyBytes × X). key_eq y.0 q) (sym is) ∙ same) in
         ap (λ t. cond t (Some e.1) (find key_cmp q es)) here ∙ ap (λ (y : KeyBytes × X). Some y.1) (sym is)
-    ] refl lt is
+  ] refl lt is
     where
       apart : (q k : KeyBytes) → is_lt (key_cmp k q) ≡ true → is_eq (key_cmp q k) ≡ false
       apart q k b = not_tied q k b
+
       tie : (q k : KeyBytes) → key_eq k q ≡ true → is_eq (key_cmp q k) ≡ true
       tie q k e = ap is_eq (ap (key_cmp q) (sym (eq_is k q e)) ∙ cmp_self q) ∙ refl
         where
@@ -138,15 +139,15 @@ module _ {X : Type 0} where
   pub find_missing : (q : KeyBytes) (es : List (KeyBytes × X)) → T (is_sorted key_cmp es) → (place_of q es < length es → (x : KeyBytes × X) × (x ≡ get_or es (place_of q es) x) × (key_eq x.0 q ≡ false)) → find key_cmp q es ≡ None
   find_missing q [] h other = refl
   find_missing q (e ∷ es) h other = elim (is_lt (key_cmp e.0 q)) as (λ b. is_lt (key_cmp e.0 q) ≡ b → (cond b (place_of q es + 1) 0 < suc (length es) → (x : KeyBytes × X) × (x ≡ get_or (e ∷ es) (cond b (place_of q es + 1) 0) x) × (key_eq x.0 q ≡ false)) → find key_cmp q (e ∷ es) ≡ None) [
-      | true ↦ λ b other.
+    | true ↦ λ b other.
         ap (λ t. cond t (Some e.1) (find key_cmp q es)) (not_tied q e.0 b)
         ∙ find_missing q es (true_holds _ (both _ _ h).1) (λ lt. let there = other (omega arith) in (there.0, there.1 ∙ ap (λ n. get_or (e ∷ es) n there.0) (add-one (place_of q es)), there.2))
-      | false ↦ λ b other.
+    | false ↦ λ b other.
         let there = other (omega arith) in
         let differs : key_eq e.0 q ≡ false = ap (λ (y : KeyBytes × X). key_eq y.0 q) (sym there.1) ∙ there.2 in
         let above : is_lt (key_cmp q e.0) ≡ true = over q e.0 b differs in
         ap (λ t. cond t (Some e.1) (find key_cmp q es)) (less_no_tie q e.0 above) ∙ find_above q e.0 es above (true_holds _ (both _ _ h).0)
-    ] refl other
+  ] refl other
     where
       find_above : (q k : KeyBytes) (es : List (KeyBytes × X)) → is_lt (key_cmp q k) ≡ true → T (below_all key_cmp k es) → find key_cmp q es ≡ None
       find_above q k [] above h = refl
@@ -186,9 +187,9 @@ parts_at {X} q (e ∷ es) n sorted upto parts =
       | inl lt ↦ absurd (different (sym (place_before q all n (get_or all n e) lt (read n (omega arith))) ∙ parts.1 n e (omega arith) (omega arith)))
       | inr ge ↦ elim (cases_lt (place_of q all) n) [
         | inl lt ↦
-          let at = place_of q all in
-          let past = place_past q all at (get_or all at e) sorted (omega arith) (read at (omega arith)) (parts.0 at e (omega arith) lt) in
-          absurd (omega (arith, past))
+            let at = place_of q all in
+            let past = place_past q all at (get_or all at e) sorted (omega arith) (read at (omega arith)) (parts.0 at e (omega arith) lt) in
+            absurd (omega (arith, past))
         | inr le ↦ omega arith
       ]
     ]

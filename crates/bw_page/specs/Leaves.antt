@@ -1,5 +1,5 @@
 -- Leaves as contracts see them, and the rules that each one keeps.
-use Rattle.std.specs.Prelude.{◌≡◌, ℕ, Bool, true, false, List, Option, is_some, IsTrue, T}
+use Rattle.std.specs.Prelude.{◌≡◌, ℕ, List, Option, is_some, T}
 use Rattle.std.specs.List.{list_all}
 use Rattle.std.specs.FinMap.{is_sorted}
 use Rattle.bw_key.specs.Order.{KeyBytes, key_cmp}

@@ -1,5 +1,5 @@
-use Rattle.std.proofs.Common.{arith, true, false, ◌∙◌, ap, sym, get_or}
-use Rattle.bw_page.proofs.Search.{read_equal, Misses, find_there_at, find_missing_at}
+use Rattle.std.proofs.Common.{arith, true, false}
+use Rattle.bw_page.proofs.Search.{read_equal, find_there_at, find_missing_at}
 use Rattle.bw_page.proofs.sorted.value_at.Goals as goal
 use Rattle.bw_page.proofs.sorted.value_at.Goals.{else-at-entries-via-then-at-entries+else-eq, else-at-entries-via-else-at-entries}
 
