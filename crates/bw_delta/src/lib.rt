@@ -9,6 +9,8 @@ mod arena;
 mod folding;
 mod laws;
 mod reading;
+#[cfg(test)]
+mod tests;
 mod writes;
 
 pub use arena::Arena;
@@ -19,3 +21,6 @@ pub use writes::{Delta, Write};
 
 /// The operations of a batch, the replies to them, and what a write does.
 pub use bw_model::{Action, Op, Reply};
+
+/// Want of memory.
+pub use bw_key::Memory;
