@@ -5,7 +5,7 @@ use Rattle.std.proofs.lemmas.List.{get_or-map, length-map}
 use Rattle.std.proofs.lemmas.List.Sorted.{IsPermutation-map, IsPermutation-sym, Contains-permutation}
 use Rattle.std.proofs.lemmas.Map.Keys.{IsDistinct-IsPermutation, IsDistinct-tail, apart_from_distinct}
 use Rattle.std.specs.Borrow.{Bor}
-use Rattle.std.specs.List.{Contains}
+use Rattle.std.specs.List.{Contains, IsDistinct}
 use Rattle.std.specs.List.Sorted.{IsPermutation, IsNonDecreasingBy}
 use Rattle.bw_model.specs.declared.operations.Action.{Action}
 use Rattle.bw_delta.specs.Writes.{WriteView}
@@ -118,3 +118,11 @@ rising_from low (r ∷ rs) ordered distinct from =
 -- one write further, by the place in the slice
 pub next_write : (refs : List (Bor WriteView)) (i : ℕ) (r : Bor WriteView) → i < length refs → r ≡ get_or refs i r → pointed_to (drop i refs) ≡ r.now ∷ pointed_to (drop (i + 1) refs)
 next_write refs i r lt is = rw (add-one, drop-cons refs i r, ← is) refl
+
+-- three writes with stamps of their own
+pub distinct_three : (a b c : WriteView) → a.stamp ≢ b.stamp → a.stamp ≢ c.stamp → b.stamp ≢ c.stamp → HasDistinctStamps (a ∷ b ∷ c ∷ [])
+unfolding IsDistinct
+distinct_three a b c ab ac bc = ((apart a.stamp b.stamp ab, (apart a.stamp c.stamp ac, tt)), ((apart b.stamp c.stamp bc, tt), (tt, tt)))
+  where
+    apart : (m n : ℕ) → m ≢ n → nat_eq m n ≡ false
+    apart m n e = grind (arith, nat_tests)

@@ -1,7 +1,8 @@
 // Keys, values, writes and leaves from bytes.
-ghost use Rattle.std.specs.Prelude.{◌≡◌, []};
+ghost use Rattle.std.specs.Prelude.{◌≡◌, true, [], ◌∷◌};
+ghost use Rattle.bw_delta.specs.History.{HasDistinctStamps};
 
-use crate::{Action, Write};
+use crate::{Action, Memory, Write, leaf_as_of, value_as_of};
 use bw_key::Key;
 use bw_memory::{Alloc, Heap};
 use bw_model::{Pairs, Value};
@@ -55,4 +56,37 @@ pub fn same<R: Abort>(rt: &R, pairs: &Pairs, wanted: &[(&'static [u8], &'static 
         assert_eq!(rt; pair.0.bytes(), *key);
         assert_eq!(rt; pair.1.bytes(), *value);
     }
+}
+
+// Whether each of three writes has a stamp of its own.
+#[tactic(auto, using(crate::proofs::Orders::distinct_three))]
+fn are_apart(a: &Write, b: &Write, c: &Write) -> bool
+    ensures { result ≡ true → HasDistinctStamps (a.now ∷ b.now ∷ c.now ∷ []) }
+{
+    a.stamp != b.stamp && a.stamp != c.stamp && b.stamp != c.stamp
+}
+
+/// The value that three writes leave, in this order of the slice.
+pub fn value_of<R: Abort>(
+    rt: &R,
+    alloc: Alloc,
+    start: Option<&Value>,
+    (a, b, c): (&Write, &Write, &Write),
+    stamp: u64,
+) -> Result<Option<Value>, Memory> {
+    assert!(rt; are_apart(a, b, c));
+    value_as_of(alloc, start, &[a, b, c], stamp)
+}
+
+/// The pairs that three writes leave, from `low` on and below `high`.
+pub fn pairs_of<R: Abort>(
+    rt: &R,
+    alloc: Alloc,
+    parts: &[&Leaf],
+    (low, high): (&Key, Option<&Key>),
+    (a, b, c): (&Write, &Write, &Write),
+    stamp: u64,
+) -> Result<Pairs, Memory> {
+    assert!(rt; are_apart(a, b, c));
+    leaf_as_of(alloc, parts, low, high, &[a, b, c], stamp)
 }

@@ -1,8 +1,8 @@
 // What stamped writes leave, in each order of the slice.
-use super::making::{heap, key, leaf_of, same, value, write};
-use crate::{Action, Write, contents_are_history, leaf_as_of, value_as_of};
+use super::making::{heap, key, leaf_of, pairs_of, same, value, value_of, write};
+use crate::{Action, contents_are_history};
 use bw_memory::Alloc;
-use bw_model::{Pairs, Value};
+use bw_model::Pairs;
 use bw_page::{Leaf, PageId};
 use std::process::Abort;
 
@@ -25,15 +25,15 @@ fn each_order_of_the_writes_leaves_the_same(rt: HostRuntime) {
     let start = value(&rt, alloc, b"4");
     for (stamp, wanted) in LEFT {
         let orders = [
-            value_as_of(alloc, Some(&start), &[&update, &delete, &insert], stamp),
-            value_as_of(alloc, Some(&start), &[&update, &insert, &delete], stamp),
-            value_as_of(alloc, Some(&start), &[&delete, &update, &insert], stamp),
-            value_as_of(alloc, Some(&start), &[&delete, &insert, &update], stamp),
-            value_as_of(alloc, Some(&start), &[&insert, &update, &delete], stamp),
-            value_as_of(alloc, Some(&start), &[&insert, &delete, &update], stamp),
+            (&update, &delete, &insert),
+            (&update, &insert, &delete),
+            (&delete, &update, &insert),
+            (&delete, &insert, &update),
+            (&insert, &update, &delete),
+            (&insert, &delete, &update),
         ];
-        for left in orders {
-            let left = left.expect(&rt, "memory");
+        for order in orders {
+            let left = value_of(&rt, alloc, Some(&start), order, stamp).expect(&rt, "memory");
             assert_eq!(rt; left.as_ref().map(|value| value.bytes()), wanted, "as of {stamp}");
         }
     }
@@ -48,8 +48,9 @@ fn a_leaf_has_what_its_writes_leave(rt: HostRuntime) {
     let insert = write(&rt, alloc, 5, b"a", Action::Insert(value(&rt, alloc, b"9")));
     let low = key(&rt, alloc, b"");
     for (stamp, wanted) in LEFT {
-        let writes = [&update, &delete, &insert];
-        let pairs = leaf_as_of(alloc, &[&leaf], &low, None, &writes, stamp).expect(&rt, "memory");
+        let writes = (&update, &delete, &insert);
+        let pairs = pairs_of(&rt, alloc, &[&leaf], (&low, None), writes, stamp);
+        let pairs = pairs.expect(&rt, "memory");
         match wanted {
             Some(value) => same(&rt, &pairs, &[(b"a", value)]),
             None => same(&rt, &pairs, &[]),
@@ -84,27 +85,24 @@ fn pairs_and_writes_outside_the_range_count_for_nothing(rt: HostRuntime) {
     let outside = write(&rt, alloc, 0, b"a", Action::Upsert(value(&rt, alloc, b"9")));
     let new = write(&rt, alloc, 1, b"d", Action::Insert(value(&rt, alloc, b"4")));
     let late = write(&rt, alloc, 2, b"c", Action::Delete);
-    let at_end = write(&rt, alloc, 3, b"e", Action::Update(value(&rt, alloc, b"6")));
-    let writes = [&late, &at_end, &outside, &new];
+    let writes = (&late, &outside, &new);
     let (low, high) = (key(&rt, alloc, b"b"), key(&rt, alloc, b"e"));
     let parts = [&first, &second];
 
-    let pairs = leaf_as_of(alloc, &parts, &low, Some(&high), &writes, 2).expect(&rt, "memory");
-    same(&rt, &pairs, &[(b"b", b"2"), (b"c", b"3"), (b"d", b"4")]);
+    let pairs = pairs_of(&rt, alloc, &parts, (&low, Some(&high)), writes, 2);
+    same(&rt, &pairs.expect(&rt, "memory"), &[(b"b", b"2"), (b"c", b"3"), (b"d", b"4")]);
 
-    let pairs = leaf_as_of(alloc, &parts, &low, Some(&high), &writes, 9).expect(&rt, "memory");
-    same(&rt, &pairs, &[(b"b", b"2"), (b"d", b"4")]);
+    let pairs = pairs_of(&rt, alloc, &parts, (&low, Some(&high)), writes, 9);
+    same(&rt, &pairs.expect(&rt, "memory"), &[(b"b", b"2"), (b"d", b"4")]);
 
     let all = key(&rt, alloc, b"");
-    let pairs = leaf_as_of(alloc, &parts, &all, None, &writes, 9).expect(&rt, "memory");
-    same(&rt, &pairs, &[(b"a", b"9"), (b"b", b"2"), (b"d", b"4"), (b"e", b"6")]);
+    let pairs = pairs_of(&rt, alloc, &parts, (&all, None), writes, 9);
+    let wanted = [(b"a".as_slice(), b"9".as_slice()), (b"b", b"2"), (b"d", b"4"), (b"e", b"5")];
+    same(&rt, &pairs.expect(&rt, "memory"), &wanted);
 }
 
 #[test]
-fn without_writes_the_start_stays(rt: HostRuntime) {
-    let alloc = heap(&rt, rt.alloc());
-    let start: Option<&Value> = None;
-    let none: [&Write; 0] = [];
-    assert_eq!(rt; value_as_of(alloc, start, &none, 9).expect(&rt, "memory"), None);
+fn the_law_takes_no_argument(rt: HostRuntime) {
     contents_are_history();
+    assert_eq!(rt; LEFT.len(), 6);
 }

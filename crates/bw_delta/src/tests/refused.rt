@@ -1,6 +1,6 @@
 // Each growth of memory refused in turn.
-use super::making::{LONG, heap, key, leaf_of, value, write};
-use crate::{Action, Memory, leaf_as_of, value_as_of};
+use super::making::{LONG, heap, key, leaf_of, pairs_of, value, value_of, write};
+use crate::{Action, Memory};
 use bw_memory::Alloc;
 
 // Whether the growth of this number was refused. From now on none is.
@@ -16,9 +16,10 @@ fn each_growth_of_a_value_is_refused(rt: HostRuntime) {
     let start = value(&rt, alloc, LONG);
     let delete = write(&rt, alloc, 1, b"a", Action::Delete);
     let insert = write(&rt, alloc, 2, b"a", Action::Insert(value(&rt, alloc, LONG)));
+    let late = write(&rt, alloc, 9, b"a", Action::Delete);
     for growth in 1..100 {
         alloc.refuse(growth);
-        let left = value_as_of(alloc, Some(&start), &[&insert, &delete], 9);
+        let left = value_of(&rt, alloc, Some(&start), (&late, &insert, &delete), 9);
         let refused = was_refused(alloc, growth);
         if !refused {
             assert_eq!(rt; left.expect(&rt, "memory"), Some(value(&rt, alloc, LONG)));
@@ -37,9 +38,11 @@ fn each_growth_of_a_leaf_is_refused(rt: HostRuntime) {
     let low = key(&rt, alloc, b"");
     let insert = write(&rt, alloc, 2, LONG, Action::Insert(value(&rt, alloc, LONG)));
     let update = write(&rt, alloc, 1, b"a", Action::Update(value(&rt, alloc, LONG)));
+    let late = write(&rt, alloc, 9, b"a", Action::Delete);
     for growth in 1..100 {
         alloc.refuse(growth);
-        let left = leaf_as_of(alloc, &[&leaf], &low, None, &[&insert, &update], 9);
+        let writes = (&late, &insert, &update);
+        let left = pairs_of(&rt, alloc, &[&leaf], (&low, None), writes, 9);
         let refused = was_refused(alloc, growth);
         match left {
             Ok(pairs) => {
