@@ -1,0 +1,49 @@
+-- Two lists side by side.
+use Rattle.std.proofs.Common.{◌≡◌, ℕ, zero, suc, ◌+◌, ◌<◌, ◌≤◌, List, [], ◌∷◌, ◌++◌, length, take, drop, map, Option, Some, None, get_or, slice_get, refl, sym, ap, ◌∙◌, arith, length-append, length-take, length-drop}
+use Rattle.std.specs.List.{zip}
+use Rattle.std.proofs.Math.Seq.{take-append_seam}
+use Rattle.std.proofs.lemmas.Slice.Zip.{length-zip, firsts-zip, seconds-zip}
+
+-- a list whose middle was written over, as long as it was
+pub length_put : {X : Type 0} (start : ℕ) (given old : List X) → start + length given ≤ length old → length (take start old ++ given ++ drop (start + length given) old) ≡ length old
+length_put start given old fits =
+    let a = length-append (take start old ++ given) (drop (start + length given) old) in
+    let b = length-append (take start old) given in
+    let c = length-take start old in
+    let d = length-drop (start + length given) old in
+    omega (arith, fits, a, b, c, d)
+
+-- a front that is the whole of the first list
+pub whole : {X : Type 0} (n : ℕ) (xs ys : List X) → n ≡ length xs → take n (xs ++ ys) ≡ xs
+whole n xs ys all = ap (λ m. take m (xs ++ ys)) all ∙ take-append_seam xs ys
+
+module _ {X Y : Type 0} where
+  -- one more on each side
+  pub zip_more : (xs : List X) (ys : List Y) (x : X) (y : Y) → length ys ≡ length xs → zip (xs ++ x ∷ []) (ys ++ y ∷ []) ≡ zip xs ys ++ (x, y) ∷ []
+  zip_more [] [] x y same = refl
+  zip_more [] (b ∷ ys) x y same = absurd (omega (arith, same))
+  zip_more (a ∷ xs) [] x y same = absurd (omega (arith, same))
+  zip_more (a ∷ xs) (b ∷ ys) x y same = ap (λ l. (a, b) ∷ l) (zip_more xs ys x y (omega (arith, same)))
+
+  pub zip_take : (n : ℕ) (xs : List X) (ys : List Y) → zip (take n xs) (take n ys) ≡ take n (zip xs ys)
+  zip_take zero xs ys = refl
+  zip_take (suc n) [] ys = refl
+  zip_take (suc n) (x ∷ xs) [] = refl
+  zip_take (suc n) (x ∷ xs) (y ∷ ys) = ap (λ l. (x, y) ∷ l) (zip_take n xs ys)
+
+  pub length_zipped : (xs : List X) (ys : List Y) → length ys ≡ length xs → length xs ≡ length (zip xs ys)
+  length_zipped xs ys same = let both = length-zip xs ys in omega (arith, same, both)
+
+  -- what stands at a place of both
+  pub zip_at : (i : ℕ) (xs : List X) (ys : List Y) (x : X) (y : Y) → length ys ≡ length xs → i < length xs → x ≡ get_or xs i x → y ≡ get_or ys i y → Some (x, y) ≡ slice_get (zip xs ys) i
+  zip_at i [] ys x y same lt is is_too = absurd (omega arith)
+  zip_at i (a ∷ xs) [] x y same lt is is_too = absurd (omega (arith, same))
+  zip_at zero (a ∷ xs) (b ∷ ys) x y same lt is is_too = rw (is, is_too) refl
+  zip_at (suc i) (a ∷ xs) (b ∷ ys) x y same lt is is_too = zip_at i xs ys x y (omega (arith, same)) (omega arith) is is_too
+
+  -- and nothing past their end
+  pub zip_past : (i : ℕ) (xs : List X) (ys : List Y) → length xs ≤ i → None ≡ slice_get (zip xs ys) i
+  zip_past i [] ys le = refl
+  zip_past i (a ∷ xs) [] le = refl
+  zip_past zero (a ∷ xs) (b ∷ ys) le = absurd (omega arith)
+  zip_past (suc i) (a ∷ xs) (b ∷ ys) le = zip_past i xs ys (omega arith)

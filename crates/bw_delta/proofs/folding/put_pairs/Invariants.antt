@@ -1,0 +1,10 @@
+use Rattle.std.proofs.Common.{◌≡◌}
+use Rattle.std.specs.Option.{option_or}
+use Rattle.std.specs.FinMap.{find}
+use Rattle.std.specs.BTreeMap as tree
+use Rattle.bw_key.specs.Order.{KeyBytes, key_cmp}
+use Rattle.bw_delta.proofs.folding.put_pairs.Given as goal
+
+abbrev pub invariant-loop-pair : goal.invariant-loop-pair
+invariant-loop-pair l = (q : KeyBytes) →
+    option_or (find key_cmp q l.pair-iterator.iter.rest.now) (tree.get key_cmp l.values q) ≡ option_or (find key_cmp q l.pairs) (tree.get key_cmp l.fn.values q)

@@ -1,0 +1,10 @@
+use Rattle.std.proofs.Common.{drop}
+use Rattle.std.specs.BTreeMap as tree
+use Rattle.bw_key.specs.Order.{key_cmp}
+use Rattle.bw_delta.specs.History.{pointed_to}
+use Rattle.bw_delta.proofs.Foldings.{AreFolding}
+use Rattle.bw_delta.proofs.folding.put_writes.Given as goal
+
+abbrev pub invariant-loop-write : goal.invariant-loop-write
+invariant-loop-write l =
+    AreFolding l.stamp (tree.get key_cmp l.fn.values) (pointed_to l.writes) (pointed_to (drop l.write-index l.writes)) (tree.get key_cmp l.values)

@@ -1,0 +1,141 @@
+// The pairs of a page as of a stamp.
+ghost use Rattle.std.specs.Prelude.{◌≡◌, T, map, filter, IfOk, OnOk, None, if◌then◌else◌};
+ghost use Rattle.std.specs.Option.{option_copied, option_or};
+ghost use Rattle.std.specs.FinMap.{find, is_sorted};
+ghost use Rattle.std.specs.BTreeMap as tree;
+ghost use Rattle.bw_key.specs.Order.{KeyBytes, key_cmp, key_eq};
+ghost use Rattle.bw_model.specs.Contents.{is_in_range, is_pair_in_range};
+ghost use Rattle.bw_model.specs.Actions.{effect};
+ghost use Rattle.bw_delta.specs.Batches.{writes_to};
+ghost use Rattle.bw_delta.specs.History.{history, action_at, pointed_to, HasDistinctStamps};
+ghost use Rattle.bw_delta.specs.Pairs.{ArePairsAsOf, parts_of, value_in};
+ghost use Rattle.bw_delta.specs.Rising.{HasRisingStamps};
+
+use crate::reading::{copied, in_order};
+use crate::writes::Write;
+use bw_key::{Key, Memory};
+use bw_memory::Alloc;
+use bw_model::{Pairs, Value};
+use bw_page::Leaf;
+use std::collections::BTreeMap;
+
+/// The pairs of a page as of a stamp, in the order of their keys: each key from `low` on and below `high` that has a
+/// value, with it. A key's value is that of the first part that has the key, under the writes of the key with a
+/// smaller stamp, applied in the order of their stamps. The slice of writes may have any order.
+///
+/// The n pairs and m writes go through an ordered map, in about (n + m) log (n + m) key comparisons. Each value is
+/// copied once, and once more for each write that leaves one. `Memory` is answered where the map, a copy or the list
+/// finds none.
+pub fn leaf_as_of(
+    alloc: Alloc,
+    parts: &[&Leaf],
+    low: &Key,
+    high: Option<&Key>,
+    writes: &[&Write],
+    stamp: u64,
+) -> Result<Pairs, Memory>
+    requires { HasDistinctStamps (pointed_to writes.now) }
+    ensures { IfOk result (λ pairs. ArePairsAsOf (parts_of parts.now) low.now (option_copied high.entry) (pointed_to writes.now) stamp pairs) }
+{
+    let ordered = in_order(alloc, writes)?;
+    let mut values = BTreeMap::new(alloc);
+    put_parts(&mut values, parts)?;
+    put_writes(&mut values, &ordered, stamp)?;
+    in_range(alloc, values, low, high)
+}
+
+// Puts the pairs of the parts in a map, of two with one key that of the first part.
+fn put_parts(values: &mut BTreeMap<Key, Value, Alloc>, parts: &[&Leaf]) -> Result<(), Memory>
+    ensures { OnOk result ((q : KeyBytes) → tree.get key_cmp values.new q ≡ option_or (value_in (parts_of parts.now) q) (tree.get key_cmp values.old q)) }
+{
+    for part in parts.iter().rev() {
+        put_pairs(values, part.pairs())?;
+    }
+    Ok(())
+}
+
+// Puts pairs in a map, of two with one key the first.
+fn put_pairs(
+    values: &mut BTreeMap<Key, Value, Alloc>,
+    pairs: &[(Key, Value)],
+) -> Result<(), Memory>
+    ensures { OnOk result ((q : KeyBytes) → tree.get key_cmp values.new q ≡ option_or (find key_cmp q pairs.now) (tree.get key_cmp values.old q)) }
+{
+    for pair in pairs.iter().rev() {
+        set(values, &pair.0, Some(pair.1.copy()?))?;
+    }
+    Ok(())
+}
+
+// Lets the writes below a stamp have their effects.
+fn put_writes(
+    values: &mut BTreeMap<Key, Value, Alloc>,
+    writes: &[&Write],
+    stamp: u64,
+) -> Result<(), Memory>
+    requires { HasRisingStamps 0 (pointed_to writes.now) }
+    ensures { OnOk result ((q : KeyBytes) → tree.get key_cmp values.new q ≡ history (tree.get key_cmp values.old q) (action_at (writes_to q (pointed_to writes.now))) stamp) }
+{
+    for write in writes {
+        if write.stamp >= stamp {
+            return Ok(());
+        }
+        put_write(values, write)?;
+    }
+    Ok(())
+}
+
+// Lets a write have its effect.
+fn put_write(values: &mut BTreeMap<Key, Value, Alloc>, write: &Write) -> Result<(), Memory>
+    ensures { OnOk result ((q : KeyBytes) → tree.get key_cmp values.new q ≡
+        (if key_eq q write.now.key then effect write.now.action (tree.get key_cmp values.old q) else tree.get key_cmp values.old q)) }
+{
+    let left = copied(write.action.effect(values.get(&write.key)))?;
+    set(values, &write.key, left)
+}
+
+// Puts a value at a key, or takes it away.
+fn set(
+    values: &mut BTreeMap<Key, Value, Alloc>,
+    key: &Key,
+    value: Option<Value>,
+) -> Result<(), Memory>
+    ensures { OnOk result ((q : KeyBytes) → tree.get key_cmp values.new q ≡ (if key_eq q key.now then value else tree.get key_cmp values.old q)) }
+{
+    match value {
+        Some(value) => {
+            values.insert(key.copy()?, value)?;
+        }
+        None => {
+            values.remove(key);
+        }
+    }
+    Ok(())
+}
+
+// The pairs of a map whose keys are in a range.
+fn in_range(
+    alloc: Alloc,
+    values: BTreeMap<Key, Value, Alloc>,
+    low: &Key,
+    high: Option<&Key>,
+) -> Result<Pairs, Memory>
+    ensures sorted { IfOk result (λ pairs. T (is_sorted key_cmp pairs)) }
+    ensures values { IfOk result (λ pairs. (q : KeyBytes) → find key_cmp q pairs ≡
+        (if is_in_range low.now (option_copied high.entry) q then tree.get key_cmp values.entry q else None)) }
+{
+    let mut pairs = Vec::new(alloc);
+    for (key, value) in values {
+        if is_within(&key, low, high) {
+            pairs.push((key, value))?;
+        }
+    }
+    Ok(Pairs::from_vec(pairs))
+}
+
+// Whether a key is from `low` on and below `high`.
+fn is_within(key: &Key, low: &Key, high: Option<&Key>) -> bool
+    ensures { result ≡ is_in_range low.now (option_copied high.entry) key.now }
+{
+    *key >= *low && high.is_none_or(|high| *key < *high)
+}

@@ -1,0 +1,26 @@
+//! Delta chains of a Bw-tree: stamped writes, the arena of records that chains are made of, and what the writes of a
+//! chain mean as of a stamp.
+//!
+//! Operation i of a batch has the stamp `base + i`. Its writes are put in chains in whatever order the exchanges
+//! succeed; reading as of a stamp gives the same value for each order.
+#![tactic(auto)]
+
+mod arena;
+mod folding;
+mod laws;
+mod reading;
+#[cfg(test)]
+mod tests;
+mod writes;
+
+pub use arena::Arena;
+pub use folding::leaf_as_of;
+pub use laws::contents_are_history;
+pub use reading::value_as_of;
+pub use writes::{Delta, Write};
+
+/// The operations of a batch, the replies to them, and what a write does.
+pub use bw_model::{Action, Op, Reply};
+
+/// Want of memory.
+pub use bw_key::Memory;

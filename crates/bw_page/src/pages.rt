@@ -1,0 +1,16 @@
+// Names of pages.
+use std::marker::Model;
+
+/// The name of a page. The mapping table turns it into the page's present state. Contracts see it as its number.
+#[derive(Clone, Copy, Debug, PartialEq, Eq)]
+pub struct PageId(pub u32);
+
+impl Model for PageId {
+    ghost use Rattle.std.specs.Prelude.{ℕ};
+
+    ghost Value = { ℕ };
+
+    ghost view = { λ p. p.0 };
+
+    ghost inverse = { λ n. record { 0 = n } };
+}
