@@ -1,5 +1,6 @@
 // Worked traces through the whole program, over readers and writers in memory: the bytes that it writes, its messages
 // and its statuses, which no contract states.
+mod asking;
 mod faults;
 mod lines;
 mod memory;

@@ -58,8 +58,7 @@ impl Outlet for Replied {
     ghost failures = { λ _. 2 ^ 64 - 1 };
 
     fn put(&mut self, bytes: &[u8]) -> Result<(), Failed> {
-        self.replied
-            .fetch_add(bytes.len() as u64, Ordering::SeqCst);
+        self.replied.fetch_add(bytes.len() as u64, Ordering::SeqCst);
         Ok(())
     }
 }
@@ -67,12 +66,20 @@ impl Outlet for Replied {
 #[test]
 fn replies_are_taken_before_the_next_batch_is_read(rt: HostRuntime) {
     let runner = Runner::new(&rt, rt.alloc());
-    let replied: &'static AtomicU64 =
-        Box::leak(Box::new(rt.alloc(), AtomicU64::new(0)).expect(&rt, "memory"));
+    let replied: &'static AtomicU64 = Box::leak(Box::new(rt.alloc(), AtomicU64::new(0)).expect(
+        &rt, "memory",
+    ));
     let input = Asker { replied, calls: 0 };
     let mut out = Replied { replied };
     let mut errors = runner.sink();
-    let status = run_words(runner.alloc, &["run", "-"], input, &mut out, &mut errors, TURNS);
+    let status = run_words(
+        runner.alloc,
+        &["run", "-"],
+        input,
+        &mut out,
+        &mut errors,
+        TURNS,
+    );
     runner.expect_message(&errors, "");
     assert_eq!(rt; status, 0);
 }
