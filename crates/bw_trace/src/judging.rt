@@ -162,7 +162,9 @@ fn number_in(word: &[u8]) -> Option<u64>
 {
     let mut number: u64 = 0;
     for b in word {
-        number = number.checked_mul(10)?.checked_add(u64::from(b.saturating_sub(b'0')))?;
+        number = number
+            .checked_mul(10)?
+            .checked_add(u64::from(b.saturating_sub(b'0')))?;
     }
     Some(number)
 }

@@ -40,15 +40,16 @@ impl<R: Inlet> Model for Source<R> {
     ghost Value = { SourceView };
 
     ghost view = { λ s. record {
-        unread = unread_of s.buffer.items s.at s.len (R.remaining s.reader);
-        judged = s.judged;
-        fault = s.fault;
-        turns = s.turns;
-        budget = 4096 * s.turns + (s.len - s.at);
-        ended = s.ended;
-        calls = R.calls s.reader;
-        failures = R.failures s.reader;
-        has_ended = R.has_ended s.reader } };
+      unread = unread_of s.buffer.items s.at s.len (R.remaining s.reader);
+      judged = s.judged;
+      fault = s.fault;
+      turns = s.turns;
+      budget = 4096 * s.turns + (s.len - s.at);
+      ended = s.ended;
+      calls = R.calls s.reader;
+      failures = R.failures s.reader;
+      has_ended = R.has_ended s.reader;
+    } };
 
     ghost invariant = { λ s. (vec_len s.buffer ≡ 4096) × (s.at ≤ s.len) × (s.len ≤ 4096)
         × (s.judged + (4096 * s.turns + (s.len - s.at)) < 2 ^ 64)
@@ -134,7 +135,7 @@ impl<R: Inlet> Source<R> {
         requires { line.old.items ≡ [] }
         ensures line { IfOk result (λ found. MatchBool found
             ((read : List ℕ) × Consumes self.old.unread self.new.unread read × IsLineOf line.new.items read self.new.ended
-                × (self.new.ended ≡ true → IsOver self.new))
+            × (self.new.ended ≡ true → IsOver self.new))
             (Consumes self.old.unread self.new.unread [] × IsOver self.new)) }
         ensures falls { result ≡ Ok true → self.new.budget < self.old.budget }
         ensures over { self.old.ended ≡ true → result ≡ Ok false }
@@ -171,7 +172,7 @@ impl<R: Inlet> Source<R> {
         ensures meaning { IfOk result (λ next. (read : List ℕ) × Consumes self.old.unread self.new.unread read × MatchOption next
             ((read ≡ []) × (self.new.judged ≡ self.old.judged) × IsOver self.new)
             (λ meaning. IsLineMeaning read meaning self.new.ended × (self.new.judged ≡ self.old.judged + 1) × (self.old.ended ≡ false)
-                × (self.new.ended ≡ true → IsOver self.new))) }
+            × (self.new.ended ≡ true → IsOver self.new))) }
         ensures over { self.old.ended ≡ true → result ≡ Ok None }
         ensures cut { IfErr result (λ fault. IsOfInput fault → (self.old.ended ≡ false)
             × ((read : List ℕ) × Consumes self.old.unread self.new.unread read × (whole_lines_of read ≡ []))) }
@@ -197,7 +198,7 @@ impl<R: Inlet> Source<R> {
         ensures batch { IfOk result (λ next. (read : List ℕ) × Consumes self.old.unread self.new.unread read × MatchOption next
             ((trace_from self.old.judged read ≡ no_trace) × (self.old.ended ≡ true → read ≡ []) × IsOver self.new)
             (λ ops. StandFor self.old.judged read (ops.items ∷ []) self.new.judged self.new.ended × (self.old.ended ≡ false)
-                × (self.new.ended ≡ true → IsOver self.new))) }
+            × (self.new.ended ≡ true → IsOver self.new))) }
         ensures over { self.old.ended ≡ true → result ≡ Ok None }
         ensures line { IfErr result (λ fault. IfLine fault (λ number cause. (read : List ℕ) × Consumes self.old.unread self.new.unread read
             × IsFaultyAt self.old.judged read number cause self.new.ended × (self.new.ended ≡ true → IsOver self.new))) }
@@ -238,14 +239,12 @@ impl<R: Inlet> Source<R> {
 /// any. None at the end.
 ///
 /// Its faults are `Read`, `Endless`, `Memory` and `Line`. After a fault the source answers the same fault from then on.
-pub fn read_batch<R: Inlet>(
-    source: &mut Source<R>,
-) -> Result<Option<Vec<Op, Alloc>>, TraceFault>
+pub fn read_batch<R: Inlet>(source: &mut Source<R>) -> Result<Option<Vec<Op, Alloc>>, TraceFault>
     // The bytes that were read stand for the batch. At the end they stand for none, and the reader told its end.
     ensures batch { IfOk result (λ next. (read : List ℕ) × Consumes source.old.unread source.new.unread read × MatchOption next
         ((trace_from source.old.judged read ≡ no_trace) × (source.old.ended ≡ true → read ≡ []) × IsOver source.new)
         (λ ops. StandFor source.old.judged read (ops.items ∷ []) source.new.judged source.new.ended × (source.old.ended ≡ false)
-            × (source.new.ended ≡ true → IsOver source.new))) }
+        × (source.new.ended ≡ true → IsOver source.new))) }
     ensures over { source.old.fault ≡ None → source.old.ended ≡ true → result ≡ Ok None }
     // The line of this number is the first that is faulty, whatever follows.
     ensures line { source.old.fault ≡ None → IfErr result (λ fault. IfLine fault (λ number cause. (read : List ℕ)

@@ -19,9 +19,10 @@ impl Summary {
         requires room { self.old.batches + 1 < 2 ^ 64 }
         requires fewer { (self.old.long ≤ self.old.batches) × (self.old.memory ≤ self.old.batches) }
         ensures { self.new ≡ record {
-            batches = self.old.batches + 1;
-            long = (if is_too_long refusal then self.old.long + 1 else self.old.long);
-            memory = (if is_of_memory refusal then self.old.memory + 1 else self.old.memory) } }
+          batches = self.old.batches + 1;
+          long = (if is_too_long refusal then self.old.long + 1 else self.old.long);
+          memory = (if is_of_memory refusal then self.old.memory + 1 else self.old.memory);
+        } }
     {
         self.batches += 1;
         match refusal {

@@ -31,6 +31,7 @@ impl Inlet for Asker {
     ghost has_ended = { λ _. true };
 
     fn read(&mut self, buffer: &mut [u8]) -> Result<usize, Failed> {
+        let room = buffer.len();
         let Some((part, before)) = PARTS.get(self.calls) else {
             return Err(Failed);
         };
@@ -38,12 +39,12 @@ impl Inlet for Asker {
             return Err(Failed);
         }
         self.calls = self.calls.saturating_add(1);
-        let mut n = 0;
+        let mut n: usize = 0;
         for (slot, b) in buffer.iter_mut().zip(part.as_bytes()) {
             *slot = *b;
-            n += 1;
+            n = n.saturating_add(1);
         }
-        Ok(n)
+        Ok(n.min(room))
     }
 }
 

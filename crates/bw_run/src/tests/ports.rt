@@ -54,18 +54,19 @@ impl Inlet for Pieces {
     ghost has_ended = { λ _. true };
 
     fn read(&mut self, buffer: &mut [u8]) -> Result<usize, Failed> {
+        let room = buffer.len();
         self.calls = self.calls.saturating_add(1);
         if self.calls == self.fails_at {
             return Err(Failed);
         }
-        let mut n = 0;
+        let mut n: usize = 0;
         for slot in buffer.iter_mut().take(self.piece) {
             let Some(b) = self.text.get(self.at) else {
                 break;
             };
             *slot = *b;
             self.at = self.at.saturating_add(1);
-            n += 1;
+            n = n.saturating_add(1);
         }
         if n == 0 && self.is_endless {
             if let Some(slot) = buffer.first_mut() {
@@ -73,7 +74,7 @@ impl Inlet for Pieces {
                 return Ok(1);
             }
         }
-        Ok(n)
+        Ok(n.min(room))
     }
 }
 

@@ -27,20 +27,21 @@ impl Inlet for Pieces {
     ghost has_ended = { λ _. true };
 
     fn read(&mut self, buffer: &mut [u8]) -> Result<usize, Failed> {
+        let room = buffer.len();
         self.calls = self.calls.saturating_add(1);
         if self.calls == self.fails_at {
             return Err(Failed);
         }
-        let mut n = 0;
+        let mut n: usize = 0;
         for slot in buffer.iter_mut().take(self.piece) {
             let Some(b) = self.text.get(self.at) else {
                 break;
             };
             *slot = *b;
             self.at = self.at.saturating_add(1);
-            n += 1;
+            n = n.saturating_add(1);
         }
-        Ok(n)
+        Ok(n.min(room))
     }
 }
 
@@ -91,7 +92,10 @@ impl<'a, R: Abort> Maker<'a, R> {
 
     pub fn pieces_failing_at(&self, text: &str, piece: usize, call: u64) -> Pieces {
         Pieces {
-            text: text.as_bytes().to_vec(self.global).expect(self.rt, "memory"),
+            text: text
+                .as_bytes()
+                .to_vec(self.global)
+                .expect(self.rt, "memory"),
             piece,
             fails_at: call,
             at: 0,

@@ -42,7 +42,10 @@ fn each_reply_has_its_text(rt: HostRuntime) {
     make.expect_reply(Reply::Was(make.value(b"17")), "was 17\n");
     make.expect_reply(make.pairs(&[]), "scan 0\n");
     make.expect_reply(make.pairs(&[(b"a", b"1")]), "scan 1\na 1\n");
-    make.expect_reply(make.pairs(&[(b"", b"1"), (b"kk", b"22")]), "scan 2\n% 1\nkk 22\n");
+    make.expect_reply(
+        make.pairs(&[(b"", b"1"), (b"kk", b"22")]),
+        "scan 2\n% 1\nkk 22\n",
+    );
 }
 
 #[test]
@@ -60,7 +63,10 @@ fn values_are_plain_or_digits(rt: HostRuntime) {
         (b"/:@", "is %2f3a40\n"),
         (b"[`{", "is %5b607b\n"),
         (b"\xff\xab\xcd", "is %ffabcd\n"),
-        (b"an identifier of more than 24 bytes", "is %616e206964656e746966696572206f66206d6f7265207468616e203234206279746573\n"),
+        (
+            b"an identifier of more than 24 bytes",
+            "is %616e206964656e746966696572206f66206d6f7265207468616e203234206279746573\n",
+        ),
     ];
     for (bytes, text) in spellings {
         make.expect_reply(Reply::Found(make.value(bytes)), text);
@@ -70,7 +76,10 @@ fn values_are_plain_or_digits(rt: HostRuntime) {
 #[test]
 fn keys_and_values_of_pairs_are_plain_or_digits(rt: HostRuntime) {
     let make = Maker::new(&rt, rt.alloc());
-    make.expect_reply(make.pairs(&[(b"", b""), (b"a-b", b"\xfe"), (b"\x01", b"x")]), "scan 3\n% %\na-b %fe\n%01 x\n");
+    make.expect_reply(
+        make.pairs(&[(b"", b""), (b"a-b", b"\xfe"), (b"\x01", b"x")]),
+        "scan 3\n% %\na-b %fe\n%01 x\n",
+    );
 }
 
 #[test]
@@ -82,7 +91,10 @@ fn replies_are_printed_in_their_order(rt: HostRuntime) {
     make.expect_text(&out, "");
     let replies = [Reply::New, Reply::Was(make.value(b"1")), Reply::Absent];
     assert_eq!(rt; print_replies(make.alloc, &mut out, &replies), Ok(()));
-    assert_eq!(rt; print_replies(make.alloc, &mut out, &[Reply::Inserted]), Ok(()));
+    assert_eq!(rt;
+        print_replies(make.alloc, &mut out, &[Reply::Inserted]),
+        Ok(())
+    );
     make.expect_text(&out, "new\nwas 1\nnone\ninserted\n");
 }
 
@@ -103,7 +115,10 @@ fn a_long_text_is_handed_on_in_parts(rt: HostRuntime) {
 
     for call in 1..out.calls.saturating_add(1) {
         let mut out = make.sink_failing_at(call);
-        assert_eq!(rt; print_replies(make.alloc, &mut out, &replies), Err(TraceFault::Write));
+        assert_eq!(rt;
+            print_replies(make.alloc, &mut out, &replies),
+            Err(TraceFault::Write)
+        );
         assert!(rt; out.taken.len() < text.len());
     }
 }
@@ -116,7 +131,8 @@ fn each_growth_of_a_text_is_refused_in_turn(rt: HostRuntime) {
         Reply::Found(make.value(b"a value of more than 24 bytes")),
         make.pairs(&[(b"%", b"1"), (b"a key of more than 24 bytes", b"2")]),
     ];
-    let text = "is %612076616c7565206f66206d6f7265207468616e203234206279746573\nscan 2\n%25 1\n%61206b6579206f66206d6f7265207468616e203234206279746573 2\n";
+    let text =
+        "is %612076616c7565206f66206d6f7265207468616e203234206279746573\nscan 2\n%25 1\n%61206b6579206f66206d6f7265207468616e203234206279746573 2\n";
     let mut refusals: u64 = 0;
     for growth in 1..1000u64 {
         let mut out = make.sink();
@@ -128,7 +144,10 @@ fn each_growth_of_a_text_is_refused_in_turn(rt: HostRuntime) {
             Ok(()) => make.expect_text(&out, text),
             Err(fault) => {
                 assert_eq!(rt; fault, TraceFault::Memory, "growth {growth}");
-                assert!(rt; text.as_bytes().starts_with(out.taken.as_slice()), "growth {growth}");
+                assert!(rt;
+                    text.as_bytes().starts_with(out.taken.as_slice()),
+                    "growth {growth}"
+                );
                 refusals = refusals.saturating_add(1);
             }
         }

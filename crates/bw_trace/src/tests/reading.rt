@@ -110,11 +110,17 @@ fn faults_have_their_texts(rt: HostRuntime) {
         (TraceFault::Write, "cannot write"),
         (TraceFault::Memory, "out of memory"),
         (TraceFault::Endless, "input does not end"),
-        (in_line(1, Cause::LongLine), "line 1: line longer than 8192 bytes"),
+        (
+            in_line(1, Cause::LongLine),
+            "line 1: line longer than 8192 bytes",
+        ),
         (in_line(20, Cause::Verb), "line 20: unknown word"),
         (in_line(3, Cause::Words), "line 3: wrong number of words"),
         (in_line(4, Cause::KeyText), "line 4: badly spelled key"),
-        (in_line(5, Cause::KeyLength), "line 5: key longer than 64 bytes"),
+        (
+            in_line(5, Cause::KeyLength),
+            "line 5: key longer than 64 bytes",
+        ),
         (
             in_line(6, Cause::Number),
             "line 6: not a whole number up to 18446744073709551615",
@@ -140,7 +146,10 @@ fn refused(alloc: Alloc) -> Result<(), TraceFault> {
 fn want_of_memory_is_a_fault(rt: HostRuntime) {
     let make = Maker::new(&rt, rt.alloc());
     assert_eq!(rt; refused(make.alloc), Err(TraceFault::Memory));
-    assert_eq!(rt; TraceFault::from(std::alloc::AllocError), TraceFault::Memory);
+    assert_eq!(rt;
+        TraceFault::from(std::alloc::AllocError),
+        TraceFault::Memory
+    );
 }
 
 #[test]

@@ -30,7 +30,11 @@ fn a_summary_counts_batches_and_refusals(rt: HostRuntime) {
     let make = Maker::new(&rt, rt.alloc());
     make.expect_run("", "", Ok(counts(0, 0, 0)));
     make.expect_run("go\ngo", "", Ok(counts(2, 0, 0)));
-    make.expect_run("get a\nupsert a 1\ngo\nget a", "none\nnew\nis 1\n", Ok(counts(2, 0, 0)));
+    make.expect_run(
+        "get a\nupsert a 1\ngo\nget a",
+        "none\nnew\nis 1\n",
+        Ok(counts(2, 0, 0)),
+    );
     make.expect_run(
         "upsert a 1\nupsert a 2\nupsert a 3\ngo\nget a\ngo\nget a\nget a\nget a\nget a\ngo\n",
         "refused long 3 2\nnone\nrefused long 4 2\n",
@@ -62,7 +66,13 @@ fn batches_without_memory_are_counted(rt: HostRuntime) {
         let mut out = make.sink();
         let mut source = Source::new(make.alloc, input, 1000).expect(&rt, "memory");
         make.alloc.refuse(growth);
-        let outcome = run_trace(make.alloc, &mut source, &mut out, Options::default(), Job::Run);
+        let outcome = run_trace(
+            make.alloc,
+            &mut source,
+            &mut out,
+            Options::default(),
+            Job::Run,
+        );
         let left = make.alloc.left();
         make.alloc.refuse(0);
         match outcome {
