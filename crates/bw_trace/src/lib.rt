@@ -10,6 +10,8 @@ mod sources;
 mod spelling;
 mod std_ports;
 mod summaries;
+#[cfg(test)]
+mod tests;
 
 pub use faults::{Cause, TraceFault};
 pub use ports::{Failed, Inlet, Outlet};

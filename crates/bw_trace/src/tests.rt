@@ -1,0 +1,5 @@
+// What no contract can say: that calls succeed, what their texts look like, and each growth of memory refused in turn.
+mod ports;
+mod printing;
+mod reading;
+mod running;
