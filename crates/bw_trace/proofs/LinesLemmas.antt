@@ -1,7 +1,9 @@
 -- Lines at the front of bytes.
-use Rattle.std.proofs.Common.{◌≡◌, ℕ, ◌<◌, ◌≤◌, Bool, true, false, cond, List, [], ◌∷◌, ◌++◌, length, eqb, refl, sym, ap, ◌∙◌, arith, append_assoc, append-nil, length-append}
-use Rattle.std.specs.List.{onto_first}
-use Rattle.bw_trace.specs.Lines.{lines_of, onto_whole, whole_lines_of, IsLineOf}
+use Rattle.std.proofs.Common.{◌≡◌, ℕ, ◌<◌, ◌≤◌, Bool, true, false, cond, ◌||◌, ltb, List, [], ◌∷◌, ◌++◌, length, eqb, refl, sym, ap, ◌∙◌, arith, append_assoc, append-nil, length-append}
+use Rattle.std.specs.Prelude.{◌==◌}
+use Rattle.std.proofs.lemmas.Bool.{le-ltb}
+use Rattle.std.specs.List.{onto_first, list_any}
+use Rattle.bw_trace.specs.Lines.{lines_of, onto_whole, whole_lines_of, unfinished_of, judged_lines_of, IsLineOf}
 
 -- no byte ends a line
 abbrev pub IsOneLine : List ℕ → Type 0
@@ -47,9 +49,44 @@ whole_front [] rest one = refl
 whole_front (b ∷ line) rest one = onto_a_whole b (line ++ 10 ∷ rest) (line ∷ whole_lines_of rest) one.0 (whole_front line rest one.1)
 
 -- bytes that no byte 10 ends are no whole line
-pub whole_none : (line : List ℕ) → IsOneLine line → whole_lines_of line ≡ []
+whole_none : (line : List ℕ) → IsOneLine line → whole_lines_of line ≡ []
 whole_none [] one = refl
 whole_none (b ∷ line) one = onto_a_whole b line [] one.0 (whole_none line one.1)
+
+-- ---- what is unfinished
+
+has_end : (line rest : List ℕ) → list_any (λ c. c == 10) (line ++ 10 ∷ rest) ≡ true
+has_end [] rest = refl
+has_end (b ∷ line) rest = or_true (b == 10) (list_any (λ c. c == 10) (line ++ 10 ∷ rest)) (has_end line rest)
+  where
+    or_true : (a b : Bool) → b ≡ true → (a || b) ≡ true
+    or_true true b e = refl
+    or_true false b e = e
+
+has_none : (line : List ℕ) → IsOneLine line → list_any (λ c. c == 10) line ≡ false
+has_none [] one = refl
+has_none (b ∷ line) one = ap (λ t. t || list_any (λ c. c == 10) line) one.0 ∙ has_none line one.1
+
+unfinished_front : (line rest : List ℕ) → unfinished_of (line ++ 10 ∷ rest) ≡ unfinished_of rest
+unfinished_front [] rest = refl
+unfinished_front (b ∷ line) rest =
+    ap (λ t. cond t (unfinished_of (line ++ 10 ∷ rest)) (b ∷ (line ++ 10 ∷ rest))) (has_end (b ∷ line) rest) ∙ unfinished_front line rest
+
+unfinished_all : (line : List ℕ) → IsOneLine line → unfinished_of line ≡ line
+unfinished_all [] one = refl
+unfinished_all (b ∷ line) one = ap (λ t. cond t (unfinished_of line) (b ∷ line)) (has_none (b ∷ line) one)
+
+judged_front : (line rest : List ℕ) → IsOneLine line → judged_lines_of (line ++ 10 ∷ rest) ≡ line ∷ judged_lines_of rest
+judged_front line rest one =
+    ap (λ (u : List ℕ). whole_lines_of (line ++ 10 ∷ rest) ++ cond (ltb 8192 (length u)) (u ∷ []) []) (unfinished_front line rest)
+    ∙ ap (λ (ls : List (List ℕ)). ls ++ cond (ltb 8192 (length (unfinished_of rest))) (unfinished_of rest ∷ []) []) (whole_front line rest one)
+
+-- bytes that no byte 10 ends are no line to judge, unless they are too many
+pub judged_none : (line : List ℕ) → IsOneLine line → length line ≤ 8192 → judged_lines_of line ≡ []
+judged_none line one short =
+    ap (λ (u : List ℕ). whole_lines_of line ++ cond (ltb 8192 (length u)) (u ∷ []) []) (unfinished_all line one)
+    ∙ ap (λ (ls : List (List ℕ)). ls ++ cond (ltb 8192 (length line)) (line ∷ []) []) (whole_none line one)
+    ∙ ap (λ t. cond t (line ∷ []) []) (le-ltb 8192 (length line) short)
 
 -- ---- what reading a line gives
 
@@ -58,7 +95,7 @@ pub ended_line : (line : List ℕ) (ended : Bool) → IsOneLine line → length 
 ended_line line ended one short = record {
   first = λ more at_end.
       (λ le. ap lines_of (append_assoc line (10 ∷ []) more) ∙ lines_front line more one, λ lt. absurd (omega (arith, lt, short)));
-  whole = λ going le more. ap whole_lines_of (append_assoc line (10 ∷ []) more) ∙ whole_front line more one;
+  whole = λ going le more. ap judged_lines_of (append_assoc line (10 ∷ []) more) ∙ judged_front line more one;
 }
 
 -- so does the end of the input, where the line isn't empty

@@ -5,12 +5,12 @@ use Rattle.std.specs.Io.KnownBytes.{Consumes}
 use Rattle.bw_trace.specs.Sources.{SourceView, ReadsOn}
 
 pub reads_on_none : (s : SourceView) → ReadsOn s s
-reads_on_none s = record { turns = omega arith; calls = omega arith; budget = omega arith }
+reads_on_none s = record { turns = omega arith; calls = (omega arith, omega arith); budget = omega arith }
 
 pub reads_on_more : (a b c : SourceView) → ReadsOn a b → ReadsOn b c → ReadsOn a c
 reads_on_more a b c first second = record {
   turns = omega (arith, first.turns, second.turns);
-  calls = omega (arith, first.turns, second.turns, first.calls, second.calls);
+  calls = (omega (arith, first.turns, second.turns, first.calls.0, second.calls.0), omega (arith, first.turns, second.turns, first.calls.1, second.calls.1));
   budget = omega (arith, first.budget, second.budget);
 }
 

@@ -8,7 +8,7 @@ use Rattle.bw_trace.specs.declared.faults.Cause.{Cause}
 use Rattle.bw_trace.specs.declared.faults.Cause.TheVariants.{LongLine}
 use Rattle.bw_trace.specs.declared.judging.Meaning.{Meaning}
 use Rattle.bw_trace.specs.declared.judging.Meaning.TheVariants.{Nothing, Operation, EndsBatch, Faulty}
-use Rattle.bw_trace.specs.Lines.{lines_of, whole_lines_of, IsFirstLine, IsLineOf}
+use Rattle.bw_trace.specs.Lines.{lines_of, judged_lines_of, IsFirstLine, IsLineOf}
 use Rattle.bw_trace.specs.Grammar.{meaning_of, IsLineMeaning}
 use Rattle.bw_trace.specs.Traces.{trace_of_lines, trace_from, cut_trace_from, line_then, at_end, at_cut, no_trace, behind, StandFor, IsFaultyAt}
 
@@ -30,12 +30,12 @@ first_line judged ops all line rest is = elim (cases_lt 8192 (length line)) [
 -- The bytes that were read gave these operations since the last `go`, and so many lines were judged.
 pub record IsGathering (before : ℕ) (read : List ℕ) (ops : List Op) (after : ℕ) (ended : Bool) : Type 0 where
   pub further : (more : List ℕ) → (ended ≡ true → more ≡ []) → trace_from before (read ++ more) ≡ trace_of_lines at_end after ops (lines_of more)
-  pub cut : ended ≡ false → (more : List ℕ) → cut_trace_from before (read ++ more) ≡ trace_of_lines at_cut after ops (whole_lines_of more)
+  pub cut : ended ≡ false → (more : List ℕ) → cut_trace_from before (read ++ more) ≡ trace_of_lines at_cut after ops (judged_lines_of more)
 
 -- A line of this meaning was read behind them.
 pub record IsJudged (before : ℕ) (read : List ℕ) (ops : List Op) (after : ℕ) (ended : Bool) (meaning : Meaning) : Type 0 where
   pub further : (more : List ℕ) → (ended ≡ true → more ≡ []) → trace_from before (read ++ more) ≡ line_then after ops meaning (λ ops'. trace_of_lines at_end after ops' (lines_of more))
-  pub cut : meaning ≢ Faulty LongLine → ended ≡ false → (more : List ℕ) → cut_trace_from before (read ++ more) ≡ line_then after ops meaning (λ ops'. trace_of_lines at_cut after ops' (whole_lines_of more))
+  pub cut : meaning ≢ Faulty LongLine → ended ≡ false → (more : List ℕ) → cut_trace_from before (read ++ more) ≡ line_then after ops meaning (λ ops'. trace_of_lines at_cut after ops' (judged_lines_of more))
 
 pub gathering_starts : (before : ℕ) (ended : Bool) → IsGathering before [] [] before ended
 gathering_starts before ended = record { further = λ more end. refl; cut = λ going more. refl }
@@ -50,7 +50,7 @@ line_judged before judged read taken line ops ended ended' meaning going so_far 
   cut = λ other going' more.
       ap (cut_trace_from before) (append_assoc read taken more) ∙ so_far.cut going (taken ++ more)
       ∙ ap (trace_of_lines at_cut judged ops) (is.whole going' (short other) more)
-      ∙ ap (λ m. line_then (judged + 1) ops m (λ ops'. trace_of_lines at_cut (judged + 1) ops' (whole_lines_of more))) (sym means);
+      ∙ ap (λ m. line_then (judged + 1) ops m (λ ops'. trace_of_lines at_cut (judged + 1) ops' (judged_lines_of more))) (sym means);
 }
   where
     short : meaning ≢ Faulty LongLine → length line ≤ 8192
@@ -64,21 +64,21 @@ line_judged before judged read taken line ops ended ended' meaning going so_far 
 pub after_nothing : (before after : ℕ) (read : List ℕ) (ops : List Op) (ended : Bool) (meaning : Meaning) → meaning ≡ Nothing → IsJudged before read ops after ended meaning → IsGathering before read ops after ended
 after_nothing before after read ops ended meaning is judged = record {
   further = λ more end. judged.further more end ∙ ap (λ m. line_then after ops m (λ ops'. trace_of_lines at_end after ops' (lines_of more))) is;
-  cut = λ going more. judged.cut (λ e. cc) going more ∙ ap (λ m. line_then after ops m (λ ops'. trace_of_lines at_cut after ops' (whole_lines_of more))) is;
+  cut = λ going more. judged.cut (λ e. cc) going more ∙ ap (λ m. line_then after ops m (λ ops'. trace_of_lines at_cut after ops' (judged_lines_of more))) is;
 }
 
 pub after_operation : (before after : ℕ) (read : List ℕ) (ops : List Op) (op : Op) (ended : Bool) (meaning : Meaning) → meaning ≡ Operation op → IsJudged before read ops after ended meaning →
     IsGathering before read (ops ++ op ∷ []) after ended
 after_operation before after read ops op ended meaning is judged = record {
   further = λ more end. judged.further more end ∙ ap (λ m. line_then after ops m (λ ops'. trace_of_lines at_end after ops' (lines_of more))) is;
-  cut = λ going more. judged.cut (λ e. cc) going more ∙ ap (λ m. line_then after ops m (λ ops'. trace_of_lines at_cut after ops' (whole_lines_of more))) is;
+  cut = λ going more. judged.cut (λ e. cc) going more ∙ ap (λ m. line_then after ops m (λ ops'. trace_of_lines at_cut after ops' (judged_lines_of more))) is;
 }
 
 pub after_go : (before after : ℕ) (read : List ℕ) (ops : List Op) (ended : Bool) (meaning : Meaning) → meaning ≡ EndsBatch → IsJudged before read ops after ended meaning → StandFor before read (ops ∷ []) after ended
 after_go before after read ops ended meaning is judged = record {
   alone = ap (trace_from before) (sym (append-nil read)) ∙ further [] (λ _. refl);
   further = λ going more. further more (λ e. absurd (let f = going in cc));
-  cut = λ going more. judged.cut (λ e. cc) going more ∙ ap (λ m. line_then after ops m (λ ops'. trace_of_lines at_cut after ops' (whole_lines_of more))) is;
+  cut = λ going more. judged.cut (λ e. cc) going more ∙ ap (λ m. line_then after ops m (λ ops'. trace_of_lines at_cut after ops' (judged_lines_of more))) is;
 }
   where
     further : (more : List ℕ) → (ended ≡ true → more ≡ []) → trace_from before (read ++ more) ≡ behind (ops ∷ []) (trace_from after more)
@@ -104,7 +104,7 @@ last_at_end before after read (op ∷ ops) ended ended' some end so_far = record
 }
 
 -- where the input was cut off
-pub none_at_cut : (before after : ℕ) (read taken : List ℕ) (ops : List Op) (ended : Bool) → ended ≡ false → whole_lines_of taken ≡ [] → IsGathering before read ops after ended → cut_trace_from before (read ++ taken) ≡ no_trace
+pub none_at_cut : (before after : ℕ) (read taken : List ℕ) (ops : List Op) (ended : Bool) → ended ≡ false → judged_lines_of taken ≡ [] → IsGathering before read ops after ended → cut_trace_from before (read ++ taken) ≡ no_trace
 none_at_cut before after read taken ops ended going none so_far = so_far.cut going taken ∙ ap (trace_of_lines at_cut after ops) none
 
 -- ---- the same, with what was unread before and after

@@ -1,6 +1,6 @@
 -- The lines of a trace.
-use Rattle.std.specs.Prelude.{◌≡◌, ◌<◌, ◌≤◌, ℕ, ◌==◌, if◌then◌else◌, Bool, true, false, List, [], ◌∷◌, ◌++◌, length}
-use Rattle.std.specs.List.{onto_first}
+use Rattle.std.specs.Prelude.{◌≡◌, ◌<◌, ◌≤◌, ℕ, ◌==◌, nat_lt, if◌then◌else◌, Bool, true, false, List, [], ◌∷◌, ◌++◌, length}
+use Rattle.std.specs.List.{onto_first, list_any}
 
 -- Byte 10 ends a line. What stands behind the last one is a line too, where it is not empty.
 abbrev pub lines_of : List ℕ → List (List ℕ)
@@ -17,9 +17,19 @@ abbrev pub whole_lines_of : List ℕ → List (List ℕ)
 whole_lines_of [] = []
 whole_lines_of (b ∷ bs) = if b == 10 then [] ∷ whole_lines_of bs else onto_whole b (whole_lines_of bs)
 
+-- what stands behind the last byte 10
+abbrev pub unfinished_of : List ℕ → List ℕ
+unfinished_of [] = []
+unfinished_of (b ∷ bs) = if list_any (λ c. c == 10) (b ∷ bs) then unfinished_of bs else b ∷ bs
+
 -- the most bytes of a line
 abbrev pub line_max : ℕ
 line_max = 8192
+
+-- The lines that can be judged where the input is cut off: the whole ones, and behind them an unfinished one that is
+-- too long already.
+abbrev pub judged_lines_of : List ℕ → List (List ℕ)
+judged_lines_of bytes = whole_lines_of bytes ++ (if nat_lt line_max (length (unfinished_of bytes)) then unfinished_of bytes ∷ [] else [])
 
 -- A line at the front of the bytes, and what is behind it. Of a line that is too long, a part that is so too.
 abbrev pub IsFirstLine : List ℕ → List ℕ → List ℕ → Type 0
@@ -30,4 +40,4 @@ IsFirstLine all line rest =
 -- The line that was read with these bytes, whatever follows them. At the end of the input nothing does.
 pub record IsLineOf (line read : List ℕ) (ended : Bool) : Type 0 where
   pub first : (more : List ℕ) → (ended ≡ true → more ≡ []) → IsFirstLine (read ++ more) line more
-  pub whole : ended ≡ false → length line ≤ line_max → (more : List ℕ) → whole_lines_of (read ++ more) ≡ line ∷ whole_lines_of more
+  pub whole : ended ≡ false → length line ≤ line_max → (more : List ℕ) → judged_lines_of (read ++ more) ≡ line ∷ judged_lines_of more

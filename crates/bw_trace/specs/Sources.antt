@@ -17,7 +17,8 @@ pub record SourceView : Type 0 where
   pub budget : ℕ
   -- whether it came to the end of its reader
   pub ended : Bool
-  -- of its reader
+  -- of its reader: the bytes that it has left, where it says so
+  pub remaining : Option (List ℕ)
   pub calls : ℕ
   pub failures : ℕ
   pub has_ended : Bool

@@ -4,7 +4,7 @@ use Rattle.bw_model.specs.declared.operations.Op.{Op}
 use Rattle.bw_trace.specs.declared.faults.Cause.{Cause}
 use Rattle.bw_trace.specs.declared.judging.Meaning.{Meaning}
 use Rattle.bw_trace.specs.declared.judging.Meaning.TheVariants.{Nothing, Operation, EndsBatch, Faulty}
-use Rattle.bw_trace.specs.Lines.{lines_of, whole_lines_of}
+use Rattle.bw_trace.specs.Lines.{lines_of, judged_lines_of}
 use Rattle.bw_trace.specs.Grammar.{meaning_of}
 
 -- the batches before the first fault, and that fault with the number of its line
@@ -51,9 +51,9 @@ trace_of_lines finish judged ops (line ∷ lines) =
 abbrev pub trace_from : ℕ → List ℕ → Trace
 trace_from judged bytes = trace_of_lines at_end judged [] (lines_of bytes)
 
--- what whole lines say of it, where the input was cut off
+-- what the lines that can be judged say of it, where the input was cut off
 abbrev pub cut_trace_from : ℕ → List ℕ → Trace
-cut_trace_from judged bytes = trace_of_lines at_cut judged [] (whole_lines_of bytes)
+cut_trace_from judged bytes = trace_of_lines at_cut judged [] (judged_lines_of bytes)
 
 -- The bytes that were read stand for these batches, behind so many lines, and whatever follows them is read behind
 -- so many others. At the end of the input nothing does.

@@ -49,7 +49,7 @@ pub fn run_trace<R: Inlet, W: Outlet>(
         × Appends (W.contents out.old) (W.contents out.new) (outcomes_text outcomes)))) }
     // Where the input failed or did not end, the texts of the batches that whole lines `go` ended were written.
     ensures cut { source.old.fault ≡ None → IfErr result (λ fault. IsOfInput fault →
-        (read : List ℕ) × Consumes source.old.unread source.new.unread read
+        (read : List ℕ) × Consumes source.old.unread source.new.remaining read
         × ((outcomes : List Outcome) × IsRun options.batch_max (cut_trace_from source.old.judged read) outcomes no_trace
         × Appends (W.contents out.old) (W.contents out.new) (outcomes_text outcomes))) }
     // For want of memory, a front of the texts of the first batches was written.

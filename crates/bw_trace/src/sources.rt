@@ -4,7 +4,7 @@ ghost use Rattle.std.specs.Bool.{MatchBool};
 ghost use Rattle.std.specs.Io.KnownBytes.{Consumes, IsAtEnd};
 ghost use Rattle.bw_trace.specs.Counts.{HasRisenBy};
 ghost use Rattle.bw_trace.specs.Faults.{IsOfBytes, IsOfInput, IsOfReading, IfLine};
-ghost use Rattle.bw_trace.specs.Lines.{IsLineOf, whole_lines_of};
+ghost use Rattle.bw_trace.specs.Lines.{IsLineOf, judged_lines_of};
 ghost use Rattle.bw_trace.specs.Grammar.{IsLineMeaning};
 ghost use Rattle.bw_trace.specs.Sources.{IsOver, ReadsOn};
 ghost use Rattle.bw_trace.specs.Traces.{StandFor, IsFaultyAt, trace_from, cut_trace_from, no_trace};
@@ -49,6 +49,7 @@ impl<R: Inlet> Model for Source<R> {
       turns = s.turns;
       budget = 4096 * s.turns + (s.len - s.at);
       ended = s.ended;
+      remaining = R.remaining s.reader;
       calls = R.calls s.reader;
       failures = R.failures s.reader;
       has_ended = R.has_ended s.reader;
@@ -100,7 +101,7 @@ impl<R: Inlet> Source<R> {
         ensures on { ReadsOn self.old self.new }
         ensures same { (self.new.judged ≡ self.old.judged) × (self.new.fault ≡ self.old.fault) }
         ensures none_failed { OnOk result (self.new.failures ≡ self.old.failures) }
-        ensures faults { IfErr result (λ fault. IsOfInput fault × (self.old.ended ≡ false) × Consumes self.old.unread self.new.unread []) }
+        ensures faults { IfErr result (λ fault. IsOfInput fault × (self.old.ended ≡ false) × Consumes self.old.unread self.new.remaining []) }
         ensures read { IsErrOf result TraceFault.Read → HasRisenBy 1 self.old.failures self.new.failures }
         ensures endless { IsErrOf result TraceFault.Endless → self.new.turns ≡ 0 }
     {
@@ -147,7 +148,7 @@ impl<R: Inlet> Source<R> {
         ensures none_failed { OnOk result (self.new.failures ≡ self.old.failures) }
         ensures faults { IfErr result (λ fault. IsOfBytes fault) }
         ensures cut { IfErr result (λ fault. IsOfInput fault → (self.old.ended ≡ false)
-            × ((read : List ℕ) × Consumes self.old.unread self.new.unread read × (whole_lines_of read ≡ []))) }
+            × ((read : List ℕ) × Consumes self.old.unread self.new.remaining read × (judged_lines_of read ≡ []))) }
         ensures read { IsErrOf result TraceFault.Read → HasRisenBy 1 self.old.failures self.new.failures }
         ensures endless { IsErrOf result TraceFault.Endless → self.new.turns ≡ 0 }
     {
@@ -178,7 +179,7 @@ impl<R: Inlet> Source<R> {
             × (self.new.ended ≡ true → IsOver self.new))) }
         ensures over { self.old.ended ≡ true → result ≡ Ok None }
         ensures cut { IfErr result (λ fault. IsOfInput fault → (self.old.ended ≡ false)
-            × ((read : List ℕ) × Consumes self.old.unread self.new.unread read × (whole_lines_of read ≡ []))) }
+            × ((read : List ℕ) × Consumes self.old.unread self.new.remaining read × (judged_lines_of read ≡ []))) }
         ensures falls { IfOk result (λ next. IfSome next (λ _. self.new.judged + self.new.budget < 2 ^ 64 × (self.new.budget < self.old.budget))) }
         ensures on { ReadsOn self.old self.new }
         ensures fault { self.new.fault ≡ self.old.fault }
@@ -206,7 +207,7 @@ impl<R: Inlet> Source<R> {
         ensures line { IfErr result (λ fault. IfLine fault (λ number cause. (read : List ℕ) × Consumes self.old.unread self.new.unread read
             × IsFaultyAt self.old.judged read number cause self.new.ended × (self.new.ended ≡ true → IsOver self.new))) }
         ensures cut { IfErr result (λ fault. IsOfInput fault → (self.old.ended ≡ false)
-            × ((read : List ℕ) × Consumes self.old.unread self.new.unread read × (cut_trace_from self.old.judged read ≡ no_trace))) }
+            × ((read : List ℕ) × Consumes self.old.unread self.new.remaining read × (cut_trace_from self.old.judged read ≡ no_trace))) }
         ensures falls { IfOk result (λ next. IfSome next (λ _. self.new.budget < self.old.budget)) }
         ensures on { ReadsOn self.old self.new }
         ensures fault { self.new.fault ≡ self.old.fault }
@@ -255,7 +256,7 @@ pub fn read_batch<R: Inlet>(source: &mut Source<R>) -> Result<Option<Vec<Op, All
         × (source.new.ended ≡ true → IsOver source.new))) }
     // Where the input failed or did not end, no line `go` was read whole.
     ensures cut { source.old.fault ≡ None → IfErr result (λ fault. IsOfInput fault → (source.old.ended ≡ false)
-        × ((read : List ℕ) × Consumes source.old.unread source.new.unread read × (cut_trace_from source.old.judged read ≡ no_trace))) }
+        × ((read : List ℕ) × Consumes source.old.unread source.new.remaining read × (cut_trace_from source.old.judged read ≡ no_trace))) }
     ensures read { source.old.fault ≡ None → IsErrOf result TraceFault.Read → HasRisenBy 1 source.old.failures source.new.failures }
     ensures endless { source.old.fault ≡ None → IsErrOf result TraceFault.Endless → source.new.turns ≡ 0 }
     ensures faults { source.old.fault ≡ None → IfErr result (λ fault. IsOfReading fault) }

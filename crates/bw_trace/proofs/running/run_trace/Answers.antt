@@ -4,7 +4,7 @@ use Rattle.std.proofs.lemmas.Result.{err_from_is_err_and}
 use Rattle.bw_batch.specs.View.{contents_of}
 use Rattle.bw_model.specs.Runs.{Answers, left_by}
 use Rattle.bw_trace.proofs.Reading.{reads_on_none, reads_on_more}
-use Rattle.bw_trace.proofs.RunningLemmas.{runs_to_none, stops_at_start, stops_for_memory, not_over, has_run_more, is_run_at_cut, is_run_of_all, front_of_all, front_more, texts_more, count_both, fewer_more, summary_more}
+use Rattle.bw_trace.proofs.RunningLemmas.{runs_to_none, stops_at_start, stops_for_memory, not_over, has_run_more, is_run_at_cut, is_run_at_end, is_run_of_all, front_of_all, front_more, texts_more, count_both, fewer_more, summary_more}
 use Rattle.bw_batch.specs.Settings.{Settings}
 use Rattle.bw_trace.specs.Running.{summary_of, refusal_in}
 use Rattle.bw_trace.specs.declared.summaries.Summary.{Summary}
@@ -35,7 +35,7 @@ returns-in_err-ops-clause-cut g c = λ fresh.
     rw (p.1, p.2) (λ input.
     let cut = c.in_err-ops.ensures.cut (c.loop-index.invariant.fault fresh) input in (
       so_far.read ++ cut.1.0,
-      Consumes-trans before.unread mid.unread c.read_batch.new.source.unread so_far.read cut.1.0 so_far.taken cut.1.1,
+      Consumes-trans before.unread mid.unread c.read_batch.new.source.remaining so_far.read cut.1.0 so_far.taken cut.1.1,
       (so_far.outcomes, is_run_at_cut c.args.options.batch_max before.judged mid.judged so_far.read cut.1.0 so_far.outcomes mid.ended (contents_of c.loop-index.index) cut.0 so_far.has_run cut.1.2, so_far.written),
     ))
 
@@ -106,3 +106,21 @@ loop-index-preserved g c =
       none_failed = c.in_ok-ops.ensures.none_failed ∙ c.loop-index.invariant.none_failed;
       none_failed_out = c.in_ok-refusal.ensures.none_failed ∙ c.loop-index.invariant.none_failed_out;
     }
+
+pub returns-clause-done : goal.returns-clause-done
+returns-clause-done g c =
+    let so_far = c.loop-index.invariant.so_far in
+    let before = c.args.source.now in
+    let mid = c.loop-index.source in
+    let now = c.read_batch.new.source in
+    let said = rw c.in_default.is at c.in_ok-ops.ensures.batch in (
+      so_far.read ++ said.0,
+      Consumes-trans before.unread mid.unread now.unread so_far.read said.0 so_far.taken said.1,
+      said.2.2.nothing_left,
+      (
+        so_far.outcomes,
+        is_run_at_end c.args.options.batch_max before.judged mid.judged so_far.read said.0 so_far.outcomes mid.ended (contents_of c.loop-index.index) so_far.has_run said.2.0 said.2.1,
+        so_far.counted,
+        so_far.written,
+      ),
+    )

@@ -1,10 +1,12 @@
-use Rattle.std.proofs.Common.{◌≡◌, ◌∙◌, Bool, true, false, ap, sym, subst, List, [], ◌∷◌, ◌<◌, length, ℕ, refl, inl, inr, arith}
+use Rattle.std.proofs.Common.{◌≡◌, ◌++◌, ◌∙◌, Bool, true, false, ap, sym, subst, List, [], ◌∷◌, ◌<◌, length, ℕ, refl, inl, inr, arith}
+use Rattle.std.proofs.KnownBytes.{Consumes-trans}
 use Rattle.std.proofs.lemmas.Bool.Decides.{nat_tests}
+use Rattle.std.proofs.lemmas.Result.{err_from_is_err_and}
 use Rattle.std.specs.Io.KnownBytes.{Consumes}
 use Rattle.bw_trace.specs.Sources.{SourceView}
 use Rattle.bw_trace.specs.Traces.{StandFor}
 use Rattle.bw_trace.proofs.Reading.{reads_on_more, takes_none_after}
-use Rattle.bw_trace.proofs.TracesLemmas.{GoesOn, one_line, gathered, one_more_at_most, was_going, after_go, after_fault, last_at_end}
+use Rattle.bw_trace.proofs.TracesLemmas.{GoesOn, one_line, gathered, one_more_at_most, was_going, after_go, after_fault, last_at_end, none_at_cut}
 use Rattle.bw_trace.proofs.sources.Source.gather.Goals as goal
 
 not_ended : (b : Bool) → (b ≡ true → ⊥) → b ≡ false
@@ -109,3 +111,19 @@ returns-clause-batch g c =
         λ _. said.2.2,
       ),
     )
+
+pub returns-in_err-meaning-clause-cut : goal.returns-in_err-meaning-clause-cut
+returns-in_err-meaning-clause-cut g c =
+    let before = c.args.self.now in
+    let mid = c.loop-line.self in
+    let so_far = c.loop-line.invariant.so_far in
+    let p = err_from_is_err_and c.from_residual.result c.from_residual.ensures.1 in
+    rw (p.1, p.2) (λ input.
+    let cut = c.in_err-meaning.ensures.cut input in (
+      was_going before.ended mid.ended (λ e. (c.loop-line.invariant.over e).0) cut.0,
+      (
+        so_far.0 ++ cut.1.0,
+        Consumes-trans before.unread mid.unread c.next_line.new.self.remaining so_far.0 cut.1.0 so_far.1 cut.1.1,
+        none_at_cut before.judged mid.judged so_far.0 cut.1.0 c.loop-line.ops.items mid.ended cut.0 cut.1.2 so_far.2,
+      ),
+    ))
