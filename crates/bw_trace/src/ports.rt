@@ -1,5 +1,5 @@
 // Where a trace comes from, and where texts go.
-ghost use Rattle.std.specs.Prelude.{◌≡◌, ℕ, ◌<◌, ◌≤◌, Bool, true, List, length, take, Option, IfOk, OnOk, OnErr};
+ghost use Rattle.std.specs.Prelude.{◌≡◌, ℕ, ◌<◌, ◌≤◌, ◌||◌, ◌&&◌, ◌==◌, nat_lt, Bool, true, List, length, take, Option, IfOk, OnOk, OnErr};
 ghost use Rattle.std.specs.Io.KnownBytes.{Appends, Consumes, IsAtEnd, Keeps};
 ghost use Rattle.bw_trace.specs.Counts.{HasRisenBy};
 
@@ -30,6 +30,8 @@ pub trait Inlet: Drop {
         ensures bound { IfOk result (λ n. n ≤ length buffer.old) }
         ensures bytes { IfOk result (λ n. Consumes (remaining self.old) (remaining self.new) (take n buffer.new)) }
         ensures end { IfOk result (λ n. n ≡ 0 → 0 < length buffer.old → IsAtEnd (remaining self.new) × (has_ended self.new ≡ true)) }
+        ensures told { IfOk result (λ n. has_ended self.new ≡ (has_ended self.old || (n == 0 && nat_lt 0 (length buffer.old)))) }
+        ensures not_told { OnErr result (has_ended self.new ≡ has_ended self.old) }
         ensures none_lost { OnErr result (Keeps (remaining self.old) (remaining self.new)) }
         ensures calls { HasRisenBy 1 (calls self.old) (calls self.new) }
         ensures none_failed { OnOk result (failures self.new ≡ failures self.old) }

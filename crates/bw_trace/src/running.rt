@@ -6,6 +6,7 @@ ghost use Rattle.bw_model.specs.Runs.{Outcome, Answers, left_by};
 ghost use Rattle.bw_trace.specs.Counts.{HasRisenBy};
 ghost use Rattle.bw_trace.specs.Faults.{IfLine, IsOfInput, IsOfWriting};
 ghost use Rattle.bw_trace.specs.Running.{IsRun, refusal_in, summary_of};
+ghost use Rattle.bw_trace.specs.Sources.{ReadsOn};
 ghost use Rattle.bw_trace.specs.Statuses.{status_of};
 ghost use Rattle.bw_trace.specs.Texts.{outcome_text, outcomes_text};
 ghost use Rattle.bw_trace.specs.Traces.{Trace, trace_from, cut_trace_from, no_trace, faulty};
@@ -56,6 +57,7 @@ pub fn run_trace<R: Inlet, W: Outlet>(
     ensures memory { source.old.fault ≡ None → IsErrOf result TraceFault.Memory → IfSome source.old.unread (λ all.
         (outcomes : List Outcome) × ((rest : Trace) × IsRun options.batch_max (trace_from source.old.judged all) outcomes rest)
         × TakesFront (W.contents out.old) (W.contents out.new) (outcomes_text outcomes)) }
+    ensures on { ReadsOn source.old source.new }
     ensures read { source.old.fault ≡ None → IsErrOf result TraceFault.Read → HasRisenBy 1 source.old.failures source.new.failures }
     ensures write { source.old.fault ≡ None → IsErrOf result TraceFault.Write → HasRisenBy 1 (W.failures out.old) (W.failures out.new) }
     ensures endless { source.old.fault ≡ None → IsErrOf result TraceFault.Endless → HasRisenBy source.old.turns source.old.calls source.new.calls }

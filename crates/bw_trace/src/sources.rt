@@ -88,6 +88,7 @@ impl<R: Inlet> Source<R> {
     pub(crate) fn know_budget(&self)
         ensures { self.now.budget < 2 ^ 64 }
     {
+        // A look at a field is what makes the type's rule known here.
         let _ = &self.reader;
     }
 
