@@ -57,7 +57,7 @@ whole_none (b ∷ line) one = onto_a_whole b line [] one.0 (whole_none line one.
 pub ended_line : (line : List ℕ) (ended : Bool) → IsOneLine line → length line ≤ 8192 → IsLineOf line (line ++ 10 ∷ []) ended
 ended_line line ended one short = record {
   first = λ more at_end.
-    (λ le. ap lines_of (append_assoc line (10 ∷ []) more) ∙ lines_front line more one, λ lt. absurd (omega (arith, lt, short)));
+      (λ le. ap lines_of (append_assoc line (10 ∷ []) more) ∙ lines_front line more one, λ lt. absurd (omega (arith, lt, short)));
   whole = λ going le more. ap whole_lines_of (append_assoc line (10 ∷ []) more) ∙ whole_front line more one;
 }
 
@@ -65,9 +65,11 @@ ended_line line ended one short = record {
 pub last_line : (line : List ℕ) (ended : Bool) → IsOneLine line → 0 < length line → length line ≤ 8192 → ended ≡ true → IsLineOf line line ended
 last_line [] ended one some short end = absurd (omega arith)
 last_line (b ∷ line) ended one some short end = record {
-  first = λ more at_end.
-    (λ le. ap (λ m. lines_of ((b ∷ line) ++ m)) (at_end end) ∙ ap lines_of (append-nil (b ∷ line)) ∙ lines_last b line one
-      ∙ ap (λ m. (b ∷ line) ∷ lines_of m) (sym (at_end end)), λ lt. absurd (omega (arith, lt, short)));
+  first = λ more at_end. (
+    λ le. ap (λ m. lines_of ((b ∷ line) ++ m)) (at_end end) ∙ ap lines_of (append-nil (b ∷ line)) ∙ lines_last b line one
+        ∙ ap (λ m. (b ∷ line) ∷ lines_of m) (sym (at_end end)),
+    λ lt. absurd (omega (arith, lt, short)),
+  );
   whole = λ going le more. absurd (no_both going);
 }
   where
@@ -79,8 +81,9 @@ pub long_line : (line : List ℕ) (ended : Bool) → IsOneLine line → length l
 long_line [] ended one long = absurd (omega (arith, long))
 long_line (b ∷ line) ended one long = record {
   first = λ more at_end.
-    let longer = lines_longer b line more one in
-    (λ le. absurd (omega (arith, long, le)),
-     λ lt. ((b ∷ line) ++ longer.0, longer.1, longer.2, omega (arith, long, length-append (b ∷ line) longer.0)));
+      let longer = lines_longer b line more one in (
+        λ le. absurd (omega (arith, long, le)),
+        λ lt. ((b ∷ line) ++ longer.0, longer.1, longer.2, omega (arith, long, length-append (b ∷ line) longer.0)),
+      );
   whole = λ going le more. absurd (omega (arith, long, le));
 }

@@ -103,18 +103,22 @@ pub is_run_of_all : (most before mid : ℕ) (read : List ℕ) (outcomes : List O
     IfSome old (λ all. (rest : Trace) × IsRun most (trace_from before all) outcomes rest)
 is_run_of_all most before mid read outcomes ended contents None now so_far takes over = tt
 is_run_of_all most before mid read outcomes ended contents (Some all) None so_far takes over = absurd takes
-is_run_of_all most before mid read outcomes true contents (Some all) (Some rest) so_far takes over =
-    (no_trace, record {
-      batches = so_far.batches;
-      reads = ap (trace_from before) (takes ∙ ap (λ l. read ++ l) (over refl) ∙ append-nil read) ∙ so_far.stands.alone;
-      answered = so_far.answered;
-    })
-is_run_of_all most before mid read outcomes false contents (Some all) (Some rest) so_far takes over =
-    (trace_from mid rest, record {
-      batches = so_far.batches;
-      reads = ap (trace_from before) takes ∙ so_far.stands.further refl rest;
-      answered = so_far.answered;
-    })
+is_run_of_all most before mid read outcomes true contents (Some all) (Some rest) so_far takes over = (
+  no_trace,
+  record {
+    batches = so_far.batches;
+    reads = ap (trace_from before) (takes ∙ ap (λ l. read ++ l) (over refl) ∙ append-nil read) ∙ so_far.stands.alone;
+    answered = so_far.answered;
+  },
+)
+is_run_of_all most before mid read outcomes false contents (Some all) (Some rest) so_far takes over = (
+  trace_from mid rest,
+  record {
+    batches = so_far.batches;
+    reads = ap (trace_from before) takes ∙ so_far.stands.further refl rest;
+    answered = so_far.answered;
+  },
+)
 
 -- ---- texts and counts
 
@@ -133,10 +137,11 @@ texts_more old mid new outcomes outcome first second =
 -- a front of the last text was written
 pub front_more : (old mid new : Option (List ℕ)) (outcomes : List Outcome) (outcome : Outcome) → Appends old mid (outcomes_text outcomes) → TakesFront mid new (outcome_text outcome) →
     TakesFront old new (outcomes_text (outcomes ++ outcome ∷ []))
-front_more old mid new outcomes outcome first second =
-    (outcomes_text outcomes ++ second.0,
-     (second.1.0, flat_map_one outcome_text outcomes outcome ∙ ap (λ t. outcomes_text outcomes ++ t) second.1.1 ∙ sym (append_assoc (outcomes_text outcomes) second.0 second.1.0)),
-     Appends-trans old mid new (outcomes_text outcomes) second.0 first second.2)
+front_more old mid new outcomes outcome first second = (
+  outcomes_text outcomes ++ second.0,
+  (second.1.0, flat_map_one outcome_text outcomes outcome ∙ ap (λ t. outcomes_text outcomes ++ t) second.1.1 ∙ sym (append_assoc (outcomes_text outcomes) second.0 second.1.0)),
+  Appends-trans old mid new (outcomes_text outcomes) second.0 first second.2,
+)
 
 -- all of a text is a front of it
 pub front_of_all : (old new : Option (List ℕ)) (text : List ℕ) → Appends old new text → TakesFront old new text

@@ -20,10 +20,10 @@ first_line : (judged : ℕ) (ops : List Op) (all line rest : List ℕ) → IsFir
     trace_of_lines at_end judged ops (lines_of all) ≡ line_then (judged + 1) ops (meaning_of line) (λ ops'. trace_of_lines at_end (judged + 1) ops' (lines_of rest))
 first_line judged ops all line rest is = elim (cases_lt 8192 (length line)) [
   | inl long ↦
-    let more = is.1 long in
-    ap (trace_of_lines at_end judged ops) more.2
-    ∙ ap (λ meaning. line_then (judged + 1) ops meaning (λ ops'. trace_of_lines at_end (judged + 1) ops' more.1)) (too_long more.0 more.3)
-    ∙ sym (ap (λ meaning. line_then (judged + 1) ops meaning (λ ops'. trace_of_lines at_end (judged + 1) ops' (lines_of rest))) (too_long line long))
+      let more = is.1 long in
+      ap (trace_of_lines at_end judged ops) more.2
+      ∙ ap (λ meaning. line_then (judged + 1) ops meaning (λ ops'. trace_of_lines at_end (judged + 1) ops' more.1)) (too_long more.0 more.3)
+      ∙ sym (ap (λ meaning. line_then (judged + 1) ops meaning (λ ops'. trace_of_lines at_end (judged + 1) ops' (lines_of rest))) (too_long line long))
   | inr short ↦ ap (trace_of_lines at_end judged ops) (is.0 short)
 ]
 
@@ -44,13 +44,13 @@ pub line_judged : (before judged : ℕ) (read taken line : List ℕ) (ops : List
     IsGathering before read ops judged ended → IsLineOf line taken ended' → meaning ≡ meaning_of line → IsJudged before (read ++ taken) ops (judged + 1) ended' meaning
 line_judged before judged read taken line ops ended ended' meaning going so_far is means = record {
   further = λ more end.
-    ap (trace_from before) (append_assoc read taken more) ∙ so_far.further (taken ++ more) (λ e. absurd (let f = going in cc))
-    ∙ first_line judged ops (taken ++ more) line more (is.first more end)
-    ∙ ap (λ m. line_then (judged + 1) ops m (λ ops'. trace_of_lines at_end (judged + 1) ops' (lines_of more))) (sym means);
+      ap (trace_from before) (append_assoc read taken more) ∙ so_far.further (taken ++ more) (λ e. absurd (let f = going in cc))
+      ∙ first_line judged ops (taken ++ more) line more (is.first more end)
+      ∙ ap (λ m. line_then (judged + 1) ops m (λ ops'. trace_of_lines at_end (judged + 1) ops' (lines_of more))) (sym means);
   cut = λ other going' more.
-    ap (cut_trace_from before) (append_assoc read taken more) ∙ so_far.cut going (taken ++ more)
-    ∙ ap (trace_of_lines at_cut judged ops) (is.whole going' (short other) more)
-    ∙ ap (λ m. line_then (judged + 1) ops m (λ ops'. trace_of_lines at_cut (judged + 1) ops' (whole_lines_of more))) (sym means);
+      ap (cut_trace_from before) (append_assoc read taken more) ∙ so_far.cut going (taken ++ more)
+      ∙ ap (trace_of_lines at_cut judged ops) (is.whole going' (short other) more)
+      ∙ ap (λ m. line_then (judged + 1) ops m (λ ops'. trace_of_lines at_cut (judged + 1) ops' (whole_lines_of more))) (sym means);
 }
   where
     short : meaning ≢ Faulty LongLine → length line ≤ 8192
@@ -121,9 +121,11 @@ HasJudged before old new ops after ended meaning = (read : List ℕ) × Consumes
 pub one_line : (before judged judged' : ℕ) (over : Bool) (old mid new : Option (List ℕ)) (ops : List Op) (ended ended' : Bool) (meaning : Meaning) (taken : List ℕ) →
     HasGathered before over old mid ops judged ended → ended ≡ false → judged' ≡ judged + 1 → Consumes mid new taken → IsLineMeaning taken meaning ended' →
     HasJudged before old new ops judged' ended' meaning
-one_line before judged judged' over old mid new ops ended ended' meaning taken so_far going count takes is =
-    (so_far.0 ++ taken, Consumes-trans old mid new so_far.0 taken so_far.1 takes,
-     subst (λ n. IsJudged before (so_far.0 ++ taken) ops n ended' meaning) (sym count) (line_judged before judged so_far.0 taken is.0 ops ended ended' meaning going so_far.2 is.1 is.2))
+one_line before judged judged' over old mid new ops ended ended' meaning taken so_far going count takes is = (
+  so_far.0 ++ taken,
+  Consumes-trans old mid new so_far.0 taken so_far.1 takes,
+  subst (λ n. IsJudged before (so_far.0 ++ taken) ops n ended' meaning) (sym count) (line_judged before judged so_far.0 taken is.0 ops ended ended' meaning going so_far.2 is.1 is.2),
+)
 
 -- it was blank, or an operation
 abbrev pub GoesOn : Meaning → List Op → List Op → Type 0

@@ -10,10 +10,11 @@ use Rattle.bw_trace.specs.Writing.{IsFront}
 module _ {X : Type 0} (f : X → List ℕ) where
   -- what was written of the texts of some is a front of the texts of all
   pub front_of : (xs : List X) (i : ℕ) (front rest : List ℕ) → flat_map f (take i xs) ≡ front ++ rest → IsFront front (flat_map f xs)
-  front_of xs i front rest is =
-      (rest ++ flat_map f (drop i xs),
-       ap (flat_map f) (sym (take-append-drop i xs)) ∙ flat_map-append f (take i xs) (drop i xs)
-       ∙ ap (λ t. t ++ flat_map f (drop i xs)) is ∙ append_assoc front rest (flat_map f (drop i xs)))
+  front_of xs i front rest is = (
+    rest ++ flat_map f (drop i xs),
+    ap (flat_map f) (sym (take-append-drop i xs)) ∙ flat_map-append f (take i xs) (drop i xs)
+        ∙ ap (λ t. t ++ flat_map f (drop i xs)) is ∙ append_assoc front rest (flat_map f (drop i xs)),
+  )
 
   pub flat_map_one : (xs : List X) (x : X) → flat_map f (xs ++ x ∷ []) ≡ flat_map f xs ++ f x
   flat_map_one xs x = flat_map-append f xs (x ∷ []) ∙ ap (λ t. flat_map f xs ++ t) (append-nil (f x))

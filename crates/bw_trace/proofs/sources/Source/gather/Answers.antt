@@ -66,9 +66,15 @@ returns-in-EndsBatch-clause-batch g c =
     let meaning = c.in-Some.meaning in
     let said = rw c.in-Some.is at c.in_ok-meaning.ensures.meaning in
     let judged = one_line before.judged mid.judged now.judged before.ended before.unread mid.unread now.unread ops mid.ended now.ended meaning said.0
-    c.loop-line.invariant.so_far said.2.2 said.2.1 said.1 said.2.0 in
-    (judged.0, judged.1, (after_go before.judged now.judged judged.0 ops now.ended meaning c.in-EndsBatch.is judged.2,
-      was_going before.ended mid.ended (λ e. (c.loop-line.invariant.over e).0) said.2.2, said.2.3))
+    c.loop-line.invariant.so_far said.2.2 said.2.1 said.1 said.2.0 in (
+      judged.0,
+      judged.1,
+      (
+        after_go before.judged now.judged judged.0 ops now.ended meaning c.in-EndsBatch.is judged.2,
+        was_going before.ended mid.ended (λ e. (c.loop-line.invariant.over e).0) said.2.2,
+        said.2.3,
+      ),
+    )
 
 pub returns-in-Faulty-clause-line : goal.returns-in-Faulty-clause-line
 returns-in-Faulty-clause-line g c =
@@ -93,7 +99,13 @@ returns-clause-batch g c =
     let so_far = c.loop-line.invariant.so_far in
     let some : 0 < length ops = grind (arith, nat_tests, c.is_empty.ensures, c.if-is_empty.false, c.loop-line.ops.ok) in
     let going : before.ended ≡ false = not_ended before.ended (λ e. let none = (c.loop-line.invariant.over e).1 in omega (arith, some, ap length none)) in
-    let took : Consumes mid.unread now.unread [] = subst (λ (l : List ℕ). Consumes mid.unread now.unread l) said.2.0 said.1 in
-    (so_far.0, takes_none_after before.unread mid.unread now.unread so_far.0 so_far.1 took,
-     (subst (λ (n : ℕ). StandFor before.judged so_far.0 (ops ∷ []) n now.ended) (sym said.2.1)
-       (last_at_end before.judged mid.judged so_far.0 ops mid.ended now.ended some said.2.2.ended so_far.2), going, λ _. said.2.2))
+    let took : Consumes mid.unread now.unread [] = subst (λ (l : List ℕ). Consumes mid.unread now.unread l) said.2.0 said.1 in (
+      so_far.0,
+      takes_none_after before.unread mid.unread now.unread so_far.0 so_far.1 took,
+      (
+        subst (λ (n : ℕ). StandFor before.judged so_far.0 (ops ∷ []) n now.ended) (sym said.2.1)
+            (last_at_end before.judged mid.judged so_far.0 ops mid.ended now.ended some said.2.2.ended so_far.2),
+        going,
+        λ _. said.2.2,
+      ),
+    )

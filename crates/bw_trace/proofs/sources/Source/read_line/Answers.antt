@@ -36,9 +36,14 @@ pub returns-in_err-next_byte-clause-cut : goal.returns-in_err-next_byte-clause-c
 returns-in_err-next_byte-clause-cut g c =
     let p = err_from_is_err_and c.from_residual.result c.from_residual.ensures.1 in
     let failed = c.in_err-next_byte.ensures.faults in
-    rw (p.1, p.2) (λ input. (sym c.loop.invariant.ended ∙ failed.1,
-      (c.loop.line.items, takes_none_after c.args.self.now.unread c.loop.self.unread c.next_byte.new.self.unread c.loop.line.items c.loop.invariant.taken failed.2,
-       whole_none c.loop.line.items c.loop.invariant.one)))
+    rw (p.1, p.2) (λ input. (
+      sym c.loop.invariant.ended ∙ failed.1,
+      (
+        c.loop.line.items,
+        takes_none_after c.args.self.now.unread c.loop.self.unread c.next_byte.new.self.unread c.loop.line.items c.loop.invariant.taken failed.2,
+        whole_none c.loop.line.items c.loop.invariant.one,
+      ),
+    ))
 
 pub returns-in-None-clause-line : goal.returns-in-None-clause-line
 returns-in-None-clause-line g c =
@@ -54,12 +59,13 @@ pub returns-in-Some-eq10-clause-line : goal.returns-in-Some-eq10-clause-line
 returns-in-Some-eq10-clause-line g c =
     let said = rw c.in-Some-eq10.is at c.in_ok-next_byte.ensures.byte in
     let line = c.loop.line.items in
-    let now = c.next_byte.new.self in
-    (line ++ 10 ∷ [],
-     Consumes-trans c.args.self.now.unread c.loop.self.unread now.unread line (10 ∷ []) c.loop.invariant.taken
-       (subst (λ (b : ℕ). Consumes c.loop.self.unread now.unread (b ∷ [])) c.in-Some-eq10.field-0-test said.0),
-     ended_line line now.ended c.loop.invariant.one (omega (arith, c.loop.invariant.count, c.loop-test.true)),
-     λ ended. absurd (let going = said.2 in cc))
+    let now = c.next_byte.new.self in (
+      line ++ 10 ∷ [],
+      Consumes-trans c.args.self.now.unread c.loop.self.unread now.unread line (10 ∷ []) c.loop.invariant.taken
+          (subst (λ (b : ℕ). Consumes c.loop.self.unread now.unread (b ∷ [])) c.in-Some-eq10.field-0-test said.0),
+      ended_line line now.ended c.loop.invariant.one (omega (arith, c.loop.invariant.count, c.loop-test.true)),
+      λ ended. absurd (let going = said.2 in cc),
+    )
 
 pub loop-preserved : goal.loop-preserved
 loop-preserved g c =
