@@ -6,15 +6,13 @@ const KEY_65: &str = "kkkkkkkkkkkkkkkkkkkkkkkkkkkkkkkkkkkkkkkkkkkkkkkkkkkkkkkkkk
 #[test]
 fn a_line_has_8192_bytes_at_most(rt: HostRuntime) {
     let runner = Runner::new(&rt, rt.alloc());
-    let hashes = runner.repeated("#", 8192);
-    let text = runner.joined(&[hashes.as_str(), "\nget a"]);
+    let text = runner.repeated("#", 8192, "\nget a");
     runner.expect(text.as_str(), "none\n", "", 0);
     for rest in ["#", "#\nget a", "\r", "\r\n", "####################\n"] {
-        let text = runner.joined(&[hashes.as_str(), rest]);
+        let text = runner.repeated("#", 8192, rest);
         runner.expect_fault(text.as_str(), "line 1: line longer than 8192 bytes");
     }
-    let hashes = runner.repeated("#", 8191);
-    let text = runner.joined(&[hashes.as_str(), "\r\nbogus"]);
+    let text = runner.repeated("#", 8191, "\r\nbogus");
     runner.expect_fault(text.as_str(), "line 2: unknown word");
 }
 
@@ -81,7 +79,7 @@ fn each_line_has_its_number_of_words(rt: HostRuntime) {
 #[test]
 fn faults_come_in_order(rt: HostRuntime) {
     let runner = Runner::new(&rt, rt.alloc());
-    let hashes = runner.repeated("#", 8193);
+    let hashes = runner.repeated("#", 8193, "");
     let text = runner.joined(&["bogus\n", hashes.as_str(), "\n"]);
     runner.expect_fault(text.as_str(), "line 1: unknown word");
     let text = runner.joined(&["bogus ", hashes.as_str(), "\nbogus"]);

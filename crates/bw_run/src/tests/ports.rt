@@ -139,12 +139,13 @@ impl<'a, R: Abort> Runner<'a, R> {
         text
     }
 
-    /// A part so many times.
-    pub fn repeated(&self, part: &str, count: u64) -> String {
+    /// A part so many times, and a rest behind it.
+    pub fn repeated(&self, part: &str, count: u64, rest: &str) -> String {
         let mut text = String::new(self.global);
         for _ in 0..count {
             text.push_str(part).expect(self.rt, "memory");
         }
+        text.push_str(rest).expect(self.rt, "memory");
         text
     }
 

@@ -93,10 +93,10 @@ fn a_faulty_line_stops_its_batch_alone(rt: HostRuntime) {
 #[test]
 fn a_batch_has_65536_operations_at_most(rt: HostRuntime) {
     let runner = Runner::new(&rt, rt.alloc());
-    let text = runner.repeated("get a\n", 65_536);
-    let output = runner.repeated("none\n", 65_536);
+    let text = runner.repeated("get a\n", 65_536, "");
+    let output = runner.repeated("none\n", 65_536, "");
     runner.expect(text.as_str(), output.as_str(), "", 0);
-    let text = runner.joined(&[text.as_str(), "get a\ngo\nget b\n"]);
+    let text = runner.repeated("get a\n", 65_537, "go\nget b\n");
     runner.expect(text.as_str(), "refused long 65537 65536\nnone\n", "", 4);
 }
 
