@@ -288,14 +288,8 @@ impl Board {
         ensures posted { (s : List ℕ) × (x : ℕ) × (seat.new ≡ posted_over seat.old r page result.lost s x) × IsEnd (seen_at seat.old.book page) s × IsLastOf self.now page x × (result.lost ≤ length s + late (slice_index self.now.first page) x) }
         ensures sound { IsSound seat.new }
     {
-        let lost = posting::post(
-            &self.table.shared,
-            &mut seat.place,
-            self.pages,
-            self.floor,
-            r,
-            page,
-        );
+        let words = &self.table.shared;
+        let lost = posting::post(words, &mut seat.place, self.pages, self.floor, r, page);
         Posted { lost }
     }
 
@@ -318,14 +312,9 @@ impl Board {
         requires page { page < length self.now.first }
         ensures { (s : List ℕ) × (x : ℕ) × (seat.new ≡ looked_at seat.old page s x) × IsEnd (seen_at seat.old.book page) s × IsLastOf self.now page x × IfOk result (λ v. (v.items ≡ s) × ((r : ℕ) → times r s ≤ 1) × ((r : ℕ) → posts_at page r seat.old.book.posted ≤ times r s)) }
     {
-        peeking::peek(
-            self.alloc,
-            &self.table.shared,
-            &mut seat.place,
-            self.pages,
-            self.floor,
-            page,
-        )
+        let words = &self.table.shared;
+        let pages = self.pages;
+        peeking::peek(self.alloc, words, &mut seat.place, pages, self.floor, page)
     }
 
     /// Replaces the page's first word by its spare, where the head still is that word: where a settled chain was folded into a

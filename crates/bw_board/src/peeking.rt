@@ -3,8 +3,8 @@ ghost use Rattle.std.specs.Prelude.{◌≡◌, ℕ, ◌+◌, ◌^◌, ◌<◌, �
 ghost use Rattle.bw_core.specs.World.{IsLast, IsEnd, seen_at};
 ghost use Rattle.bw_board.specs.Plays.{IsSeated, Sane, sees};
 
-use crate::table::{Place, Words};
 use crate::steps::{follow, look};
+use crate::table::{Place, Words};
 use bw_key::Memory;
 use bw_memory::Alloc;
 

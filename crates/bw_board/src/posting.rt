@@ -3,20 +3,13 @@ ghost use Rattle.std.specs.Prelude.{◌≡◌, ℕ, ◌+◌, ◌^◌, ◌<◌, �
 ghost use Rattle.bw_core.specs.World.{IsLast, late, IsEnd, seen_at, owns, posts_in};
 ghost use Rattle.bw_board.specs.Plays.{IsSeated, Sane, posts_over};
 
-use crate::table::{Place, Words};
 use crate::steps::{attempt, link, look};
+use crate::table::{Place, Words};
 use std::marker::Brand;
 
 /// Puts the record before the page's chain, and says how many exchanges it lost. Each lost one means that the chain has grown,
 /// so their number is bounded by the records of the others.
-pub fn post(
-    words: &Words,
-    place: &mut Place,
-    pages: u64,
-    floor: u64,
-    rec: u64,
-    page: u64,
-) -> u64
+pub fn post(words: &Words, place: &mut Place, pages: u64, floor: u64, rec: u64, page: u64) -> u64
     requires seat { IsSeated words.now.table_id place.old }
     requires numbers { (pages ≡ length place.old.me.0.first) × (floor ≡ place.old.me.0.floor) × (floor + place.old.me.0.records ≤ 2 ^ 33) }
     requires idle { place.old.me.0.book.under ≡ None }

@@ -102,13 +102,7 @@ pub fn settle(words: &Words, place: &mut Place)
 }
 
 /// Exchanges the page's first word for its spare where the head is still that word.
-pub fn replace(
-    words: &Words,
-    place: &mut Place,
-    page: u64,
-    first: u64,
-    spare: u64,
-) -> u64
+pub fn replace(words: &Words, place: &mut Place, page: u64, first: u64, spare: u64) -> u64
     requires seat { IsSeated words.now.table_id place.old }
     requires idle { place.old.me.0.book.under ≡ None }
     requires page { page < length place.old.me.0.first }
