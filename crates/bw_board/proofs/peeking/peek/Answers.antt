@@ -1,0 +1,30 @@
+use Rattle.std.proofs.Common.{rules, arith, sym, ap, subst, ◌∙◌, ◌≡◌, ◌<◌, ◌-◌, ◌++◌, ◌∷◌, ℕ, List, []}
+use Rattle.bw_core.specs.World.{seen_at, top}
+use Rattle.bw_board.specs.declared.table.Sight.{Sight}
+use Rattle.bw_board.proofs.Walk.{Walks, walk_starts, walk_goes, walk_record}
+use Rattle.bw_board.proofs.peeking.peek.Goals as goal
+
+pub loop-word-init : goal.loop-word-init
+loop-word-init c = let t = c.look-word.ensures.seen in let v = c.args.place.now.me.0 in record {
+  seat = c.look-word.ensures.seat;
+  walk = subst (Walks v c.look-word.new.place.me.0 c.args.page c.look-word.result) (sym c.new-chain.ensures.items)
+      (walk_starts v c.look-word.new.place.me.0 c.args.page c.look-word.result t.0 t.1 (omega arith) (ap (λ m. m.0) t.2) t.4 c.look-word.ensures.sane t.3);
+}
+
+pub follow-word-requires-clause-rec : goal.follow-word-requires-clause-rec
+follow-word-requires-clause-rec c = let k = c.loop-word.invariant.walk in
+    let f : c.loop-word.place.me.0.floor ≡ c.args.floor = ap (λ (z : Sight). z.floor) k.is ∙ sym c.requires.numbers.1 in
+    subst (λ z. c.loop-word.word - z < c.loop-word.place.me.0.records) f (walk_record _ _ c.args.page c.loop-word.word c.loop-word.chain.items k (omega arith))
+
+pub loop-word-preserved : goal.loop-word-preserved
+loop-word-preserved c = let k = c.loop-word.invariant.walk in
+    let f : c.loop-word.place.me.0.floor ≡ c.args.floor = ap (λ (z : Sight). z.floor) k.is ∙ sym c.requires.numbers.1 in
+    let w = c.loop-word.place.me.0 in let r = c.loop-word.word - c.args.floor in
+    let told : (front rest : List ℕ) → seen_at w.book c.args.page ≡ front ++ (c.loop-word.word - w.floor) ∷ rest → (x : ℕ) × (c.follow-word.result ≡ top w.floor x rest) × (x < w.floor)
+    = λ front rest is. c.follow-word.ensures.found c.args.page front rest k.inside (is ∙ ap (λ z. front ++ (c.loop-word.word - z) ∷ rest) f) in
+    let next = walk_goes _ w c.args.page c.loop-word.word c.follow-word.result c.loop-word.chain.items k (omega arith) told in
+    let items : c.push.new.self.items ≡ c.loop-word.chain.items ++ (c.loop-word.word - w.floor) ∷ [] = search rules in record {
+      seat = c.follow-word.ensures.seat;
+      walk = subst (λ z. Walks c.args.place.now.me.0 z c.args.page c.follow-word.result c.push.new.self.items) (sym (ap (λ m. m.0) c.follow-word.ensures.same))
+          (subst (Walks c.args.place.now.me.0 w c.args.page c.follow-word.result) (sym items) next);
+    }
