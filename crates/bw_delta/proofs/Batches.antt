@@ -70,9 +70,9 @@ one_write m (Some write) base n ws key rising lt =
     let rest = writes_to key ws in
     elim (key_eq key k) as (λ b. key_eq key k ≡ b → history (get (set_at m k left) key) (action_at rest) n ≡ history (get m key) (action_at (cond b (record { stamp = base; key = k; action = write.1 } ∷ rest) rest)) n) [
       | true ↦ λ same.
-        let here = get_set_at m k left key ∙ ap (λ b. cond b left (get m key)) same ∙ ap (λ (q : KeyBytes). effect write.1 (get m q)) (sym (same_keys key k same)) in
-        ap (λ v. history v (action_at rest) n) here
-        ∙ sym (past_first (get m key) (record { stamp = base; key = k; action = write.1 }) rest n (rising_filter (λ w. key_eq key w.key) (base + 1) ws rising) lt)
+          let here = get_set_at m k left key ∙ ap (λ b. cond b left (get m key)) same ∙ ap (λ (q : KeyBytes). effect write.1 (get m q)) (sym (same_keys key k same)) in
+          ap (λ v. history v (action_at rest) n) here
+          ∙ sym (past_first (get m key) (record { stamp = base; key = k; action = write.1 }) rest n (rising_filter (λ w. key_eq key w.key) (base + 1) ws rising) lt)
       | false ↦ λ other. ap (λ v. history v (action_at rest) n) (get_set_at m k left key ∙ ap (λ b. cond b left (get m key)) other)
     ] refl
 

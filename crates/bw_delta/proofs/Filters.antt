@@ -22,9 +22,9 @@ module _ {X : Type 0} (p : X → Bool) where
   pub was_there : (xs : List X) (x : X) → Contains (filter p xs) x → Contains xs x × (p x ≡ true)
   was_there [] x has = absurd (omega (arith, has.1))
   was_there (y ∷ ys) x has = elim (p y) as (λ b. p y ≡ b → Contains (cond b (y ∷ filter p ys) (filter p ys)) x → Contains (y ∷ ys) x × (p x ≡ true)) [
-      | true ↦ λ b has. at (was_there ys x) b has.0 has.1 has.2
-      | false ↦ λ b has. let more = was_there ys x has in ((suc more.0.0, omega (arith, more.0.1), more.0.2), more.1)
-    ] refl has
+    | true ↦ λ b has. at (was_there ys x) b has.0 has.1 has.2
+    | false ↦ λ b has. let more = was_there ys x has in ((suc more.0.0, omega (arith, more.0.1), more.0.2), more.1)
+  ] refl has
     where
       at : (Contains (filter p ys) x → Contains ys x × (p x ≡ true)) → p y ≡ true → (k : ℕ) → k < suc (length (filter p ys)) → get_or (y ∷ filter p ys) k x ≡ x → Contains (y ∷ ys) x × (p x ≡ true)
       at later b zero lt e = ((0, omega arith, e), ap p (sym e) ∙ b)

@@ -24,10 +24,10 @@ pub first_folds : (stamp : ℕ) (start values values' : Values) (all : List Writ
     ((q : KeyBytes) → values' q ≡ cond (key_eq q w.key) (effect w.action (values q)) (values q)) →
     AreFolding stamp start all (w ∷ ws) values → AreFolding stamp start all ws values'
 first_folds stamp start values values' all w ws lt left so = record {
-    from = w.stamp + 1;
-    rising = so.rising.1;
-    is = λ q. ap (λ v. history v (action_at (writes_to q ws)) stamp) (left q) ∙ at q (key_eq q w.key) refl ∙ so.is q;
-  }
+  from = w.stamp + 1;
+  rising = so.rising.1;
+  is = λ q. ap (λ v. history v (action_at (writes_to q ws)) stamp) (left q) ∙ at q (key_eq q w.key) refl ∙ so.is q;
+}
   where
     at : (q : KeyBytes) (b : Bool) → key_eq q w.key ≡ b → history (cond (key_eq q w.key) (effect w.action (values q)) (values q)) (action_at (writes_to q ws)) stamp ≡ history (values q) (action_at (writes_to q (w ∷ ws))) stamp
     at q true e =

@@ -59,15 +59,15 @@ unfolding history
 past_first start w ws zero rising lt = absurd (omega arith)
 past_first start w ws (suc t) rising lt = elim (cases_eq t w.stamp) [
   | inl e ↦
-    let here : action_at (w ∷ ws) t ≡ Some w.action = at_first w ws t (sym e) in
-    let before : history start (action_at (w ∷ ws)) t ≡ start = quiet start (action_at (w ∷ ws)) t (λ u below. past_other w ws u (λ f. absurd (omega (arith, e, f, below))) ∙ none_below (w.stamp + 1) ws u rising (omega (arith, e, below))) in
-    let after : action_at ws t ≡ None = none_below (w.stamp + 1) ws t rising (omega (arith, e)) in
-    let then : history (effect w.action start) (action_at ws) t ≡ effect w.action start = quiet (effect w.action start) (action_at ws) t (λ u below. none_below (w.stamp + 1) ws u rising (omega (arith, e, below))) in
-    ap (λ o. then_effect o (history start (action_at (w ∷ ws)) t)) here ∙ ap (effect w.action) before ∙ sym (ap (λ o. then_effect o (history (effect w.action start) (action_at ws) t)) after ∙ then)
+      let here : action_at (w ∷ ws) t ≡ Some w.action = at_first w ws t (sym e) in
+      let before : history start (action_at (w ∷ ws)) t ≡ start = quiet start (action_at (w ∷ ws)) t (λ u below. past_other w ws u (λ f. absurd (omega (arith, e, f, below))) ∙ none_below (w.stamp + 1) ws u rising (omega (arith, e, below))) in
+      let after : action_at ws t ≡ None = none_below (w.stamp + 1) ws t rising (omega (arith, e)) in
+      let then : history (effect w.action start) (action_at ws) t ≡ effect w.action start = quiet (effect w.action start) (action_at ws) t (λ u below. none_below (w.stamp + 1) ws u rising (omega (arith, e, below))) in
+      ap (λ o. then_effect o (history start (action_at (w ∷ ws)) t)) here ∙ ap (effect w.action) before ∙ sym (ap (λ o. then_effect o (history (effect w.action start) (action_at ws) t)) after ∙ then)
   | inr other ↦
-    let same : action_at (w ∷ ws) t ≡ action_at ws t = past_other w ws t (λ e. other (sym e)) in
-    let later : w.stamp < t = grind (arith, lt, other) in
-    ap (λ o. then_effect o (history start (action_at (w ∷ ws)) t)) same ∙ ap (then_effect (action_at ws t)) (past_first start w ws t rising later)
+      let same : action_at (w ∷ ws) t ≡ action_at ws t = past_other w ws t (λ e. other (sym e)) in
+      let later : w.stamp < t = grind (arith, lt, other) in
+      ap (λ o. then_effect o (history start (action_at (w ∷ ws)) t)) same ∙ ap (then_effect (action_at ws t)) (past_first start w ws t rising later)
 ]
 
 -- Of all, the writes of rest are still to have their effect on value, as of a stamp.

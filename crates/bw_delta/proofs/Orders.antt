@@ -22,6 +22,7 @@ not_same m n e same = absurd (different (sym e ∙ is_same m n same))
   where
     different : false ≡ true → ⊥
     different e = cc
+
     is_same : (m n : ℕ) → m ≡ n → nat_eq m n ≡ true
     is_same m n e = grind (arith, nat_tests)
 
@@ -61,16 +62,17 @@ written_by [] t a e = absurd (nothing e)
     nothing : None ≡ Some a → ⊥
     nothing e = cc
 written_by (w ∷ ws) t a e = elim (nat_eq w.stamp t) as (λ b. nat_eq w.stamp t ≡ b → HasWrite (w ∷ ws) t a) [
-    | true ↦ λ same.
-        let is = equal w.stamp t same in
-        record { write = w; there = (0, omega arith, refl); stamp = is; action = one w.action a (sym (at_first w ws t is) ∙ e) }
-    | false ↦ λ other.
-        let rest = written_by ws t a (sym (past_other w ws t (not_same w.stamp t other)) ∙ e) in
-        record { write = rest.write; there = (suc rest.there.0, omega (arith, rest.there.1), rest.there.2); stamp = rest.stamp; action = rest.action }
-  ] refl
+  | true ↦ λ same.
+      let is = equal w.stamp t same in
+      record { write = w; there = (0, omega arith, refl); stamp = is; action = one w.action a (sym (at_first w ws t is) ∙ e) }
+  | false ↦ λ other.
+      let rest = written_by ws t a (sym (past_other w ws t (not_same w.stamp t other)) ∙ e) in
+      record { write = rest.write; there = (suc rest.there.0, omega (arith, rest.there.1), rest.there.2); stamp = rest.stamp; action = rest.action }
+] refl
   where
     equal : (m n : ℕ) → nat_eq m n ≡ true → m ≡ n
     equal m n e = grind (arith, nat_tests)
+
     one : (x y : Action) → Some x ≡ Some y → x ≡ y
     one x y e = cc
 
@@ -78,12 +80,12 @@ written_by (w ∷ ws) t a e = elim (nat_eq w.stamp t) as (λ b. nat_eq w.stamp t
 pub alike_actions : (xs ys : List WriteView) (t : ℕ) → ((v : WriteView) → Contains xs v → Contains ys v) → ((v : WriteView) → Contains ys v → Contains xs v) →
     HasDistinctStamps xs → HasDistinctStamps ys → action_at ys t ≡ action_at xs t
 alike_actions xs ys t there back distinct distinct' = elim (action_at xs t) as (λ o. action_at xs t ≡ o → action_at ys t ≡ o) [
-    | Some a ↦ λ e. moves_on xs ys a there distinct' e
-    | None ↦ λ e. elim (action_at ys t) as (λ o. action_at ys t ≡ o → o ≡ None) [
-        | Some b ↦ λ f. sym (moves_on ys xs b back distinct f) ∙ e
-        | None ↦ λ f. refl
-      ] refl
+  | Some a ↦ λ e. moves_on xs ys a there distinct' e
+  | None ↦ λ e. elim (action_at ys t) as (λ o. action_at ys t ≡ o → o ≡ None) [
+    | Some b ↦ λ f. sym (moves_on ys xs b back distinct f) ∙ e
+    | None ↦ λ f. refl
   ] refl
+] refl
   where
     moves_on : (xs ys : List WriteView) (a : Action) → ((v : WriteView) → Contains xs v → Contains ys v) → HasDistinctStamps ys → action_at xs t ≡ Some a → action_at ys t ≡ Some a
     moves_on xs ys a there distinct e =
@@ -105,15 +107,16 @@ same_reading xs ys start value stamp moved distinct is = is ∙ same_history sta
 pub rising_from : (low : ℕ) (refs : List (Bor WriteView)) → IsNonDecreasingBy (λ r. r.now.stamp) refs → HasDistinctStamps (pointed_to refs) →
     ((i : ℕ) (d : Bor WriteView) → i < length refs → low ≤ (get_or refs i d).now.stamp) → HasRisingStamps low (pointed_to refs)
 rising_from low [] ordered distinct from = tt
-rising_from low (r ∷ rs) ordered distinct from =
-    (from 0 r (omega arith),
-    rising_from (r.now.stamp + 1) rs (λ i j d le lt. ordered (suc i) (suc j) d (omega (arith, le)) (omega (arith, lt))) (distinct_rest r.now (pointed_to rs) distinct)
-    (λ i d lt.
+rising_from low (r ∷ rs) ordered distinct from = (
+  from 0 r (omega arith),
+  rising_from (r.now.stamp + 1) rs (λ i j d le lt. ordered (suc i) (suc j) d (omega (arith, le)) (omega (arith, lt))) (distinct_rest r.now (pointed_to rs) distinct)
+      (λ i d lt.
       let up = ordered 0 (suc i) d (omega arith) (omega (arith, lt)) in
       let v = get_or rs i d in
       let now = λ (x : Bor WriteView). x.now in
       let other = later_differs r.now (pointed_to rs) i v.now distinct (omega (arith, lt, length-map rs now)) (get_or-map now rs i d v.now lt) in
-      grind (arith, up, other)))
+      grind (arith, up, other)),
+)
 
 -- one write further, by the place in the slice
 pub next_write : (refs : List (Bor WriteView)) (i : ℕ) (r : Bor WriteView) → i < length refs → r ≡ get_or refs i r → pointed_to (drop i refs) ≡ r.now ∷ pointed_to (drop (i + 1) refs)

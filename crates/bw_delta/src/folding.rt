@@ -55,10 +55,7 @@ fn put_parts(values: &mut BTreeMap<Key, Value, Alloc>, parts: &[&Leaf]) -> Resul
 }
 
 // Puts pairs in a map, of two with one key the first.
-fn put_pairs(
-    values: &mut BTreeMap<Key, Value, Alloc>,
-    pairs: &[(Key, Value)],
-) -> Result<(), Memory>
+fn put_pairs(values: &mut BTreeMap<Key, Value, Alloc>, pairs: &[(Key, Value)]) -> Result<(), Memory>
     ensures { OnOk result ((q : KeyBytes) → tree.get key_cmp values.new q ≡ option_or (find key_cmp q pairs.now) (tree.get key_cmp values.old q)) }
 {
     for pair in pairs.iter().rev() {

@@ -6,5 +6,4 @@ ghost use Rattle.bw_delta.specs.Batches.{ContentsAreHistory};
 /// contract is the law.
 pub fn contents_are_history()
     ensures { ContentsAreHistory }
-{
-}
+{}

@@ -39,7 +39,10 @@ pub(crate) fn copied(value: Option<&Value>) -> Result<Option<Value>, Memory>
 }
 
 /// The writes in the order of their stamps.
-pub(crate) fn in_order<'a>(alloc: Alloc, writes: &[&'a Write]) -> Result<Vec<&'a Write, Alloc>, Memory>
+pub(crate) fn in_order<'a>(
+    alloc: Alloc,
+    writes: &[&'a Write],
+) -> Result<Vec<&'a Write, Alloc>, Memory>
     requires { HasDistinctStamps (pointed_to writes.now) }
     ensures rising { IfOk result (λ ordered. HasRisingStamps 0 (pointed_to ordered.items)) }
     ensures same { IfOk result (λ ordered. IsPermutation (pointed_to writes.now) (pointed_to ordered.items)) }

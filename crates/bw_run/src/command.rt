@@ -42,8 +42,7 @@ fn run<R: Inlet, W: Outlet>(
     input: R,
     output: &mut W,
     turns: u64,
-) -> Result<Summary, TraceFault>
-{
+) -> Result<Summary, TraceFault> {
     let mut source = Source::new(alloc, input, turns)?;
     run_trace(alloc, &mut source, output, Options::default(), Job::Run)
 }

@@ -81,7 +81,11 @@ fn a_refused_reserve_leaves_the_records(rt: HostRuntime) {
     let mut arena = three(&rt, alloc);
     for growth in 1..3 {
         alloc.refuse(growth);
-        assert_eq!(rt; arena.reserve(1000 * growth as usize), Err(Memory), "growth {growth}");
+        assert_eq!(rt;
+            arena.reserve(1000 * growth as usize),
+            Err(Memory),
+            "growth {growth}"
+        );
         assert_eq!(rt; alloc.left(), 0);
         alloc.refuse(0);
         same(&rt, alloc, &arena, &[10, 11, 12]);

@@ -21,7 +21,11 @@ fn compare<R: Abort>(rt: &R, alloc: Alloc, order: (&Write, &Write, &Write)) {
     let start = value(rt, alloc, b"4");
     for (stamp, wanted) in LEFT {
         let left = value_of(rt, alloc, Some(&start), order, stamp).expect(rt, "memory");
-        assert_eq!(rt; left.as_ref().map(|value| value.bytes()), wanted, "as of {stamp}");
+        assert_eq!(rt;
+            left.as_ref().map(|value| value.bytes()),
+            wanted,
+            "as of {stamp}"
+        );
     }
 }
 
@@ -86,14 +90,27 @@ fn pairs_and_writes_outside_the_range_count_for_nothing(rt: HostRuntime) {
     let parts = [&first, &second];
 
     let pairs = pairs_of(&rt, alloc, &parts, (&low, Some(&high)), writes, 2);
-    same(&rt, &pairs.expect(&rt, "memory"), &[(b"b", b"2"), (b"c", b"3"), (b"d", b"4")]);
+    same(
+        &rt,
+        &pairs.expect(&rt, "memory"),
+        &[(b"b", b"2"), (b"c", b"3"), (b"d", b"4")],
+    );
 
     let pairs = pairs_of(&rt, alloc, &parts, (&low, Some(&high)), writes, 9);
-    same(&rt, &pairs.expect(&rt, "memory"), &[(b"b", b"2"), (b"d", b"4")]);
+    same(
+        &rt,
+        &pairs.expect(&rt, "memory"),
+        &[(b"b", b"2"), (b"d", b"4")],
+    );
 
     let all = key(&rt, alloc, b"");
     let pairs = pairs_of(&rt, alloc, &parts, (&all, None), writes, 9);
-    let wanted = [(b"a".as_slice(), b"9".as_slice()), (b"b", b"2"), (b"d", b"4"), (b"e", b"5")];
+    let wanted = [
+        (b"a".as_slice(), b"9".as_slice()),
+        (b"b", b"2"),
+        (b"d", b"4"),
+        (b"e", b"5"),
+    ];
     same(&rt, &pairs.expect(&rt, "memory"), &wanted);
 }
 
