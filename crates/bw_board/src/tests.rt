@@ -1,6 +1,8 @@
-//! Boards of a few records step by step, and each allocation refused in turn.
+//! Boards of a few records step by step, each allocation refused in turn, and several threads at once.
 ghost use Rattle.std.specs.Prelude.{◌≡◌, ◌≤◌, ◌+◌, ℕ, true};
 ghost use Rattle.bw_core.specs.World.{owns, posts_in};
+
+mod storms;
 
 use crate::{Board, Replaced, Seat};
 use bw_key::Memory;
