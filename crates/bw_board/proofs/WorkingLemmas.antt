@@ -8,7 +8,7 @@ use Rattle.bw_core.specs.World.{one_if, owns, posts_in, spans_have, tries_in}
 use Rattle.bw_core.specs.Events.{post, swap, takes_piece, replaced, came_late, joined}
 use Rattle.bw_core.proofs.Lists.{total-append}
 use Rattle.bw_core.proofs.Without.{claim_adds, join_adds}
-use Rattle.bw_board.specs.Public.{SeatView, looked_at}
+use Rattle.bw_board.specs.Public.{SeatView, looked_at, posted_over}
 use Rattle.bw_board.specs.Working.{HasPostedAll, HasLeft, SameWork}
 
 -- a claim leaves its piece to be posted
@@ -28,6 +28,10 @@ pub left_posted : (v w : SeatView) (from to page lost : ℕ) → HasLeft v from 
 left_posted v w from to page lost left h owned posted = λ r. let t = total-append (λ (x : Post). one_if (eqb x.rec r)) v.book.posted (post from page lost ∷ []) in
     let e = left r in let k = one_less from to r h in let o : owns r w.book ≡ owns r v.book = ap (λ z. spans_have r z) owned in
     let p : posts_in r w.book.posted ≡ posts_in r (v.book.posted ++ post from page lost ∷ []) = ap (posts_in r) posted in omega arith
+
+-- the same of a whole post
+pub left_over : (v w : SeatView) (from to page lost : ℕ) (s : List ℕ) (x : ℕ) → HasLeft v from to → from < to → w ≡ posted_over v from page lost s x → HasLeft w (from + 1) to
+left_over v w from to page lost s x left h is = left_posted v w from to page lost left h (ap (λ (z : SeatView). z.book.owned) is) (ap (λ (z : SeatView). z.book.posted) is)
 
 none_left : (to r : ℕ) → one_if (leb to r && ltb r to) ≡ 0
 none_left to r = grind (arith, nat_tests)
