@@ -3,16 +3,16 @@ use Rattle.std.proofs.Common.{◌-◌, ◌⊎◌, inl, inr, ⊎_elim, eqb, ◌�
 use Rattle.std.proofs.lemmas.Bool.Decides.{nat_tests}
 use mathlib.Core.Option.{some, some-ne-none, some-injective}
 use native.Mathlib.Decide.{dec_le}
-use lib.ListN.{get_elem?, replicate, length-replicate}
+use lib.ListN.{get_elem?, replicate}
 use Rattle.atomic_table.specs.Table.{State, opening, Final, Seen}
 use Rattle.atomic_table.proofs.Lists.{at_map}
 use Rattle.bw_core.specs.declared.BookView.{BookView}
-use Rattle.bw_core.specs.Steps.{CanStart, start_world}
+use Rattle.bw_core.specs.Steps.{CanStart}
 use Rattle.bw_core.proofs.Runs.{start_is_lawful}
 use Rattle.bw_core.proofs.Losses.{losses_bound}
 use Rattle.bw_core.specs.World.{owns, posts_in, spent, seen_at, late, wins_in, IsLast, Each, Meets, total, World, one_if, times, posts_at, IsEnd, LawfulBook, Lawful}
-use Rattle.bw_core.proofs.Lists.{late_other, one_same, one_other, total-append, Each-append, Each-like, few, meets_low, meets_same, total_at, late_first, total_two, end_self}
-use Rattle.bw_core.proofs.Events.{build, last_low}
+use Rattle.bw_core.proofs.Lists.{late_other, one_same, one_other, total-append, Each-append, Each-like, few, meets_low, meets_same, total_at, late_first, total_two}
+use Rattle.bw_core.proofs.Events.{last_low}
 use Rattle.bw_board.specs.declared.table.Sight.{Sight}
 use Rattle.bw_board.specs.Standing.{book_of, world, Knows, Standing, opening_sight}
 use Rattle.bw_board.specs.Public.{SeatView, Rising, Swapped, IsClosed, IsSound, HasEach}

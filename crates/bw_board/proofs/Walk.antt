@@ -1,6 +1,7 @@
 -- What holds while a chain is read.
-use Rattle.std.proofs.Common.{◌≡◌, ℕ, ◌-◌, ◌<◌, ◌≤◌, List, [], ◌∷◌, ◌++◌, length, length-set, length-append, get_or, get_or-set_same, set, sym, refl, ap, ◌∙◌, subst, arith, append_assoc, append-nil}
-use Rattle.bw_core.specs.World.{seen_at, top, IsEnd, Each}
+use Rattle.std.proofs.Common.{eqb, ◌≡◌, ℕ, ◌-◌, ◌<◌, ◌≤◌, List, [], ◌∷◌, ◌++◌, length, length-set, length-append, get_or, get_or-set_same, set, sym, refl, ap, ◌∙◌, subst, arith, append_assoc, append-nil}
+use Rattle.bw_core.specs.World.{one_if, times, seen_at, top, IsEnd, Each}
+use Rattle.bw_core.proofs.Lists.{total-append, one_same}
 use Rattle.bw_board.specs.declared.table.Sight.{Sight}
 use Rattle.bw_board.specs.Plays.{Sane, sees}
 
@@ -53,6 +54,11 @@ all_end P (y ∷ front) x rest h = all_end P front x rest h.1
 
 pub walk_record : (v w : Sight) (p word : ℕ) (items : List ℕ) → Walks v w p word items → w.floor ≤ word → word - w.floor < w.records
 walk_record v w p word items k h = let t = walk_next v w p word items k h in all_end (λ r. r < w.records) items (word - w.floor) t.0 (subst (Each (λ r. r < w.records)) t.1 (k.sane.low p k.inside))
+
+-- that record is one that the seat has seen
+pub walk_seen : (v w : Sight) (p word : ℕ) (items : List ℕ) → Walks v w p word items → w.floor ≤ word → 0 < times (word - w.floor) (seen_at w.book p)
+walk_seen v w p word items k h = let t = walk_next v w p word items k h in let r : ℕ = word - w.floor in let one = one_same r r refl in
+    subst (λ z. 0 < times r z) (sym t.1) (omega (arith, total-append (λ x. one_if (eqb x r)) items (r ∷ t.0)))
 
 pub walk_goes : (v w : Sight) (p word found : ℕ) (items : List ℕ) (k : Walks v w p word items) (h : w.floor ≤ word)
     → ((front rest : List ℕ) → seen_at w.book p ≡ front ++ (word - w.floor) ∷ rest → (x : ℕ) × (found ≡ top w.floor x rest) × (x < w.floor)) → Walks v w p found (items ++ (word - w.floor) ∷ [])

@@ -1,7 +1,7 @@
 -- The rule of the board's table: its words and its seats' books are a lawful world.
-use Rattle.std.specs.Prelude.{◌≡◌, ℕ, true, false, List, [], ◌∷◌, ◌++◌, map, length, slice_index, Some, None, Option}
+use Rattle.std.specs.Prelude.{◌≡◌, ℕ, true, List, ◌∷◌, ◌++◌, map, slice_index, Some, Option}
 use mathlib.Core.Option.{some}
-use lib.ListN.{get_elem?, replicate}
+use lib.ListN.{get_elem?}
 use Rattle.atomic_table.specs.Table.{State}
 use Rattle.bw_core.specs.declared.Under.{Under}
 use Rattle.bw_core.specs.declared.BookView.{BookView}

@@ -8,6 +8,7 @@
 
 mod board;
 mod closing;
+pub mod laws;
 mod peeking;
 mod plays;
 mod posting;

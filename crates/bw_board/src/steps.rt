@@ -1,6 +1,6 @@
 //! The kinds of atomic step, one call each. A seat's view after a step is given in full, with what it knows of itself.
 ghost use Rattle.std.specs.Prelude.{◌≡◌, ◌≢◌, ℕ, ◌+◌, ◌^◌, ◌<◌, ◌≤◌, true, [], ◌∷◌, ◌++◌, List, length, slice_index, slice_index_or, ◌⊎◌, Some, None, false};
-ghost use Rattle.bw_core.specs.World.{top, end_at, late, IsLast, IsEnd, seen_at, owns, posts_in};
+ghost use Rattle.bw_core.specs.World.{top, end_at, IsLast, IsEnd, times, tries_in, seen_at, owns, posts_in};
 ghost use Rattle.bw_core.specs.Events.{Resumes, replaced, came_late, takes_piece, is_told, under, won, lost_to};
 ghost use Rattle.bw_board.specs.Plays.{IsSeated, sees, Sane, links, with_book};
 
@@ -34,7 +34,6 @@ pub fn link<J: Aim>(
     requires page { page < length place.old.me.0.first }
     requires own { (0 < owns rec place.old.me.0.book) × (posts_in rec place.old.me.0.book.posted ≡ 0) × (rec < place.old.me.0.records) }
     requires resumes { Resumes place.old.me.0.book rec page lost }
-    requires lost { lost ≤ length (seen_at place.old.me.0.book page) + late (slice_index place.old.me.0.first page) (end_at place.old.me.0.book page) }
     requires word { word ≡ top place.old.me.0.floor (end_at place.old.me.0.book page) (seen_at place.old.me.0.book page) }
     ensures seat { IsSeated words.now.table_id place.new }
     ensures linked { place.new.me ≡ (links place.old.me.0 rec page lost word, []) }
@@ -71,6 +70,7 @@ pub fn follow(words: &Words, place: &mut Place, pages: u64, rec: u64) -> u64
     requires seat { IsSeated words.now.table_id place.old }
     requires pages { pages ≡ length place.old.me.0.first }
     requires rec { rec < place.old.me.0.records }
+    requires seen { (p : ℕ) × (p < length place.old.me.0.first) × (0 < times rec (seen_at place.old.me.0.book p)) }
     ensures seat { IsSeated words.now.table_id place.new }
     ensures same { place.new.me ≡ place.old.me }
     ensures found { (p : ℕ) (front : List ℕ) (rest : List ℕ) → p < length place.old.me.0.first → seen_at place.old.me.0.book p ≡ front ++ rec ∷ rest → (x : ℕ) × (result ≡ top place.old.me.0.floor x rest) × (x < place.old.me.0.floor) }
@@ -107,6 +107,7 @@ pub fn replace(words: &Words, place: &mut Place, page: u64, first: u64, spare: u
     requires idle { place.old.me.0.book.under ≡ None }
     requires page { page < length place.old.me.0.first }
     requires words { (first ≡ slice_index place.old.me.0.first page) × (slice_index_or place.old.me.0.spares page None ≡ Some spare) }
+    requires untried { tries_in page place.old.me.0.book.swaps ≡ 0 }
     ensures seat { IsSeated words.now.table_id place.new }
     ensures won { result ≡ first → place.new.me ≡ (with_book place.old.me.0 (replaced place.old.me.0.book page spare), []) }
     ensures late { result ≢ first → (s : List ℕ) × (x : ℕ) × (place.new.me ≡ (with_book place.old.me.0 (came_late place.old.me.0.book page s x), [])) × IsEnd (seen_at place.old.me.0.book page) s × IsLast place.old.me.0.first place.old.me.0.spares page x × ((0 < length s) ⊎ (slice_index_or place.old.me.0.spares page None ≡ Some x)) }

@@ -1,7 +1,7 @@
 use Rattle.std.proofs.Common.{rules, arith, sym, ap, subst, ◌∙◌, ◌≡◌, ◌<◌, ◌-◌, ◌++◌, ◌∷◌, ℕ, List, []}
-use Rattle.bw_core.specs.World.{seen_at, top}
+use Rattle.bw_core.specs.World.{times, seen_at, top}
 use Rattle.bw_board.specs.declared.table.Sight.{Sight}
-use Rattle.bw_board.proofs.Walk.{Walks, walk_starts, walk_goes, walk_record}
+use Rattle.bw_board.proofs.Walk.{Walks, walk_starts, walk_goes, walk_record, walk_seen}
 use Rattle.bw_board.proofs.peeking.peek.Goals as goal
 
 pub loop-word-init : goal.loop-word-init
@@ -15,6 +15,11 @@ pub follow-word-requires-clause-rec : goal.follow-word-requires-clause-rec
 follow-word-requires-clause-rec c = let k = c.loop-word.invariant.walk in
     let f : c.loop-word.place.me.0.floor ≡ c.args.floor = ap (λ (z : Sight). z.floor) k.is ∙ sym c.requires.numbers.1 in
     subst (λ z. c.loop-word.word - z < c.loop-word.place.me.0.records) f (walk_record _ _ c.args.page c.loop-word.word c.loop-word.chain.items k (omega arith))
+
+pub follow-word-requires-clause-seen : goal.follow-word-requires-clause-seen
+follow-word-requires-clause-seen c = let k = c.loop-word.invariant.walk in
+    let f : c.loop-word.place.me.0.floor ≡ c.args.floor = ap (λ (z : Sight). z.floor) k.is ∙ sym c.requires.numbers.1 in
+    (c.args.page, k.inside, subst (λ z. 0 < times (c.loop-word.word - z) (seen_at c.loop-word.place.me.0.book c.args.page)) f (walk_seen _ _ c.args.page c.loop-word.word c.loop-word.chain.items k (omega arith)))
 
 pub loop-word-preserved : goal.loop-word-preserved
 loop-word-preserved c = let k = c.loop-word.invariant.walk in

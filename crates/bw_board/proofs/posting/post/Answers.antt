@@ -21,7 +21,6 @@ link-requires c = let k = c.loop-word.invariant.chase in let t = k.trying in
       page = k.inside;
       own = (own, subst (λ z. posts_in c.args.rec z ≡ 0) (sym t.same_posted) c.requires.own.1, k.sane.own_low c.args.rec own);
       resumes = k.resumes;
-      lost = k.few;
       word = k.word_is;
     }
 

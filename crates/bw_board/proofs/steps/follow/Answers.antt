@@ -7,7 +7,7 @@ pub overflow_add-pages : goal.overflow_add-pages
 overflow_add-pages c = omega arith
 
 pub load-requires : goal.load-requires
-load-requires c = let h = c.requires.seat in (h.0, omega arith, follows_at _ _ _ _ _ _ _ _ c.args.rec c.args.pages c.requires.pages h.4)
+load-requires c = let h = c.requires.seat in (h.0, omega arith, follows_at _ _ _ _ _ _ _ _ c.args.rec c.args.pages c.requires.seen.0 c.requires.pages h.4 c.requires.seen.1 c.requires.seen.2)
 
 pub returns : goal.returns
 returns c = let h = c.requires.seat in let e = c.load.ensures in let b = e.2.1 in let slots = e.2.0.0 ∙ h.3 in record {

@@ -11,7 +11,7 @@ pub store-requires : goal.store-requires
 store-requires g c = let h = c.requires.seat in (
   h.0,
   omega arith,
-  links_at _ _ _ _ _ _ _ _ c.args.rec c.args.page c.args.lost c.args.word c.args.pages _ _ c.requires.pages c.requires.aim.0 c.requires.aim.1 h.4 c.requires.page c.requires.own.0 c.requires.own.1 c.requires.lost c.requires.word,
+  links_at _ _ _ _ _ _ _ _ c.args.rec c.args.page c.args.lost c.args.word c.args.pages _ _ c.requires.pages c.requires.aim.0 c.requires.aim.1 h.4 c.requires.page c.requires.own.0 c.requires.own.1 c.requires.resumes c.requires.word,
 )
 
 pub returns : goal.returns

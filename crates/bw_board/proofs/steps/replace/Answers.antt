@@ -6,7 +6,7 @@ use Rattle.bw_board.proofs.Kept.{replaces}
 use Rattle.bw_board.proofs.steps.replace.Goals as goal
 
 pub compare_exchange-requires : goal.compare_exchange-requires
-compare_exchange-requires c = let h = c.requires.seat in (h.0, omega arith, replaces _ _ _ _ _ _ _ _ c.args.page _ _ h.4 c.requires.idle c.requires.page c.requires.words.0 c.requires.words.1)
+compare_exchange-requires c = let h = c.requires.seat in (h.0, omega arith, replaces _ _ _ _ _ _ _ _ c.args.page _ _ h.4 c.requires.idle c.requires.page c.requires.words.0 c.requires.words.1 c.requires.untried)
 
 pub returns : goal.returns
 returns c = let h = c.requires.seat in let e = c.compare_exchange.ensures in let t = e.2.1 c.args.page refl c.requires.page in

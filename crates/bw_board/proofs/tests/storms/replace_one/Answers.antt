@@ -1,4 +1,3 @@
-use Rattle.std.proofs.Common.{refl}
 use Rattle.bw_board.proofs.WorkingLemmas.{tries_won, tries_late}
 use Rattle.bw_board.proofs.tests.storms.replace_one.Goals as goal
 
