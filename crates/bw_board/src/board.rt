@@ -83,7 +83,7 @@ impl Board {
     ///
     /// Each head is below `floor`, `floor + records` is at most 2^33, and `piece`, the number of records that a claim takes, is
     /// from 1 to 4,096. `spares` has for each page a word that may replace its head, below the floor and not that head, or
-    /// nothing. Costs a copy of heads and spares and one word for each record. After `Memory` there is no board.
+    /// nothing. Costs plain copies of heads and spares, and a word for each record. After `Memory` there is no board.
     pub fn open(
         alloc: Alloc,
         heads: &[u64],
@@ -179,7 +179,7 @@ fn first_words(alloc: Alloc, heads: &[u64], records: u64) -> Result<Vec<u64, All
     requires { records ≤ 2 ^ 33 }
     ensures { IfOk result (λ v. (v.items ≡ 0 ∷ (heads.now ++ replicate records 0)) × (1 + (length heads.now + records) < 2 ^ 63)) }
 {
-    let mut words = Vec::new(alloc);
+    let mut words = Vec::with_capacity(alloc, 1 + heads.len() + records as usize)?;
     words.push(0)?;
     words.extend_from_slice(heads)?;
     for i in 0..records {

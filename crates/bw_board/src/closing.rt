@@ -68,7 +68,7 @@ pub(crate) fn words_from(
     requires { (from + count ≤ slots_len closed.now.words) × IsFull closed.now.words }
     ensures { IfOk result (λ v. v.items ≡ take count (drop from (slots_items closed.now.words))) }
 {
-    let mut found = Vec::new(alloc);
+    let mut found = Vec::with_capacity(alloc, count)?;
     for i in 0..count {
         found.push(closed.word(from + i))?;
     }
