@@ -7,13 +7,43 @@ ghost use Rattle.bw_board.specs.Working.{HasPostedAll, HasLeft, SameWork};
 use super::{FLOOR, counted};
 use crate::{Board, Closed, Replaced, Seat};
 use bw_memory::Alloc;
+use std::hint::spin_loop;
 use std::process::Abort;
+use std::sync::atomic::AtomicU64;
+use std::sync::atomic::Ordering::SeqCst;
 use std::thread::{Threads, join};
 
 const RECORDS: u64 = 1000;
 
 // A thread peeks after so many of its posts.
 const OFTEN: usize = 100;
+
+// Where threads wait for one another, so that they begin at once.
+#[derive(Drop)]
+struct Gate {
+    threads: u64,
+    here: AtomicU64,
+}
+
+impl Gate {
+    fn new(threads: u64) -> Gate {
+        Gate {
+            threads,
+            here: AtomicU64::new(0),
+        }
+    }
+
+    // Waits until all are here, but not for ever: a thread that couldn't be made runs last.
+    fn pass(&self) {
+        self.here.fetch_add(1, SeqCst);
+        for _ in 0..1_000_000 {
+            if self.here.load(SeqCst) >= self.threads {
+                return;
+            }
+            spin_loop();
+        }
+    }
+}
 
 // A post of a thread.
 #[derive(Clone, Copy)]
@@ -125,6 +155,7 @@ fn post_piece(
 fn post_all(
     rt: &impl Abort,
     alloc: Alloc,
+    gate: &Gate,
     board: &Board,
     mut seat: Seat,
     pages: u64,
@@ -138,6 +169,7 @@ fn post_all(
     ensures posted { HasPostedAll result.0 }
 {
     let mut diary = Diary::new(alloc);
+    gate.pass();
     for _ in 0..=RECORDS {
         let Some(span) = board.claim(&mut seat) else {
             return (seat, diary);
@@ -166,6 +198,7 @@ fn merged(board: &Board, first: Seat, second: Seat) -> Seat
 fn post_by_two<R: Threads + Abort + Sync>(
     rt: &R,
     alloc: Alloc,
+    gate: &Gate,
     board: &Board,
     seat: Seat,
     pages: u64,
@@ -183,8 +216,8 @@ fn post_by_two<R: Threads + Abort + Sync>(
     };
     let (first, second) = join(
         rt,
-        || post_all(rt, alloc, board, first, pages),
-        || post_all(rt, alloc, board, second, pages),
+        || post_all(rt, alloc, gate, board, first, pages),
+        || post_all(rt, alloc, gate, board, second, pages),
     );
     (merged(board, first.0, second.0), first.1, second.1)
 }
@@ -193,6 +226,7 @@ fn post_by_two<R: Threads + Abort + Sync>(
 fn post_by_four<R: Threads + Abort + Sync>(
     rt: &R,
     alloc: Alloc,
+    gate: &Gate,
     board: &Board,
     seat: Seat,
     pages: u64,
@@ -212,10 +246,10 @@ fn post_by_four<R: Threads + Abort + Sync>(
         rt,
         || -> (Seat, Diary, Diary)
             requires { (first.board ≡ board.now) × (0 < pages) × (pages ≡ length board.now.first) × HasPostedAll first }
-        { post_by_two(rt, alloc, board, first, pages) },
+        { post_by_two(rt, alloc, gate, board, first, pages) },
         || -> (Seat, Diary, Diary)
             requires { (second.board ≡ board.now) × (0 < pages) × (pages ≡ length board.now.first) × HasPostedAll second }
-        { post_by_two(rt, alloc, board, second, pages) },
+        { post_by_two(rt, alloc, gate, board, second, pages) },
     );
     (
         merged(board, first.0, second.0),
@@ -245,6 +279,7 @@ fn replace_one(board: &Board, seat: &mut Seat, page: u64, spare: Option<u64>) ->
 fn replace_each(
     rt: &impl Abort,
     alloc: Alloc,
+    gate: &Gate,
     board: &Board,
     mut seat: Seat,
     spares: &[Option<u64>],
@@ -255,6 +290,7 @@ fn replace_each(
     ensures { SameWork seat result.0 }
 {
     let mut won = Vec::new(alloc);
+    gate.pass();
     for page in 0..spares.len() as u64 {
         if replace_one(board, &mut seat, page, spares[page as usize]) {
             won.push(page).expect(rt, "memory");
@@ -267,6 +303,7 @@ fn replace_each(
 fn post_beside<R: Threads + Abort + Sync>(
     rt: &R,
     alloc: Alloc,
+    gate: &Gate,
     board: &Board,
     seat: Seat,
     spares: &[Option<u64>],
@@ -287,8 +324,8 @@ fn post_beside<R: Threads + Abort + Sync>(
         rt,
         || -> (Seat, Diary, Diary)
             requires { (first.board ≡ board.now) × (0 < pages) × (pages ≡ length board.now.first) × HasPostedAll first }
-        { post_by_two(rt, alloc, board, first, pages) },
-        || replace_each(rt, alloc, board, second, spares),
+        { post_by_two(rt, alloc, gate, board, first, pages) },
+        || replace_each(rt, alloc, gate, board, second, spares),
     );
     (merged(board, second.0, first.0), first.1, first.2, second.1)
 }
@@ -359,7 +396,7 @@ fn lost_by(diaries: &[Diary]) -> u64 {
 fn two_threads_post_to_one_page(rt: HostRuntime) {
     let alloc = counted(rt.alloc()).expect(&rt, "memory");
     let (board, seat) = Board::open(alloc, &[7], FLOOR, RECORDS, 1, &[None]).expect(&rt, "memory");
-    let (seat, one, two) = post_by_two(&rt, alloc, &board, seat, 1);
+    let (seat, one, two) = post_by_two(&rt, alloc, &Gate::new(2), &board, seat, 1);
     let closed = board.close(seat).expect(&rt, "memory");
     assert!(rt; closed.swapped().is_empty());
     let diaries = [one, two];
@@ -374,7 +411,7 @@ fn four_threads_post_to_eight_pages(rt: HostRuntime) {
     let (board, seat) = Board::open(alloc, &heads, FLOOR, RECORDS, 1, &[None; 8]).expect(
         &rt, "memory",
     );
-    let (seat, diaries) = post_by_four(&rt, alloc, &board, seat, 8);
+    let (seat, diaries) = post_by_four(&rt, alloc, &Gate::new(4), &board, seat, 8);
     let closed = board.close(seat).expect(&rt, "memory");
     assert!(rt; closed.swapped().is_empty());
     check_closed(&rt, alloc, &closed, &diaries, &heads);
@@ -386,7 +423,7 @@ fn a_word_is_replaced_while_two_threads_post(rt: HostRuntime) {
     let alloc = counted(rt.alloc()).expect(&rt, "memory");
     let spares = [Some(5)];
     let (board, seat) = Board::open(alloc, &[7], FLOOR, RECORDS, 1, &spares).expect(&rt, "memory");
-    let (seat, one, two, won) = post_beside(&rt, alloc, &board, seat, &spares);
+    let (seat, one, two, won) = post_beside(&rt, alloc, &Gate::new(3), &board, seat, &spares);
     let closed = board.close(seat).expect(&rt, "memory");
     assert_eq!(rt; closed.swapped(), won.as_slice());
     let last = if won.is_empty() { 7 } else { 5 };
