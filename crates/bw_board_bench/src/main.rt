@@ -19,12 +19,8 @@ use std::{env, fmt};
 /// Records that a claim takes.
 const PIECE: u64 = 64;
 
-// How many records are posted with no word, and with `time`, and how often then.
-const BRIEF: u64 = 4096;
-
-const LONG: u64 = 262_144;
-
-const ROUNDS: u64 = 51;
+// How often each load is posted with `time`.
+const ROUNDS: u64 = 31;
 
 /// Whether one thread posts or four do, and how many records in all.
 #[derive(Clone, Copy)]
@@ -32,6 +28,28 @@ struct Load {
     four: bool,
     records: u64,
 }
+
+// What is posted with no word.
+const ALONE_BRIEF: Load = Load {
+    four: false,
+    records: 4096,
+};
+
+const FOUR_BRIEF: Load = Load {
+    four: true,
+    records: 4096,
+};
+
+// What is posted with `time`. Four threads need long enough to meet.
+const ALONE_LONG: Load = Load {
+    four: false,
+    records: 262_144,
+};
+
+const FOUR_LONG: Load = Load {
+    four: true,
+    records: 2_097_152,
+};
 
 impl fmt::Display for Load {
     fn fmt<W: fmt::Write>(&self, f: &mut fmt::Formatter<W>) -> fmt::Result {
@@ -106,14 +124,8 @@ fn run<R: Threads + Clock + Sync>(rt: &R, alloc: Alloc, way: Way, load: Load) ->
     }
 }
 
-/// The run in the middle of several, by its time. The shortest would be one whose threads hardly met.
-fn middle<R: Threads + Clock + Sync>(rt: &R, alloc: Alloc, way: Way, load: Load) -> Result<Timed>
-    requires { load.records ≤ 2 ^ 32 }
-{
-    let mut runs = Vec::new(alloc);
-    for _ in 0..ROUNDS {
-        runs.push(run(rt, alloc, way, load)?)?;
-    }
+/// The run in the middle, by its time. The shortest would be one whose threads hardly met.
+fn middle(runs: &mut Vec<Timed, Alloc>) -> Result<Timed> {
     runs.sort_unstable_by_key(|run| run.time);
     runs.get(runs.len() / 2).copied().context("no run")
 }
@@ -133,9 +145,17 @@ fn print_counts<R: Threads + Clock + Sync + Print>(rt: &R, alloc: Alloc, load: L
 fn print_times<R: Threads + Clock + Sync + Print>(rt: &R, alloc: Alloc, load: Load) -> Result<()>
     requires { load.records ≤ 2 ^ 32 }
 {
-    let board = middle(rt, alloc, Way::Board, load)?;
-    let links = middle(rt, alloc, Way::Links, load)?;
-    let heads = middle(rt, alloc, Way::Heads, load)?;
+    let mut boards = Vec::new(alloc);
+    let mut links = Vec::new(alloc);
+    let mut heads = Vec::new(alloc);
+    for _ in 0..ROUNDS {
+        boards.push(run(rt, alloc, Way::Board, load)?)?;
+        links.push(run(rt, alloc, Way::Links, load)?)?;
+        heads.push(run(rt, alloc, Way::Heads, load)?)?;
+    }
+    let board = middle(&mut boards)?;
+    let links = middle(&mut links)?;
+    let heads = middle(&mut heads)?;
     let (post, link, head) = (
         board.nanoseconds(),
         links.nanoseconds(),
@@ -162,26 +182,15 @@ fn print_times<R: Threads + Clock + Sync + Print>(rt: &R, alloc: Alloc, load: Lo
 fn main(rt: HostRuntime) -> Result<()> {
     let alloc = Heap::new(rt.alloc()).leak(rt.alloc())?;
     let words = env::args(&rt)?.skip(1).collect::<Vec<String>>(rt.alloc())?;
-    for four in [false, true] {
-        match words.as_slice() {
-            [] => print_counts(
-                &rt,
-                alloc,
-                Load {
-                    four,
-                    records: BRIEF,
-                },
-            )?,
-            [word] if word.as_str() == "time" => print_times(
-                &rt,
-                alloc,
-                Load {
-                    four,
-                    records: LONG,
-                },
-            )?,
-            _ => bail!("usage: bw_board_bench [time]"),
+    match words.as_slice() {
+        [] => {
+            print_counts(&rt, alloc, ALONE_BRIEF)?;
+            print_counts(&rt, alloc, FOUR_BRIEF)
         }
+        [word] if word.as_str() == "time" => {
+            print_times(&rt, alloc, ALONE_LONG)?;
+            print_times(&rt, alloc, FOUR_LONG)
+        }
+        _ => bail!("usage: bw_board_bench [time]"),
     }
-    Ok(())
 }
