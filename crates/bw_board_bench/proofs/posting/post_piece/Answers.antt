@@ -1,4 +1,4 @@
-use Rattle.std.proofs.Common.{arith, refl, ap, sym, ◌∙◌}
+use Rattle.std.proofs.Common.{arith, ap, ◌∙◌}
 use Rattle.bw_board.proofs.WorkingLemmas.{left_next, left_over}
 use Rattle.bw_board_bench.proofs.posting.post_piece.Goals as goal
 
