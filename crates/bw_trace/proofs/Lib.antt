@@ -1,4 +1,5 @@
 pub mod Numbers
+pub mod Misreading
 pub mod Writing
 pub mod LinesLemmas
 pub mod Reading

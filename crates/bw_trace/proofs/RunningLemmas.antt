@@ -13,6 +13,7 @@ use Rattle.bw_model.specs.declared.operations.Op.{Op}
 use Rattle.bw_model.specs.declared.outcomes.Refusal.{Refusal}
 use Rattle.bw_model.proofs.RunsLemmas.{one_more, left_one_more}
 use Rattle.bw_trace.specs.declared.faults.Cause.{Cause}
+use Rattle.bw_trace.specs.declared.places.Place.{Place}
 use Rattle.bw_trace.specs.declared.summaries.Summary.{Summary}
 use Rattle.bw_trace.specs.Running.{IsRun, refusal_in, summary_of, is_too_long, is_of_memory}
 use Rattle.bw_trace.specs.Sources.{SourceView}
@@ -26,10 +27,10 @@ use Rattle.bw_trace.proofs.Writing.{flat_map_one}
 behind_more : (batches : List (List Op)) (ops : List Op) (rest : Trace) → behind batches (behind (ops ∷ []) rest) ≡ behind (batches ++ ops ∷ []) rest
 behind_more batches ops rest = ap (λ (l : List (List Op)). record { batches = l; fault = rest.fault }) (sym (append_assoc batches (ops ∷ []) rest.batches))
 
-nothing_read : (before : ℕ) (ended : Bool) → StandFor before [] [] before ended
+nothing_read : (before : Place) (ended : Bool) → StandFor before [] [] before ended
 nothing_read before ended = record { alone = refl; further = λ going more. refl; cut = λ going more. refl }
 
-stand_more : (before mid after : ℕ) (read more : List ℕ) (batches : List (List Op)) (ops : List Op) (ended ended' : Bool) → ended ≡ false →
+stand_more : (before mid after : Place) (read more : List ℕ) (batches : List (List Op)) (ops : List Op) (ended ended' : Bool) → ended ≡ false →
     StandFor before read batches mid ended → StandFor mid more (ops ∷ []) after ended' → StandFor before (read ++ more) (batches ++ ops ∷ []) after ended'
 stand_more before mid after read more batches ops ended ended' going first second = record {
   alone = first.further going more ∙ ap (behind batches) second.alone ∙ behind_more batches ops no_trace;
@@ -41,16 +42,16 @@ stand_more before mid after read more batches ops ended ended' going first secon
 
 -- ---- what has run so far
 
-pub record HasRun (most before : ℕ) (read : List ℕ) (outcomes : List Outcome) (after : ℕ) (ended : Bool) (contents : Contents ValueBytes) : Type 0 where
+pub record HasRun (most : ℕ) (before : Place) (read : List ℕ) (outcomes : List Outcome) (after : Place) (ended : Bool) (contents : Contents ValueBytes) : Type 0 where
   pub batches : List (List Op)
   pub stands : StandFor before read batches after ended
   pub answered : AnswersInTurn most batches empty outcomes
   pub left : contents ≡ left_in_turn batches empty outcomes
 
-pub has_run_none : (most before : ℕ) (ended : Bool) (contents : Contents ValueBytes) → contents ≡ empty → HasRun most before [] [] before ended contents
+pub has_run_none : (most : ℕ) (before : Place) (ended : Bool) (contents : Contents ValueBytes) → contents ≡ empty → HasRun most before [] [] before ended contents
 has_run_none most before ended contents none = record { batches = []; stands = nothing_read before ended; answered = tt; left = none }
 
-pub has_run_more : (most before mid after : ℕ) (read more : List ℕ) (outcomes : List Outcome) (outcome : Outcome) (ops : List Op) (ended ended' : Bool) (now new : Contents ValueBytes) → ended ≡ false →
+pub has_run_more : (most : ℕ) (before mid after : Place) (read more : List ℕ) (outcomes : List Outcome) (outcome : Outcome) (ops : List Op) (ended ended' : Bool) (now new : Contents ValueBytes) → ended ≡ false →
     HasRun most before read outcomes mid ended now → StandFor mid more (ops ∷ []) after ended' → Answers most ops now outcome → new ≡ left_by ops now outcome →
     HasRun most before (read ++ more) (outcomes ++ outcome ∷ []) after ended' new
 has_run_more most before mid after read more outcomes outcome ops ended ended' now new going so_far next told left = record {
@@ -63,7 +64,7 @@ has_run_more most before mid after read more outcomes outcome ops ended ended' n
 -- ---- how a run ends
 
 -- at the end of the input
-pub is_run_at_end : (most before mid : ℕ) (read more : List ℕ) (outcomes : List Outcome) (ended : Bool) (contents : Contents ValueBytes) →
+pub is_run_at_end : (most : ℕ) (before mid : Place) (read more : List ℕ) (outcomes : List Outcome) (ended : Bool) (contents : Contents ValueBytes) →
     HasRun most before read outcomes mid ended contents → trace_from mid more ≡ no_trace → (ended ≡ true → more ≡ []) → IsRun most (trace_from before (read ++ more)) outcomes no_trace
 is_run_at_end most before mid read more outcomes true contents so_far none over = record {
   batches = so_far.batches;
@@ -77,7 +78,7 @@ is_run_at_end most before mid read more outcomes false contents so_far none over
 }
 
 -- where the input was cut off
-pub is_run_at_cut : (most before mid : ℕ) (read more : List ℕ) (outcomes : List Outcome) (ended : Bool) (contents : Contents ValueBytes) → ended ≡ false →
+pub is_run_at_cut : (most : ℕ) (before mid : Place) (read more : List ℕ) (outcomes : List Outcome) (ended : Bool) (contents : Contents ValueBytes) → ended ≡ false →
     HasRun most before read outcomes mid ended contents → cut_trace_from mid more ≡ no_trace → IsRun most (cut_trace_from before (read ++ more)) outcomes no_trace
 is_run_at_cut most before mid read more outcomes ended contents going so_far none = record {
   batches = so_far.batches;
@@ -86,7 +87,7 @@ is_run_at_cut most before mid read more outcomes ended contents going so_far non
 }
 
 -- at a faulty line, of all that the reader had
-pub is_run_at_fault : (most before mid number : ℕ) (cause : Cause) (read more : List ℕ) (outcomes : List Outcome) (ended ended' : Bool) (contents : Contents ValueBytes) (old now : Option (List ℕ)) → ended ≡ false →
+pub is_run_at_fault : (most : ℕ) (before mid : Place) (number : ℕ) (cause : Cause) (read more : List ℕ) (outcomes : List Outcome) (ended ended' : Bool) (contents : Contents ValueBytes) (old now : Option (List ℕ)) → ended ≡ false →
     HasRun most before read outcomes mid ended contents → Consumes old now (read ++ more) → IsFaultyAt mid more number cause ended' → (ended' ≡ true → IsAtEnd now) →
     IfSome old (λ all. IsRun most (trace_from before all) outcomes (faulty number cause))
 is_run_at_fault most before mid number cause read more outcomes ended ended' contents None now going so_far takes fault over = tt
@@ -98,7 +99,7 @@ is_run_at_fault most before mid number cause read more outcomes ended ended' con
 }
 
 -- anywhere, of all that the reader had
-pub is_run_of_all : (most before mid : ℕ) (read : List ℕ) (outcomes : List Outcome) (ended : Bool) (contents : Contents ValueBytes) (old now : Option (List ℕ)) →
+pub is_run_of_all : (most : ℕ) (before mid : Place) (read : List ℕ) (outcomes : List Outcome) (ended : Bool) (contents : Contents ValueBytes) (old now : Option (List ℕ)) →
     HasRun most before read outcomes mid ended contents → Consumes old now read → (ended ≡ true → IsAtEnd now) →
     IfSome old (λ all. (rest : Trace) × IsRun most (trace_from before all) outcomes rest)
 is_run_of_all most before mid read outcomes ended contents None now so_far takes over = tt
@@ -181,7 +182,7 @@ pub record RunsTo (most : ℕ) (before now : SourceView) (contents : Contents Va
   pub read : List ℕ
   pub outcomes : List Outcome
   pub taken : Consumes before.unread now.unread read
-  pub has_run : HasRun most before.judged read outcomes now.judged now.ended contents
+  pub has_run : HasRun most before.place read outcomes now.place now.ended contents
   pub written : Appends old new (outcomes_text outcomes)
   pub counted : summary ≡ summary_of outcomes
 
@@ -191,20 +192,20 @@ runs_to_none most s contents out summary none zero = record {
   read = [];
   outcomes = [];
   taken = Consumes-nil s.unread;
-  has_run = has_run_none most s.judged s.ended contents none;
+  has_run = has_run_none most s.place s.ended contents none;
   written = Appends-nil out;
   counted = λ i. record { batches = zero.0 i; long = zero.1.0 i; memory = zero.1.1 i };
 }
 
 -- for want of memory
-pub stops_for_memory : (most before : ℕ) (outcomes : List Outcome) (unread old new : Option (List ℕ)) →
+pub stops_for_memory : (most : ℕ) (before : Place) (outcomes : List Outcome) (unread old new : Option (List ℕ)) →
     IfSome unread (λ all. (rest : Trace) × IsRun most (trace_from before all) outcomes rest) → TakesFront old new (outcomes_text outcomes) →
     IfSome unread (λ all. (outcomes : List Outcome) × ((rest : Trace) × IsRun most (trace_from before all) outcomes rest) × TakesFront old new (outcomes_text outcomes))
 stops_for_memory most before outcomes None old new run front = tt
 stops_for_memory most before outcomes (Some all) old new run front = (outcomes, run, front)
 
 -- before anything was read
-pub stops_at_start : (most before : ℕ) (unread out : Option (List ℕ)) →
+pub stops_at_start : (most : ℕ) (before : Place) (unread out : Option (List ℕ)) →
     IfSome unread (λ all. (outcomes : List Outcome) × ((rest : Trace) × IsRun most (trace_from before all) outcomes rest) × TakesFront out out (outcomes_text outcomes))
 stops_at_start most before None out = tt
 stops_at_start most before (Some all) out = ([], (trace_from before all, record { batches = []; reads = refl; answered = tt }), ([], ([], refl), Appends-nil out))

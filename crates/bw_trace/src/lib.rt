@@ -3,6 +3,7 @@
 
 mod faults;
 mod judging;
+mod places;
 mod ports;
 mod printing;
 mod running;
@@ -12,6 +13,7 @@ mod std_ports;
 mod summaries;
 #[cfg(test)]
 mod tests;
+mod words;
 
 pub use faults::{Cause, TraceFault};
 pub use ports::{Failed, Inlet, Outlet};

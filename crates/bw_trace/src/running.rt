@@ -41,21 +41,21 @@ pub fn run_trace<R: Inlet, W: Outlet>(
     // At the end the reader told its end, what was read is a trace without a fault, and the texts of the outcomes of
     // its batches were written.
     ensures done { IfOk result (λ summary. (read : List ℕ) × Consumes source.old.unread source.new.unread read × IsAtEnd source.new.unread
-        × ((outcomes : List Outcome) × IsRun options.batch_max (trace_from source.old.judged read) outcomes no_trace
+        × ((outcomes : List Outcome) × IsRun options.batch_max (trace_from source.old.place read) outcomes no_trace
         × (summary ≡ summary_of outcomes) × Appends (W.contents out.old) (W.contents out.new) (outcomes_text outcomes))) }
     ensures ended { OnOk result (source.new.has_ended ≡ true) }
     // At a faulty line, it is the first, and the texts of the batches before it were written.
     ensures line { source.old.fault ≡ None → IfErr result (λ fault. IfLine fault (λ number cause. IfSome source.old.unread (λ all.
-        (outcomes : List Outcome) × IsRun options.batch_max (trace_from source.old.judged all) outcomes (faulty number cause)
+        (outcomes : List Outcome) × IsRun options.batch_max (trace_from source.old.place all) outcomes (faulty number cause)
         × Appends (W.contents out.old) (W.contents out.new) (outcomes_text outcomes)))) }
     // Where the input failed or did not end, the texts of the batches that whole lines `go` ended were written.
     ensures cut { source.old.fault ≡ None → IfErr result (λ fault. IsOfInput fault →
         (read : List ℕ) × Consumes source.old.unread source.new.remaining read
-        × ((outcomes : List Outcome) × IsRun options.batch_max (cut_trace_from source.old.judged read) outcomes no_trace
+        × ((outcomes : List Outcome) × IsRun options.batch_max (cut_trace_from source.old.place read) outcomes no_trace
         × Appends (W.contents out.old) (W.contents out.new) (outcomes_text outcomes))) }
     // For want of memory, a front of the texts of the first batches was written.
     ensures memory { source.old.fault ≡ None → IsErrOf result TraceFault.Memory → IfSome source.old.unread (λ all.
-        (outcomes : List Outcome) × ((rest : Trace) × IsRun options.batch_max (trace_from source.old.judged all) outcomes rest)
+        (outcomes : List Outcome) × ((rest : Trace) × IsRun options.batch_max (trace_from source.old.place all) outcomes rest)
         × TakesFront (W.contents out.old) (W.contents out.new) (outcomes_text outcomes)) }
     ensures on { ReadsOn source.old source.new }
     ensures read { source.old.fault ≡ None → IsErrOf result TraceFault.Read → HasRisenBy 1 source.old.failures source.new.failures }

@@ -12,7 +12,7 @@ use Rattle.bw_trace.specs.declared.faults.TraceFault.TheVariants.{Memory}
 use Rattle.bw_trace.proofs.running.run_trace.Goals as goal
 
 pub returns-in_err-index-clause-memory : goal.returns-in_err-index-clause-memory
-returns-in_err-index-clause-memory g c = λ fresh memory. stops_at_start c.args.options.batch_max c.args.source.now.judged c.args.source.now.unread (g.W.Outlet.contents c.args.out.now)
+returns-in_err-index-clause-memory g c = λ fresh memory. stops_at_start c.args.options.batch_max c.args.source.now.place c.args.source.now.unread (g.W.Outlet.contents c.args.out.now)
 
 pub loop-index-init : goal.loop-index-init
 loop-index-init g c = record {
@@ -36,7 +36,7 @@ returns-in_err-ops-clause-cut g c = λ fresh.
     let cut = c.in_err-ops.ensures.cut (c.loop-index.invariant.fault fresh) input in (
       so_far.read ++ cut.1.0,
       Consumes-trans before.unread mid.unread c.read_batch.new.source.remaining so_far.read cut.1.0 so_far.taken cut.1.1,
-      (so_far.outcomes, is_run_at_cut c.args.options.batch_max before.judged mid.judged so_far.read cut.1.0 so_far.outcomes mid.ended (contents_of c.loop-index.index) cut.0 so_far.has_run cut.1.2, so_far.written),
+      (so_far.outcomes, is_run_at_cut c.args.options.batch_max before.place mid.place so_far.read cut.1.0 so_far.outcomes mid.ended (contents_of c.loop-index.index) cut.0 so_far.has_run cut.1.2, so_far.written),
     ))
 
 pub returns-in_err-ops-clause-memory : goal.returns-in_err-ops-clause-memory
@@ -45,8 +45,8 @@ returns-in_err-ops-clause-memory g c = λ fresh memory.
     let before = c.args.source.now in
     let mid = c.loop-index.source in
     let going = not_over mid.ended c.read_batch.result (c.read_batch.ensures.over (c.loop-index.invariant.fault fresh)) (λ e. let f = c.in_err-ops.was in cc) in
-    stops_for_memory c.args.options.batch_max before.judged so_far.outcomes before.unread (g.W.Outlet.contents c.args.out.now) (g.W.Outlet.contents c.loop-index.out)
-    (is_run_of_all c.args.options.batch_max before.judged mid.judged so_far.read so_far.outcomes mid.ended (contents_of c.loop-index.index) before.unread mid.unread so_far.has_run so_far.taken
+    stops_for_memory c.args.options.batch_max before.place so_far.outcomes before.unread (g.W.Outlet.contents c.args.out.now) (g.W.Outlet.contents c.loop-index.out)
+    (is_run_of_all c.args.options.batch_max before.place mid.place so_far.read so_far.outcomes mid.ended (contents_of c.loop-index.index) before.unread mid.unread so_far.has_run so_far.taken
     (λ e. absurd (let f = going in cc)))
     (front_of_all _ _ _ so_far.written)
 
@@ -65,9 +65,9 @@ returns-in_err-refusal-clause-memory g c = λ fresh memory.
     let most = ap (λ (s : Settings). s.batch_max) c.loop-index.invariant.settings in
     let told : Answers c.args.options.batch_max ops held wrote.0 = rw (most, c.deref.ensures.value) at wrote.1 in
     let outcomes = so_far.outcomes ++ wrote.0 ∷ [] in
-    stops_for_memory c.args.options.batch_max before.judged outcomes before.unread (g.W.Outlet.contents c.args.out.now) (g.W.Outlet.contents c.answer.new.out)
-    (is_run_of_all c.args.options.batch_max before.judged now.judged (so_far.read ++ said.0) outcomes now.ended (left_by ops held wrote.0) before.unread now.unread
-    (has_run_more c.args.options.batch_max before.judged mid.judged now.judged so_far.read said.0 so_far.outcomes wrote.0 ops mid.ended now.ended held (left_by ops held wrote.0)
+    stops_for_memory c.args.options.batch_max before.place outcomes before.unread (g.W.Outlet.contents c.args.out.now) (g.W.Outlet.contents c.answer.new.out)
+    (is_run_of_all c.args.options.batch_max before.place now.place (so_far.read ++ said.0) outcomes now.ended (left_by ops held wrote.0) before.unread now.unread
+    (has_run_more c.args.options.batch_max before.place mid.place now.place so_far.read said.0 so_far.outcomes wrote.0 ops mid.ended now.ended held (left_by ops held wrote.0)
     said.2.1 so_far.has_run said.2.0 told refl)
     (Consumes-trans before.unread mid.unread now.unread so_far.read said.0 so_far.taken said.1)
     (λ e. (said.2.2 e).nothing_left))
@@ -93,7 +93,7 @@ loop-index-preserved g c =
         read = so_far.read ++ said.0;
         outcomes = so_far.outcomes ++ outcome ∷ [];
         taken = Consumes-trans before.unread mid.unread now.unread so_far.read said.0 so_far.taken said.1;
-        has_run = has_run_more c.args.options.batch_max before.judged mid.judged now.judged so_far.read said.0 so_far.outcomes outcome ops mid.ended now.ended held (contents_of c.answer.new.index)
+        has_run = has_run_more c.args.options.batch_max before.place mid.place now.place so_far.read said.0 so_far.outcomes outcome ops mid.ended now.ended held (contents_of c.answer.new.index)
             said.2.1 so_far.has_run said.2.0 told left;
         written = texts_more (g.W.Outlet.contents c.args.out.now) (g.W.Outlet.contents c.loop-index.out) (g.W.Outlet.contents c.answer.new.out) so_far.outcomes outcome so_far.written answered.3;
         counted = c.count.ensures ∙ count_both c.loop-index.summary (summary_of so_far.outcomes) c.in_ok-refusal.refusal (refusal_in outcome) so_far.counted answered.4 ∙ sym (summary_more so_far.outcomes outcome);
@@ -119,7 +119,7 @@ returns-clause-done g c =
       said.2.2.nothing_left,
       (
         so_far.outcomes,
-        is_run_at_end c.args.options.batch_max before.judged mid.judged so_far.read said.0 so_far.outcomes mid.ended (contents_of c.loop-index.index) so_far.has_run said.2.0 said.2.1,
+        is_run_at_end c.args.options.batch_max before.place mid.place so_far.read said.0 so_far.outcomes mid.ended (contents_of c.loop-index.index) so_far.has_run said.2.0 said.2.1,
         so_far.counted,
         so_far.written,
       ),
