@@ -2,6 +2,7 @@ pub mod Lines
 pub mod Spelling
 pub mod Grammar
 pub mod Misreads
+pub mod ReadBack
 pub mod Traces
 pub mod Texts
 pub mod Counts

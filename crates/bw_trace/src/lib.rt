@@ -3,6 +3,7 @@
 
 mod faults;
 mod judging;
+pub mod laws;
 mod places;
 mod ports;
 mod printing;
