@@ -2,6 +2,7 @@
 // and its statuses, which the contracts state in part.
 mod asking;
 mod commands;
+mod examples;
 mod faults;
 mod hostile;
 mod lines;

@@ -123,6 +123,13 @@ fn each_option_has_its_range(rt: HostRuntime) {
 }
 
 #[test]
+fn a_file_is_read_in_place_of_the_input(rt: HostRuntime) {
+    let runner = Runner::new(&rt, rt.alloc());
+    runner.expect_words(&["run", "/dev/null"], "get a", "", "", 0);
+    runner.expect_words(&["dump", "/dev/null"], "upsert a 1", "contents 0\n", "", 0);
+}
+
+#[test]
 fn a_file_that_cannot_be_opened_cannot_be_read(rt: HostRuntime) {
     let runner = Runner::new(&rt, rt.alloc());
     runner.expect_words(&["run", "no/such/file"], "get a", "", "cannot read", 1);
