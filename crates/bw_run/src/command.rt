@@ -1,24 +1,36 @@
-// The command line: what its words ask for, and the message and the status at the end.
-ghost use Rattle.std.specs.Prelude.{◌≡◌, ◌≤◌};
+// The command line: what its words ask for is done, and the message and the status at the end.
+ghost use Rattle.std.specs.Prelude.{◌≡◌, ◌≢◌, ◌⊎◌, ◌≤◌, IfOk, IfErr, IfSome, IfNone};
+ghost use Rattle.bw_batch.specs.SettingFaults.{first_fault};
+ghost use Rattle.bw_run.specs.Jobs.{IsDone, IsFaulty, Tells};
+ghost use Rattle.bw_run.specs.Settings.{settings_of};
+ghost use Rattle.bw_trace.specs.Faults.{IfLine};
+ghost use Rattle.clap.specs.Values.{kind_of};
 
+use crate::asking::{Request, request_in};
 use bw_batch::Options;
 use bw_memory::Alloc;
-use bw_trace::{Inlet, Job, Outlet, Source, Summary, TraceFault, run_trace, status};
-
-const USAGE: &str = "bw_run: usage: bw_run run -\n";
+use bw_trace::{FromRead, Inlet, Job, Outlet, Source, Summary, TraceFault, run_trace, status};
+use clap::error::{Error, ErrorKind};
+use std::alloc::Global;
+use std::fmt::Display;
+use std::fs;
+use std::rt::Files;
 
 const NO_MEMORY: &str = "bw_run: out of memory\n";
 
-/// Does what the words of a command line ask for, the name of the program left out: `run -` runs the trace that is
-/// read from `input`, writes its texts to `output`, and writes a message to `errors` where it ends by a fault.
+/// Does what the words of a command line ask for, the name of the program left out: `run` and `dump` with their
+/// options and the path of a trace, `--help` and `--version`. The path `-`, and none, is `input`. Texts go to `output`,
+/// and a message, one line, to `errors`.
 ///
-/// `turns` is how often the input is read at the most. The answer is the exit status: 0 where each batch was accepted,
-/// 1 at a fault of reading, writing or memory and where the input doesn't end, 2 for other words, 3 at a faulty line,
-/// and 4 where the input was read to its end and a batch was refused. A message that can't be written leaves the status
-/// as it is.
-pub fn run_words<R: Inlet, W: Outlet, E: Outlet>(
+/// `turns` is how often a trace is read at the most. The answer is the exit status: 0 where each batch was accepted and
+/// where help or the version was asked for, 1 at a fault of reading, writing or memory and where the input doesn't end,
+/// 2 for other words and for an option out of its range, 3 at a faulty line, and 4 where the trace was read to its end
+/// and a batch was refused. Options are tested before a file is opened. A message that can't be written leaves the
+/// status as it is.
+pub fn run_words<'a, F: Files + AllocGlobal, R: Inlet, W: Outlet, E: Outlet>(
+    rt: &F,
     alloc: Alloc,
-    words: &[&str],
+    words: &'a [&'a str],
     input: R,
     output: &mut W,
     errors: &mut E,
@@ -26,29 +38,86 @@ pub fn run_words<R: Inlet, W: Outlet, E: Outlet>(
 ) -> u8
     ensures { result ≤ 4 }
 {
-    if !matches!(words, ["run", "-"]) {
-        return wrong_usage(errors);
+    match request_in(rt.alloc(), words) {
+        Ok(request) => run_request(rt, alloc, &request, input, output, errors, turns),
+        Err(error) => show(rt.alloc(), &error, output, errors),
     }
-    let outcome = run(alloc, input, output, turns);
+}
+
+// Does a job.
+fn run_request<F: Files, R: Inlet, W: Outlet, E: Outlet>(
+    rt: &F,
+    alloc: Alloc,
+    request: &Request<'_>,
+    input: R,
+    output: &mut W,
+    errors: &mut E,
+    turns: u64,
+) -> u8
+    ensures limits { IfSome (first_fault (settings_of request.now.limits)) (λ _. result ≡ 2) }
+    ensures input { IfNone (first_fault (settings_of request.now.limits)) (IfNone request.now.file
+        (Tells result (settings_of request.now.limits) request.now.job (R.remaining input) (W.contents output.old) (W.contents output.new))) }
+    ensures most { result ≤ 4 }
+{
+    let options = match request.limits.options() {
+        Ok(options) => options,
+        Err(fault) => {
+            report(alloc, errors, fault);
+            return 2;
+        }
+    };
+    let Some(path) = request.file else {
+        return run_input(alloc, input, output, errors, options, request.job, turns);
+    };
+    match fs::open(rt, path) {
+        Ok(file) => {
+            let input = FromRead::new(file);
+            run_input(alloc, input, output, errors, options, request.job, turns)
+        }
+        Err(_) => {
+            report(alloc, errors, TraceFault::Read);
+            1
+        }
+    }
+}
+
+// Does a job on a trace that is read from an input, and reports its fault.
+fn run_input<R: Inlet, W: Outlet, E: Outlet>(
+    alloc: Alloc,
+    input: R,
+    output: &mut W,
+    errors: &mut E,
+    options: Options,
+    job: Job,
+    turns: u64,
+) -> u8
+    ensures { Tells result options job (R.remaining input) (W.contents output.old) (W.contents output.new) }
+{
+    let outcome = run(alloc, input, output, options, job, turns);
     if let Err(fault) = outcome {
         report(alloc, errors, fault);
     }
     status(&outcome)
 }
 
-// Runs the trace that is read from `input`, with the default options.
 fn run<R: Inlet, W: Outlet>(
     alloc: Alloc,
     input: R,
     output: &mut W,
+    options: Options,
+    job: Job,
     turns: u64,
-) -> Result<Summary, TraceFault> {
+) -> Result<Summary, TraceFault>
+    ensures done { IfOk result (λ summary. IfSome (R.remaining input) (λ bytes. IsDone options job bytes (W.contents output.old) (W.contents output.new) summary)) }
+    ensures line { IfErr result (λ fault. IfLine fault (λ number cause. IfSome (R.remaining input) (λ bytes.
+        IsFaulty options job bytes (W.contents output.old) (W.contents output.new) number cause))) }
+{
     let mut source = Source::new(alloc, input, turns)?;
-    run_trace(alloc, &mut source, output, Options::default(), Job::Run)
+    run_trace(alloc, &mut source, output, options, job)
 }
 
 // Writes the message of a fault.
-fn report<E: Outlet>(alloc: Alloc, errors: &mut E, fault: TraceFault) {
+fn report<E: Outlet>(alloc: Alloc, errors: &mut E, fault: impl Display + Drop) {
     let written = match format!(in alloc; "bw_run: {fault}\n") {
         Ok(message) => errors.put(message.as_str().as_bytes()),
         Err(_) => errors.put(NO_MEMORY.as_bytes()),
@@ -56,12 +125,30 @@ fn report<E: Outlet>(alloc: Alloc, errors: &mut E, fault: TraceFault) {
     let _ = written;
 }
 
-/// Says how the program is called, and answers the status for that.
-pub fn wrong_usage<E: Outlet>(errors: &mut E) -> u8
-    ensures { result ≡ 2 }
+// Shows a text of clap's: help and the version as an output, and what is wrong with the words as a message.
+fn show<W: Outlet, E: Outlet>(global: Global, error: &Error, output: &mut W, errors: &mut E) -> u8
+    ensures memory { kind_of error.now ≡ ErrorKind.OutOfMemory → result ≡ 1 }
+    ensures shown { (kind_of error.now ≡ ErrorKind.DisplayHelp) ⊎ (kind_of error.now ≡ ErrorKind.DisplayVersion) → (result ≡ 0) ⊎ (result ≡ 1) }
+    ensures mistake { kind_of error.now ≢ ErrorKind.DisplayHelp → kind_of error.now ≢ ErrorKind.DisplayVersion → (result ≡ 2) ⊎ (result ≡ 1) }
+    ensures most { result ≤ 2 }
 {
-    let _ = errors.put(USAGE.as_bytes());
-    2
+    if error.kind() == ErrorKind::OutOfMemory {
+        return no_memory(errors);
+    }
+    let Ok(text) = format!(in global; "{error}") else {
+        return no_memory(errors);
+    };
+    if error.use_stderr() {
+        let _ = errors.put(text.as_str().as_bytes());
+        return 2;
+    }
+    match output.put(text.as_str().as_bytes()) {
+        Ok(()) => 0,
+        Err(_) => {
+            let _ = errors.put(b"bw_run: cannot write\n");
+            1
+        }
+    }
 }
 
 /// Says that there is no memory, and answers the status for that.

@@ -1,6 +1,7 @@
-//! Runs a trace of operations on an ordered index, and prints the replies.
+//! Runs a trace of operations on an ordered index, and prints the replies or what the index holds at the end.
 #![tactic(auto)]
 
+mod asking;
 mod command;
 #[cfg(test)]
 mod tests;
@@ -20,7 +21,7 @@ fn main(rt: HostRuntime) -> ExitCode {
         return ExitCode::from(command::no_memory(&mut errors));
     };
     let Ok(arguments) = env::args(&rt) else {
-        return ExitCode::from(command::wrong_usage(&mut errors));
+        return ExitCode::from(command::no_memory(&mut errors));
     };
     let Ok(arguments) = arguments.skip(1).collect::<Vec<String>>(rt.alloc()) else {
         return ExitCode::from(command::no_memory(&mut errors));
@@ -34,5 +35,5 @@ fn main(rt: HostRuntime) -> ExitCode {
     };
     let input = FromRead::new(rt.stdin());
     let mut output = FromWrite::new(rt.stdout());
-    ExitCode::from(run_words(alloc, &words, input, &mut output, &mut errors, TURNS))
+    ExitCode::from(run_words(&rt, alloc, &words, input, &mut output, &mut errors, TURNS))
 }

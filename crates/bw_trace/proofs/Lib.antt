@@ -1,4 +1,6 @@
 pub mod Numbers
+pub mod Misreading
+pub mod ReadBackLemmas
 pub mod Writing
 pub mod LinesLemmas
 pub mod Reading

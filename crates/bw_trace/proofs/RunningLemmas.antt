@@ -13,10 +13,12 @@ use Rattle.bw_model.specs.declared.operations.Op.{Op}
 use Rattle.bw_model.specs.declared.outcomes.Refusal.{Refusal}
 use Rattle.bw_model.proofs.RunsLemmas.{one_more, left_one_more}
 use Rattle.bw_trace.specs.declared.faults.Cause.{Cause}
+use Rattle.bw_trace.specs.declared.places.Place.{Place}
 use Rattle.bw_trace.specs.declared.summaries.Summary.{Summary}
-use Rattle.bw_trace.specs.Running.{IsRun, refusal_in, summary_of, is_too_long, is_of_memory}
+use Rattle.bw_trace.specs.Running.{IsRun, left_by_run, refusal_in, summary_of, is_too_long, is_of_memory}
 use Rattle.bw_trace.specs.Sources.{SourceView}
-use Rattle.bw_trace.specs.Texts.{outcome_text, outcomes_text}
+use Rattle.bw_trace.specs.Texts.{batch_text, batches_text, end_text}
+use Rattle.bw_trace.specs.declared.running.Job.{Job}
 use Rattle.bw_trace.specs.Traces.{Trace, trace_from, cut_trace_from, no_trace, faulty, behind, StandFor, IsFaultyAt}
 use Rattle.bw_trace.specs.Writing.{TakesFront}
 use Rattle.bw_trace.proofs.Writing.{flat_map_one}
@@ -26,10 +28,10 @@ use Rattle.bw_trace.proofs.Writing.{flat_map_one}
 behind_more : (batches : List (List Op)) (ops : List Op) (rest : Trace) → behind batches (behind (ops ∷ []) rest) ≡ behind (batches ++ ops ∷ []) rest
 behind_more batches ops rest = ap (λ (l : List (List Op)). record { batches = l; fault = rest.fault }) (sym (append_assoc batches (ops ∷ []) rest.batches))
 
-nothing_read : (before : ℕ) (ended : Bool) → StandFor before [] [] before ended
+nothing_read : (before : Place) (ended : Bool) → StandFor before [] [] before ended
 nothing_read before ended = record { alone = refl; further = λ going more. refl; cut = λ going more. refl }
 
-stand_more : (before mid after : ℕ) (read more : List ℕ) (batches : List (List Op)) (ops : List Op) (ended ended' : Bool) → ended ≡ false →
+stand_more : (before mid after : Place) (read more : List ℕ) (batches : List (List Op)) (ops : List Op) (ended ended' : Bool) → ended ≡ false →
     StandFor before read batches mid ended → StandFor mid more (ops ∷ []) after ended' → StandFor before (read ++ more) (batches ++ ops ∷ []) after ended'
 stand_more before mid after read more batches ops ended ended' going first second = record {
   alone = first.further going more ∙ ap (behind batches) second.alone ∙ behind_more batches ops no_trace;
@@ -41,16 +43,16 @@ stand_more before mid after read more batches ops ended ended' going first secon
 
 -- ---- what has run so far
 
-pub record HasRun (most before : ℕ) (read : List ℕ) (outcomes : List Outcome) (after : ℕ) (ended : Bool) (contents : Contents ValueBytes) : Type 0 where
+pub record HasRun (most : ℕ) (before : Place) (read : List ℕ) (outcomes : List Outcome) (after : Place) (ended : Bool) (contents : Contents ValueBytes) : Type 0 where
   pub batches : List (List Op)
   pub stands : StandFor before read batches after ended
   pub answered : AnswersInTurn most batches empty outcomes
   pub left : contents ≡ left_in_turn batches empty outcomes
 
-pub has_run_none : (most before : ℕ) (ended : Bool) (contents : Contents ValueBytes) → contents ≡ empty → HasRun most before [] [] before ended contents
+pub has_run_none : (most : ℕ) (before : Place) (ended : Bool) (contents : Contents ValueBytes) → contents ≡ empty → HasRun most before [] [] before ended contents
 has_run_none most before ended contents none = record { batches = []; stands = nothing_read before ended; answered = tt; left = none }
 
-pub has_run_more : (most before mid after : ℕ) (read more : List ℕ) (outcomes : List Outcome) (outcome : Outcome) (ops : List Op) (ended ended' : Bool) (now new : Contents ValueBytes) → ended ≡ false →
+pub has_run_more : (most : ℕ) (before mid after : Place) (read more : List ℕ) (outcomes : List Outcome) (outcome : Outcome) (ops : List Op) (ended ended' : Bool) (now new : Contents ValueBytes) → ended ≡ false →
     HasRun most before read outcomes mid ended now → StandFor mid more (ops ∷ []) after ended' → Answers most ops now outcome → new ≡ left_by ops now outcome →
     HasRun most before (read ++ more) (outcomes ++ outcome ∷ []) after ended' new
 has_run_more most before mid after read more outcomes outcome ops ended ended' now new going so_far next told left = record {
@@ -63,21 +65,36 @@ has_run_more most before mid after read more outcomes outcome ops ended ended' n
 -- ---- how a run ends
 
 -- at the end of the input
-pub is_run_at_end : (most before mid : ℕ) (read more : List ℕ) (outcomes : List Outcome) (ended : Bool) (contents : Contents ValueBytes) →
-    HasRun most before read outcomes mid ended contents → trace_from mid more ≡ no_trace → (ended ≡ true → more ≡ []) → IsRun most (trace_from before (read ++ more)) outcomes no_trace
-is_run_at_end most before mid read more outcomes true contents so_far none over = record {
-  batches = so_far.batches;
-  reads = ap (λ l. trace_from before (read ++ l)) (over refl) ∙ ap (trace_from before) (append-nil read) ∙ so_far.stands.alone;
-  answered = so_far.answered;
-}
-is_run_at_end most before mid read more outcomes false contents so_far none over = record {
-  batches = so_far.batches;
-  reads = so_far.stands.further refl more ∙ ap (behind so_far.batches) none;
-  answered = so_far.answered;
-}
+pub is_run_at_end : (most : ℕ) (before mid : Place) (read more : List ℕ) (outcomes : List Outcome) (ended : Bool) (contents : Contents ValueBytes) →
+    HasRun most before read outcomes mid ended contents → trace_from mid more ≡ no_trace → (ended ≡ true → more ≡ []) →
+    (run : IsRun most (trace_from before (read ++ more)) outcomes no_trace) × (contents ≡ left_by_run run)
+is_run_at_end most before mid read more outcomes true contents so_far none over = (
+  record {
+    batches = so_far.batches;
+    reads = ap (λ l. trace_from before (read ++ l)) (over refl) ∙ ap (trace_from before) (append-nil read) ∙ so_far.stands.alone;
+    answered = so_far.answered;
+  },
+  so_far.left,
+)
+is_run_at_end most before mid read more outcomes false contents so_far none over = (
+  record {
+    batches = so_far.batches;
+    reads = so_far.stands.further refl more ∙ ap (behind so_far.batches) none;
+    answered = so_far.answered;
+  },
+  so_far.left,
+)
+
+-- of all that the reader had
+pub is_run_of_ended : (most : ℕ) (before : Place) (read : List ℕ) (outcomes : List Outcome) (old now : Option (List ℕ)) →
+    IsRun most (trace_from before read) outcomes no_trace → Consumes old now read → IsAtEnd now → IfSome old (λ all. (rest : Trace) × IsRun most (trace_from before all) outcomes rest)
+is_run_of_ended most before read outcomes None now run takes end = tt
+is_run_of_ended most before read outcomes (Some all) None run takes end = absurd takes
+is_run_of_ended most before read outcomes (Some all) (Some rest) run takes end =
+    (no_trace, subst (λ l. IsRun most (trace_from before l) outcomes no_trace) (sym (takes ∙ ap (λ l. read ++ l) end ∙ append-nil read)) run)
 
 -- where the input was cut off
-pub is_run_at_cut : (most before mid : ℕ) (read more : List ℕ) (outcomes : List Outcome) (ended : Bool) (contents : Contents ValueBytes) → ended ≡ false →
+pub is_run_at_cut : (most : ℕ) (before mid : Place) (read more : List ℕ) (outcomes : List Outcome) (ended : Bool) (contents : Contents ValueBytes) → ended ≡ false →
     HasRun most before read outcomes mid ended contents → cut_trace_from mid more ≡ no_trace → IsRun most (cut_trace_from before (read ++ more)) outcomes no_trace
 is_run_at_cut most before mid read more outcomes ended contents going so_far none = record {
   batches = so_far.batches;
@@ -86,7 +103,7 @@ is_run_at_cut most before mid read more outcomes ended contents going so_far non
 }
 
 -- at a faulty line, of all that the reader had
-pub is_run_at_fault : (most before mid number : ℕ) (cause : Cause) (read more : List ℕ) (outcomes : List Outcome) (ended ended' : Bool) (contents : Contents ValueBytes) (old now : Option (List ℕ)) → ended ≡ false →
+pub is_run_at_fault : (most : ℕ) (before mid : Place) (number : ℕ) (cause : Cause) (read more : List ℕ) (outcomes : List Outcome) (ended ended' : Bool) (contents : Contents ValueBytes) (old now : Option (List ℕ)) → ended ≡ false →
     HasRun most before read outcomes mid ended contents → Consumes old now (read ++ more) → IsFaultyAt mid more number cause ended' → (ended' ≡ true → IsAtEnd now) →
     IfSome old (λ all. IsRun most (trace_from before all) outcomes (faulty number cause))
 is_run_at_fault most before mid number cause read more outcomes ended ended' contents None now going so_far takes fault over = tt
@@ -98,7 +115,7 @@ is_run_at_fault most before mid number cause read more outcomes ended ended' con
 }
 
 -- anywhere, of all that the reader had
-pub is_run_of_all : (most before mid : ℕ) (read : List ℕ) (outcomes : List Outcome) (ended : Bool) (contents : Contents ValueBytes) (old now : Option (List ℕ)) →
+pub is_run_of_all : (most : ℕ) (before mid : Place) (read : List ℕ) (outcomes : List Outcome) (ended : Bool) (contents : Contents ValueBytes) (old now : Option (List ℕ)) →
     HasRun most before read outcomes mid ended contents → Consumes old now read → (ended ≡ true → IsAtEnd now) →
     IfSome old (λ all. (rest : Trace) × IsRun most (trace_from before all) outcomes rest)
 is_run_of_all most before mid read outcomes ended contents None now so_far takes over = tt
@@ -129,19 +146,30 @@ count_more test xs x = sum_by-append (λ y. cond (test y) 1 0) xs (x ∷ []) ∙
     last true n more e = omega arith
     last false n more e = omega arith
 
-pub texts_more : (old mid new : Option (List ℕ)) (outcomes : List Outcome) (outcome : Outcome) → Appends old mid (outcomes_text outcomes) → Appends mid new (outcome_text outcome) →
-    Appends old new (outcomes_text (outcomes ++ outcome ∷ []))
-texts_more old mid new outcomes outcome first second =
-    subst (Appends old new) (sym (flat_map_one outcome_text outcomes outcome)) (Appends-trans old mid new (outcomes_text outcomes) (outcome_text outcome) first second)
+pub texts_more : (job : Job) (old mid new : Option (List ℕ)) (outcomes : List Outcome) (outcome : Outcome) → Appends old mid (batches_text job outcomes) → Appends mid new (batch_text job outcome) →
+    Appends old new (batches_text job (outcomes ++ outcome ∷ []))
+texts_more job old mid new outcomes outcome first second =
+    subst (Appends old new) (sym (flat_map_one (batch_text job) outcomes outcome)) (Appends-trans old mid new (batches_text job outcomes) (batch_text job outcome) first second)
 
 -- a front of the last text was written
-pub front_more : (old mid new : Option (List ℕ)) (outcomes : List Outcome) (outcome : Outcome) → Appends old mid (outcomes_text outcomes) → TakesFront mid new (outcome_text outcome) →
-    TakesFront old new (outcomes_text (outcomes ++ outcome ∷ []))
-front_more old mid new outcomes outcome first second = (
-  outcomes_text outcomes ++ second.0,
-  (second.1.0, flat_map_one outcome_text outcomes outcome ∙ ap (λ t. outcomes_text outcomes ++ t) second.1.1 ∙ sym (append_assoc (outcomes_text outcomes) second.0 second.1.0)),
-  Appends-trans old mid new (outcomes_text outcomes) second.0 first second.2,
+pub front_more : (job : Job) (old mid new : Option (List ℕ)) (outcomes : List Outcome) (outcome : Outcome) → Appends old mid (batches_text job outcomes) → TakesFront mid new (batch_text job outcome) →
+    TakesFront old new (batches_text job (outcomes ++ outcome ∷ []))
+front_more job old mid new outcomes outcome first second = (
+  batches_text job outcomes ++ second.0,
+  (second.1.0, flat_map_one (batch_text job) outcomes outcome ∙ ap (λ t. batches_text job outcomes ++ t) second.1.1 ∙ sym (append_assoc (batches_text job outcomes) second.0 second.1.0)),
+  Appends-trans old mid new (batches_text job outcomes) second.0 first second.2,
 )
+
+-- and the text at the end behind them
+pub texts_end : (job : Job) (old mid new : Option (List ℕ)) (outcomes : List Outcome) (contents contents' : Contents ValueBytes) → contents ≡ contents' →
+    Appends old mid (batches_text job outcomes) → Appends mid new (end_text job contents) → Appends old new (batches_text job outcomes ++ end_text job contents')
+texts_end job old mid new outcomes contents contents' same first last =
+    Appends-trans old mid new (batches_text job outcomes) (end_text job contents') first (subst (λ m. Appends mid new (end_text job m)) same last)
+
+-- nothing was written of it
+pub texts_stay : (job : Job) (old mid new : Option (List ℕ)) (outcomes : List Outcome) → Appends old mid (batches_text job outcomes) → Appends mid new [] → Appends old new (batches_text job outcomes)
+texts_stay job old mid new outcomes first none =
+    subst (Appends old new) (append-nil (batches_text job outcomes)) (Appends-trans old mid new (batches_text job outcomes) [] first none)
 
 -- all of a text is a front of it
 pub front_of_all : (old new : Option (List ℕ)) (text : List ℕ) → Appends old new text → TakesFront old new text
@@ -177,37 +205,37 @@ summary_more outcomes outcome = λ i. record {
 
 -- ---- from a source and a writer before to a source and a writer now
 
-pub record RunsTo (most : ℕ) (before now : SourceView) (contents : Contents ValueBytes) (old new : Option (List ℕ)) (summary : Summary) : Type 0 where
+pub record RunsTo (job : Job) (most : ℕ) (before now : SourceView) (contents : Contents ValueBytes) (old new : Option (List ℕ)) (summary : Summary) : Type 0 where
   pub read : List ℕ
   pub outcomes : List Outcome
   pub taken : Consumes before.unread now.unread read
-  pub has_run : HasRun most before.judged read outcomes now.judged now.ended contents
-  pub written : Appends old new (outcomes_text outcomes)
+  pub has_run : HasRun most before.place read outcomes now.place now.ended contents
+  pub written : Appends old new (batches_text job outcomes)
   pub counted : summary ≡ summary_of outcomes
 
-pub runs_to_none : (most : ℕ) (s : SourceView) (contents : Contents ValueBytes) (out : Option (List ℕ)) (summary : Summary) → contents ≡ empty →
-    (summary.batches ≡ 0) × ((summary.long ≡ 0) × (summary.memory ≡ 0)) → RunsTo most s s contents out out summary
-runs_to_none most s contents out summary none zero = record {
+pub runs_to_none : (job : Job) (most : ℕ) (s : SourceView) (contents : Contents ValueBytes) (out : Option (List ℕ)) (summary : Summary) → contents ≡ empty →
+    (summary.batches ≡ 0) × ((summary.long ≡ 0) × (summary.memory ≡ 0)) → RunsTo job most s s contents out out summary
+runs_to_none job most s contents out summary none zero = record {
   read = [];
   outcomes = [];
   taken = Consumes-nil s.unread;
-  has_run = has_run_none most s.judged s.ended contents none;
+  has_run = has_run_none most s.place s.ended contents none;
   written = Appends-nil out;
   counted = λ i. record { batches = zero.0 i; long = zero.1.0 i; memory = zero.1.1 i };
 }
 
 -- for want of memory
-pub stops_for_memory : (most before : ℕ) (outcomes : List Outcome) (unread old new : Option (List ℕ)) →
-    IfSome unread (λ all. (rest : Trace) × IsRun most (trace_from before all) outcomes rest) → TakesFront old new (outcomes_text outcomes) →
-    IfSome unread (λ all. (outcomes : List Outcome) × ((rest : Trace) × IsRun most (trace_from before all) outcomes rest) × TakesFront old new (outcomes_text outcomes))
-stops_for_memory most before outcomes None old new run front = tt
-stops_for_memory most before outcomes (Some all) old new run front = (outcomes, run, front)
+pub stops_for_memory : (job : Job) (most : ℕ) (before : Place) (outcomes : List Outcome) (unread old new : Option (List ℕ)) →
+    IfSome unread (λ all. (rest : Trace) × IsRun most (trace_from before all) outcomes rest) → TakesFront old new (batches_text job outcomes) →
+    IfSome unread (λ all. (outcomes : List Outcome) × ((rest : Trace) × IsRun most (trace_from before all) outcomes rest) × TakesFront old new (batches_text job outcomes))
+stops_for_memory job most before outcomes None old new run front = tt
+stops_for_memory job most before outcomes (Some all) old new run front = (outcomes, run, front)
 
 -- before anything was read
-pub stops_at_start : (most before : ℕ) (unread out : Option (List ℕ)) →
-    IfSome unread (λ all. (outcomes : List Outcome) × ((rest : Trace) × IsRun most (trace_from before all) outcomes rest) × TakesFront out out (outcomes_text outcomes))
-stops_at_start most before None out = tt
-stops_at_start most before (Some all) out = ([], (trace_from before all, record { batches = []; reads = refl; answered = tt }), ([], ([], refl), Appends-nil out))
+pub stops_at_start : (job : Job) (most : ℕ) (before : Place) (unread out : Option (List ℕ)) →
+    IfSome unread (λ all. (outcomes : List Outcome) × ((rest : Trace) × IsRun most (trace_from before all) outcomes rest) × TakesFront out out (batches_text job outcomes))
+stops_at_start job most before None out = tt
+stops_at_start job most before (Some all) out = ([], (trace_from before all, record { batches = []; reads = refl; answered = tt }), ([], ([], refl), Appends-nil out))
 
 -- a source that answers no end had not come to it
 pub not_over : {X E : Type 0} (ended : Bool) (next : Result (Option X) E) → (ended ≡ true → next ≡ Ok None) → next ≢ Ok None → ended ≡ false

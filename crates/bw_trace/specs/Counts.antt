@@ -1,5 +1,5 @@
 -- Counts that stop at 2^64 - 1.
-use Rattle.std.specs.Prelude.{◌≡◌, ℕ, ◌+◌, ◌-◌, ◌≤◌, ◌^◌, min}
+use Rattle.std.specs.Prelude.{ℕ, ◌+◌, ◌-◌, ◌≤◌, ◌^◌, min}
 
 -- a count went up by so much, or stands at its greatest
 abbrev pub HasRisenBy : ℕ → ℕ → ℕ → Type 0

@@ -1,6 +1,8 @@
 pub mod Lines
 pub mod Spelling
 pub mod Grammar
+pub mod Misreads
+pub mod ReadBack
 pub mod Traces
 pub mod Texts
 pub mod Counts

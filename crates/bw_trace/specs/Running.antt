@@ -1,7 +1,9 @@
 -- A trace that is run: its batches one after another, and what became of them.
 use Rattle.std.specs.Prelude.{◌≡◌, ℕ, Bool, true, false, List, length, count_by, Option, Some, None, Ok, Err}
 use Rattle.std.specs.FinMap.{empty}
-use Rattle.bw_model.specs.Runs.{Outcome, AnswersInTurn}
+use Rattle.bw_model.specs.Contents.{Contents}
+use Rattle.bw_model.specs.Runs.{Outcome, AnswersInTurn, left_in_turn}
+use Rattle.bw_model.specs.Values.{ValueBytes}
 use Rattle.bw_model.specs.declared.operations.Op.{Op}
 use Rattle.bw_model.specs.declared.outcomes.Refusal.{Refusal}
 use Rattle.bw_model.specs.declared.outcomes.Refusal.TheVariants.{TooLong, Memory}
@@ -13,6 +15,10 @@ pub record IsRun (most : ℕ) (trace : Trace) (outcomes : List Outcome) (rest : 
   pub batches : List (List Op)
   pub reads : trace ≡ behind batches rest
   pub answered : AnswersInTurn most batches empty outcomes
+
+-- what its batches left in the index
+abbrev pub left_by_run : {most : ℕ} {trace : Trace} {outcomes : List Outcome} {rest : Trace} → IsRun most trace outcomes rest → Contents ValueBytes
+left_by_run {outcomes = outcomes} run = left_in_turn run.batches empty outcomes
 
 -- why a batch was refused, if it was
 abbrev pub refusal_in : Outcome → Option Refusal

@@ -3,12 +3,13 @@ use Rattle.std.specs.Prelude.{◌≡◌, ℕ, ◌-◌, ◌≤◌, Bool, true, Li
 use Rattle.std.specs.Io.KnownBytes.{IsAtEnd, prepend_known}
 use Rattle.bw_trace.specs.Counts.{HasRisenBy}
 use Rattle.bw_trace.specs.declared.faults.TraceFault.{TraceFault}
+use Rattle.bw_trace.specs.declared.places.Place.{Place}
 
 pub record SourceView : Type 0 where
   -- the bytes that were not judged yet, where the reader says so
   pub unread : Option (List ℕ)
-  -- how many lines were judged
-  pub judged : ℕ
+  -- where its next line stands
+  pub place : Place
   -- the fault that it answers from now on
   pub fault : Option TraceFault
   -- how many calls of the reader it may make yet

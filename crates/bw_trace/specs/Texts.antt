@@ -1,13 +1,18 @@
 -- What is printed.
 use Rattle.std.specs.Prelude.{ℕ, List, [], ◌∷◌, ◌++◌, length, codes, Ok, Err}
 use Rattle.std.specs.List.{flat_map}
+use Rattle.std.specs.FinMap.{entries}
 use Rattle.std.specs.Fmt.{decimal}
+use Rattle.bw_model.specs.Contents.{Contents}
 use Rattle.bw_model.specs.Lists.{Pair}
 use Rattle.bw_model.specs.Runs.{Outcome}
+use Rattle.bw_model.specs.Values.{ValueBytes}
 use Rattle.bw_model.specs.declared.operations.Reply.{Reply}
 use Rattle.bw_model.specs.declared.operations.Reply.TheVariants.{Found, Absent, Inserted, Held, New, Was, Pairs}
 use Rattle.bw_model.specs.declared.outcomes.Refusal.{Refusal}
 use Rattle.bw_model.specs.declared.outcomes.Refusal.TheVariants.{TooLong, Memory}
+use Rattle.bw_trace.specs.declared.running.Job.{Job}
+use Rattle.bw_trace.specs.declared.running.Job.TheVariants.{Run, Dump}
 use Rattle.bw_trace.specs.Spelling.{spelled}
 
 -- a line, with the byte that ends it
@@ -18,6 +23,10 @@ line text = text ++ 10 ∷ []
 abbrev pub pair_text : Pair → List ℕ
 pair_text pair = line (spelled pair.0 ++ 32 ∷ spelled pair.1)
 
+-- a word and how many pairs there are, and then the pairs
+abbrev pub pairs_text : List ℕ → List Pair → List ℕ
+pairs_text word pairs = line (word ++ decimal (length pairs)) ++ flat_map pair_text pairs
+
 abbrev pub reply_text : Reply → List ℕ
 reply_text (Found v) = line (codes "is " ++ spelled v)
 reply_text Absent = line (codes "none")
@@ -25,7 +34,7 @@ reply_text Inserted = line (codes "inserted")
 reply_text (Held v) = line (codes "held " ++ spelled v)
 reply_text New = line (codes "new")
 reply_text (Was v) = line (codes "was " ++ spelled v)
-reply_text (Pairs pairs) = line (codes "scan " ++ decimal (length pairs)) ++ flat_map pair_text pairs
+reply_text (Pairs pairs) = pairs_text (codes "scan ") pairs
 
 abbrev pub replies_text : List Reply → List ℕ
 replies_text = flat_map reply_text
@@ -39,5 +48,18 @@ abbrev pub outcome_text : Outcome → List ℕ
 outcome_text (Ok replies) = replies_text replies
 outcome_text (Err refusal) = refusal_text refusal
 
-abbrev pub outcomes_text : List Outcome → List ℕ
-outcomes_text = flat_map outcome_text
+abbrev pub contents_text : List Pair → List ℕ
+contents_text = pairs_text (codes "contents ")
+
+-- what a job prints of a batch
+abbrev pub batch_text : Job → Outcome → List ℕ
+batch_text Run outcome = outcome_text outcome
+batch_text Dump outcome = []
+
+abbrev pub batches_text : Job → List Outcome → List ℕ
+batches_text job = flat_map (batch_text job)
+
+-- what it prints at the end, where there is no fault
+abbrev pub end_text : Job → Contents ValueBytes → List ℕ
+end_text Run contents = []
+end_text Dump contents = contents_text (entries contents)

@@ -3,9 +3,10 @@ use Rattle.std.specs.Prelude.{◌≡◌, ℕ, ◌+◌, Bool, true, false, List, 
 use Rattle.bw_model.specs.declared.operations.Op.{Op}
 use Rattle.bw_trace.specs.declared.faults.Cause.{Cause}
 use Rattle.bw_trace.specs.declared.judging.Meaning.{Meaning}
-use Rattle.bw_trace.specs.declared.judging.Meaning.TheVariants.{Nothing, Operation, EndsBatch, Faulty}
+use Rattle.bw_trace.specs.declared.judging.Meaning.TheVariants.{Nothing, Operation, EndsBatch, StartsVersion2, Faulty}
+use Rattle.bw_trace.specs.declared.places.Place.{Place}
 use Rattle.bw_trace.specs.Lines.{lines_of, judged_lines_of}
-use Rattle.bw_trace.specs.Grammar.{meaning_of}
+use Rattle.bw_trace.specs.Grammar.{meaning_of, place_behind}
 
 -- the batches before the first fault, and that fault with the number of its line
 pub record Trace : Type 0 where
@@ -39,29 +40,31 @@ abbrev pub line_then : ℕ → List Op → Meaning → (List Op → Trace) → T
 line_then number ops Nothing rest = rest ops
 line_then number ops (Operation op) rest = rest (ops ++ op ∷ [])
 line_then number ops EndsBatch rest = with_batch ops (rest [])
+line_then number ops StartsVersion2 rest = rest ops
 line_then number ops (Faulty cause) rest = faulty number cause
 
--- lines behind so many others, with the operations since the last `go`, and what their end makes of operations
-abbrev pub trace_of_lines : (List Op → Trace) → ℕ → List Op → List (List ℕ) → Trace
-trace_of_lines finish judged ops [] = finish ops
-trace_of_lines finish judged ops (line ∷ lines) =
-    line_then (judged + 1) ops (meaning_of line) (λ ops'. trace_of_lines finish (judged + 1) ops' lines)
+-- lines from a place on, with the operations since the last `go`, and what their end makes of operations
+abbrev pub trace_of_lines : (List Op → Trace) → Place → List Op → List (List ℕ) → Trace
+trace_of_lines finish place ops [] = finish ops
+trace_of_lines finish place ops (line ∷ lines) =
+    let meaning = meaning_of place line in
+    line_then (place.lines + 1) ops meaning (λ ops'. trace_of_lines finish (place_behind place meaning) ops' lines)
 
--- the rest of a trace, behind so many lines
-abbrev pub trace_from : ℕ → List ℕ → Trace
-trace_from judged bytes = trace_of_lines at_end judged [] (lines_of bytes)
+-- the rest of a trace, from a place on
+abbrev pub trace_from : Place → List ℕ → Trace
+trace_from place bytes = trace_of_lines at_end place [] (lines_of bytes)
 
 -- what the lines that can be judged say of it, where the input was cut off
-abbrev pub cut_trace_from : ℕ → List ℕ → Trace
-cut_trace_from judged bytes = trace_of_lines at_cut judged [] (judged_lines_of bytes)
+abbrev pub cut_trace_from : Place → List ℕ → Trace
+cut_trace_from place bytes = trace_of_lines at_cut place [] (judged_lines_of bytes)
 
--- The bytes that were read stand for these batches, behind so many lines, and whatever follows them is read behind
--- so many others. At the end of the input nothing does.
-pub record StandFor (before : ℕ) (read : List ℕ) (batches : List (List Op)) (after : ℕ) (ended : Bool) : Type 0 where
+-- The bytes that were read stand for these batches, from one place to another, and whatever follows them is read from
+-- there on. At the end of the input nothing does.
+pub record StandFor (before : Place) (read : List ℕ) (batches : List (List Op)) (after : Place) (ended : Bool) : Type 0 where
   pub alone : trace_from before read ≡ behind batches no_trace
   pub further : ended ≡ false → (more : List ℕ) → trace_from before (read ++ more) ≡ behind batches (trace_from after more)
   pub cut : ended ≡ false → (more : List ℕ) → cut_trace_from before (read ++ more) ≡ behind batches (cut_trace_from after more)
 
 -- the bytes that were read have a first faulty line, whatever follows them
-abbrev pub IsFaultyAt : ℕ → List ℕ → ℕ → Cause → Bool → Type 0
+abbrev pub IsFaultyAt : Place → List ℕ → ℕ → Cause → Bool → Type 0
 IsFaultyAt before read number cause ended = (more : List ℕ) → (ended ≡ true → more ≡ []) → trace_from before (read ++ more) ≡ faulty number cause

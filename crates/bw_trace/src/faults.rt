@@ -18,6 +18,10 @@ pub enum Cause {
     KeyLength,
     #[error("not a whole number up to 18446744073709551615")]
     Number,
+    #[error("badly spelled value")]
+    ValueText,
+    #[error("value longer than 1024 bytes")]
+    ValueLength,
 }
 
 /// Why a trace was not run to its end.

@@ -1,14 +1,13 @@
 // What a line of a trace means.
-ghost use Rattle.std.specs.Prelude.{◌≡◌, ◌<◌, ◌^◌, IfOk, SomeIff, map};
-ghost use Rattle.std.specs.List.{list_all};
-ghost use Rattle.std.specs.Char.{is_ascii_digit};
+ghost use Rattle.std.specs.Prelude.{◌≡◌, IfOk, map};
 ghost use Rattle.std.specs.Str.Lines.{strip_carriage_return};
-ghost use Rattle.bw_trace.specs.Grammar.{meaning_of, meaning_of_words, get_of, upsert_of, go_of, words_of, key_of, value_of, is_number, number_behind, without_leading_zeros};
-ghost use Rattle.bw_trace.specs.Spelling.{is_plain};
+ghost use Rattle.bw_trace.specs.Grammar.{meaning_of, meaning_of_words, meaning_behind, keyword_of, key_alone, key_and_value, key_and_values, range_of, go_of, heading_of, words_of};
+ghost use Rattle.bw_trace.specs.Misreads.{Says};
 
 use crate::faults::Cause;
-use crate::spelling::is_spelled_plain;
-use bw_batch::{Key, KeyFault, Memory, Op, Value};
+use crate::places::{Place, Version};
+use crate::words::{Misread, end_in, key_in, number_in, value_in};
+use bw_batch::{Key, Memory, Op, Value};
 use bw_memory::Alloc;
 
 /// What a line stands for.
@@ -20,22 +19,43 @@ pub(crate) enum Meaning {
     Operation(Op),
     /// The end of the batch.
     EndsBatch,
+    /// What follows is of version 2.
+    StartsVersion2,
     /// No line of a trace.
     Faulty(Cause),
+}
+
+/// The first word of a line.
+#[derive(Clone, Copy, Debug)]
+pub(crate) enum Keyword {
+    Get,
+    Insert,
+    Upsert,
+    Update,
+    Delete,
+    SwapIf,
+    Scan,
+    Rscan,
+    Go,
+    Bw,
 }
 
 /// The most bytes of a line, without the byte that ends it.
 pub(crate) const LINE_MAX: usize = 8192;
 
-/// What a line means. `Memory` says that the line was not judged.
-pub(crate) fn judge(alloc: Alloc, line: &[u8]) -> Result<Meaning, Memory>
-    ensures { IfOk result (λ meaning. meaning ≡ meaning_of line.now) }
+/// What the line at a place means. `Memory` says that it was not judged.
+pub(crate) fn judge(alloc: Alloc, place: Place, line: &[u8]) -> Result<Meaning, Memory>
+    ensures { IfOk result (λ meaning. meaning ≡ meaning_of place line.now) }
 {
     if line.len() > LINE_MAX {
         return Ok(Meaning::Faulty(Cause::LongLine));
     }
     let words = words_in(alloc, without_return(line))?;
-    judge_words(alloc, words.as_slice())
+    match judge_words(alloc, place, words.as_slice()) {
+        Ok(meaning) => Ok(meaning),
+        Err(Misread::Faulty(cause)) => Ok(Meaning::Faulty(cause)),
+        Err(Misread::Memory) => Err(Memory),
+    }
 }
 
 // A line without a byte 13 at its end.
@@ -58,123 +78,157 @@ fn words_in(alloc: Alloc, line: &[u8]) -> Result<Vec<&[u8], Alloc>, Memory>
     Ok(words)
 }
 
-fn judge_words(alloc: Alloc, words: &[&[u8]]) -> Result<Meaning, Memory>
-    ensures { IfOk result (λ meaning. meaning ≡ meaning_of_words (map (λ w. w.now) words.now)) }
+fn judge_words(alloc: Alloc, place: Place, words: &[&[u8]]) -> Result<Meaning, Misread>
+    ensures { Says result (meaning_of_words place (map (λ w. w.now) words.now)) }
 {
-    let [verb, rest @ ..] = words else {
+    let [first, rest @ ..] = words else {
         return Ok(Meaning::Nothing);
     };
-    if let [b'#', ..] = verb {
-        Ok(Meaning::Nothing)
-    } else if *verb == b"get".as_slice() {
-        judge_get(alloc, rest)
-    } else if *verb == b"upsert".as_slice() {
-        judge_upsert(alloc, rest)
-    } else if *verb == b"go".as_slice() {
-        Ok(judge_go(rest))
+    if let [b'#', ..] = first {
+        return Ok(Meaning::Nothing);
+    }
+    match keyword_in(first) {
+        Some(keyword) => judge_behind(alloc, place, keyword, rest),
+        None => Err(Misread::Faulty(Cause::Verb)),
+    }
+}
+
+fn keyword_in(word: &[u8]) -> Option<Keyword>
+    ensures { result ≡ keyword_of word.now }
+{
+    if word == b"get".as_slice() {
+        Some(Keyword::Get)
+    } else if word == b"insert".as_slice() {
+        Some(Keyword::Insert)
+    } else if word == b"upsert".as_slice() {
+        Some(Keyword::Upsert)
+    } else if word == b"update".as_slice() {
+        Some(Keyword::Update)
+    } else if word == b"delete".as_slice() {
+        Some(Keyword::Delete)
+    } else if word == b"swapif".as_slice() {
+        Some(Keyword::SwapIf)
+    } else if word == b"scan".as_slice() {
+        Some(Keyword::Scan)
+    } else if word == b"rscan".as_slice() {
+        Some(Keyword::Rscan)
+    } else if word == b"go".as_slice() {
+        Some(Keyword::Go)
+    } else if word == b"bw".as_slice() {
+        Some(Keyword::Bw)
     } else {
-        Ok(Meaning::Faulty(Cause::Verb))
+        None
     }
 }
 
-fn judge_get(alloc: Alloc, rest: &[&[u8]]) -> Result<Meaning, Memory>
-    ensures { IfOk result (λ meaning. meaning ≡ get_of (map (λ w. w.now) rest.now)) }
+// The words behind a keyword.
+fn judge_behind(
+    alloc: Alloc,
+    place: Place,
+    keyword: Keyword,
+    rest: &[&[u8]],
+) -> Result<Meaning, Misread>
+    ensures { Says result (meaning_behind place (Some keyword) (map (λ w. w.now) rest.now)) }
 {
-    match rest {
-        [key] => Ok(match key_in(alloc, key)? {
-            Ok(key) => Meaning::Operation(Op::Get(key)),
-            Err(cause) => Meaning::Faulty(cause),
-        }),
-        _ => Ok(Meaning::Faulty(Cause::Words)),
-    }
-}
-
-fn judge_upsert(alloc: Alloc, rest: &[&[u8]]) -> Result<Meaning, Memory>
-    ensures { IfOk result (λ meaning. meaning ≡ upsert_of (map (λ w. w.now) rest.now)) }
-{
-    match rest {
-        [key, value] => {
-            let key = match key_in(alloc, key)? {
-                Ok(key) => key,
-                Err(cause) => return Ok(Meaning::Faulty(cause)),
-            };
-            Ok(match value_in(alloc, value)? {
-                Ok(value) => Meaning::Operation(Op::Upsert(key, value)),
-                Err(cause) => Meaning::Faulty(cause),
-            })
+    match keyword {
+        Keyword::Go => judge_go(rest),
+        Keyword::Bw => judge_heading(place, rest),
+        Keyword::Get => Ok(Meaning::Operation(Op::Get(one_key(alloc, rest)?))),
+        Keyword::Delete => Ok(Meaning::Operation(Op::Delete(one_key(alloc, rest)?))),
+        Keyword::Insert => {
+            let (key, value) = key_with_value(alloc, place.version, rest)?;
+            Ok(Meaning::Operation(Op::Insert(key, value)))
         }
-        _ => Ok(Meaning::Faulty(Cause::Words)),
+        Keyword::Upsert => {
+            let (key, value) = key_with_value(alloc, place.version, rest)?;
+            Ok(Meaning::Operation(Op::Upsert(key, value)))
+        }
+        Keyword::Update => {
+            let (key, value) = key_with_value(alloc, place.version, rest)?;
+            Ok(Meaning::Operation(Op::Update(key, value)))
+        }
+        Keyword::SwapIf => {
+            let (key, old, new) = key_with_values(alloc, place.version, rest)?;
+            Ok(Meaning::Operation(Op::SwapIf(key, old, new)))
+        }
+        Keyword::Scan => {
+            let (from, to, most) = range_in(alloc, rest)?;
+            Ok(Meaning::Operation(Op::Scan { from, to, most }))
+        }
+        Keyword::Rscan => {
+            let (from, to, most) = range_in(alloc, rest)?;
+            Ok(Meaning::Operation(Op::Rscan { from, to, most }))
+        }
     }
 }
 
-fn judge_go(rest: &[&[u8]]) -> Meaning
-    ensures { result ≡ go_of (map (λ w. w.now) rest.now) }
+// `K`
+fn one_key(alloc: Alloc, words: &[&[u8]]) -> Result<Key, Misread>
+    ensures { Says result (key_alone (map (λ w. w.now) words.now)) }
+{
+    match words {
+        [key] => key_in(alloc, key),
+        _ => Err(Misread::Faulty(Cause::Words)),
+    }
+}
+
+// `K V`
+fn key_with_value(alloc: Alloc, version: Version, words: &[&[u8]]) -> Result<(Key, Value), Misread>
+    ensures { Says result (key_and_value version (map (λ w. w.now) words.now)) }
+{
+    let [key, value] = words else {
+        return Err(Misread::Faulty(Cause::Words));
+    };
+    let key = key_in(alloc, key)?;
+    let value = value_in(alloc, version, value)?;
+    Ok((key, value))
+}
+
+// `K V V`
+fn key_with_values(
+    alloc: Alloc,
+    version: Version,
+    words: &[&[u8]],
+) -> Result<(Key, Value, Value), Misread>
+    ensures { Says result (key_and_values version (map (λ w. w.now) words.now)) }
+{
+    let [key, old, new] = words else {
+        return Err(Misread::Faulty(Cause::Words));
+    };
+    let key = key_in(alloc, key)?;
+    let old = value_in(alloc, version, old)?;
+    let new = value_in(alloc, version, new)?;
+    Ok((key, old, new))
+}
+
+// `K T N`
+fn range_in(alloc: Alloc, words: &[&[u8]]) -> Result<(Key, Option<Key>, u64), Misread>
+    ensures { Says result (range_of (map (λ w. w.now) words.now)) }
+{
+    let [from, to, most] = words else {
+        return Err(Misread::Faulty(Cause::Words));
+    };
+    let from = key_in(alloc, from)?;
+    let to = end_in(alloc, to)?;
+    let most = number_in(most)?;
+    Ok((from, to, most))
+}
+
+fn judge_go(rest: &[&[u8]]) -> Result<Meaning, Misread>
+    ensures { Says result (go_of (map (λ w. w.now) rest.now)) }
 {
     match rest {
-        [] => Meaning::EndsBatch,
-        _ => Meaning::Faulty(Cause::Words),
+        [] => Ok(Meaning::EndsBatch),
+        _ => Err(Misread::Faulty(Cause::Words)),
     }
 }
 
-// The key that a word spells.
-fn key_in(alloc: Alloc, word: &[u8]) -> Result<Result<Key, Cause>, Memory>
-    ensures { IfOk result (λ key. key ≡ key_of word.now) }
+// What stands behind `bw`.
+fn judge_heading(place: Place, rest: &[&[u8]]) -> Result<Meaning, Misread>
+    ensures { Says result (heading_of place (map (λ w. w.now) rest.now)) }
 {
-    if !is_spelled_plain(word) {
-        return Ok(Err(Cause::KeyText));
-    }
-    match Key::new(alloc, word) {
-        Ok(key) => Ok(Ok(key)),
-        Err(KeyFault::TooLong(_)) => Ok(Err(Cause::KeyLength)),
-        Err(KeyFault::Memory) => Err(Memory),
-    }
-}
-
-// The value that a word spells: a number, kept as its decimal text.
-fn value_in(alloc: Alloc, word: &[u8]) -> Result<Result<Value, Cause>, Memory>
-    ensures { IfOk result (λ value. value ≡ value_of word.now) }
-{
-    if !spells_number(word) {
-        return Ok(Err(Cause::Number));
-    }
-    match Value::new(alloc, trimmed(word)) {
-        Ok(value) => Ok(Ok(value)),
-        Err(_) => Err(Memory),
-    }
-}
-
-// Whether a word is 1 to 20 digits whose number fits in 64 bits.
-fn spells_number(word: &[u8]) -> bool
-    ensures { result ≡ is_number word.now }
-{
-    !word.is_empty() && word.len() <= 20 && has_digits_alone(word) && number_in(word).is_some()
-}
-
-fn has_digits_alone(word: &[u8]) -> bool
-    ensures { result ≡ list_all is_ascii_digit word.now }
-{
-    word.iter().all(|b| b.is_ascii_digit())
-}
-
-// The number of digits, where it is a `u64`.
-fn number_in(word: &[u8]) -> Option<u64>
-    ensures { SomeIff result (number_behind 0 word.now < 2 ^ 64) (number_behind 0 word.now) }
-{
-    let mut number: u64 = 0;
-    for b in word {
-        number = number
-            .checked_mul(10)?
-            .checked_add(u64::from(b.saturating_sub(b'0')))?;
-    }
-    Some(number)
-}
-
-// Digits without the zeros in front.
-fn trimmed(digits: &[u8]) -> &[u8]
-    ensures { result.now ≡ without_leading_zeros digits.now }
-{
-    match digits {
-        [b'0', rest @ ..] if !rest.is_empty() => trimmed(rest),
-        _ => digits,
+    match rest {
+        [version] if place.lines == 0 && *version == b"2".as_slice() => Ok(Meaning::StartsVersion2),
+        _ => Err(Misread::Faulty(Cause::Verb)),
     }
 }

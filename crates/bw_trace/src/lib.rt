@@ -3,6 +3,8 @@
 
 mod faults;
 mod judging;
+pub mod laws;
+mod places;
 mod ports;
 mod printing;
 mod running;
@@ -12,6 +14,7 @@ mod std_ports;
 mod summaries;
 #[cfg(test)]
 mod tests;
+mod words;
 
 pub use faults::{Cause, TraceFault};
 pub use ports::{Failed, Inlet, Outlet};

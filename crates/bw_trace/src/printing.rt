@@ -5,7 +5,7 @@ ghost use Rattle.std.specs.Fmt.{decimal};
 ghost use Rattle.std.specs.Io.KnownBytes.{Appends};
 ghost use Rattle.bw_trace.specs.Counts.{HasRisenBy};
 ghost use Rattle.bw_trace.specs.Faults.{IsOfWriting};
-ghost use Rattle.bw_trace.specs.Texts.{line, pair_text, reply_text, replies_text, refusal_text};
+ghost use Rattle.bw_trace.specs.Texts.{line, pair_text, pairs_text, reply_text, replies_text, refusal_text, contents_text};
 ghost use Rattle.bw_trace.specs.Spelling.{spelled};
 ghost use Rattle.bw_trace.specs.Writing.{IsFront, TakesFront};
 
@@ -76,7 +76,7 @@ fn push_reply(text: &mut Vec<u8, Alloc>, reply: &Reply) -> Result<(), Memory>
         Reply::Held(value) => push_value_line(text, b"held ", value),
         Reply::New => Ok(text.extend_from_slice(b"new\n")?),
         Reply::Was(value) => push_value_line(text, b"was ", value),
-        Reply::Pairs(pairs) => push_pairs(text, pairs.as_slice()),
+        Reply::Pairs(pairs) => push_pairs(text, b"scan ", pairs.as_slice()),
     }
 }
 
@@ -89,10 +89,10 @@ fn push_value_line(text: &mut Vec<u8, Alloc>, word: &[u8], value: &Value) -> Res
     Ok(())
 }
 
-fn push_pairs(text: &mut Vec<u8, Alloc>, pairs: &[(Key, Value)]) -> Result<(), Memory>
-    ensures { OnOk result (text.new.items ≡ text.old.items ++ reply_text (Reply.Pairs pairs.now)) }
+fn push_pairs(text: &mut Vec<u8, Alloc>, word: &[u8], pairs: &[(Key, Value)]) -> Result<(), Memory>
+    ensures { OnOk result (text.new.items ≡ text.old.items ++ pairs_text word.now pairs.now) }
 {
-    text.extend_from_slice(b"scan ")?;
+    text.extend_from_slice(word)?;
     push_number(text, pairs.len() as u64)?;
     text.push(b'\n')?;
     for pair in pairs {
@@ -117,6 +117,24 @@ fn push_number(text: &mut Vec<u8, Alloc>, number: u64) -> Result<(), Memory>
     let digits = format!(in *text.allocator(); "{number}")?;
     text.extend_from_slice(digits.as_bytes())?;
     Ok(())
+}
+
+/// Prints how many pairs there are, and a line for each. After `Memory` nothing was written: all of the text is made
+/// first.
+pub(crate) fn print_contents<W: Outlet>(
+    alloc: Alloc,
+    out: &mut W,
+    pairs: &[(Key, Value)],
+) -> Result<(), TraceFault>
+    ensures ok { OnOk result (Appends (W.contents out.old) (W.contents out.new) (contents_text pairs.now)) }
+    ensures none_failed { OnOk result (W.failures out.new ≡ W.failures out.old) }
+    ensures memory { IsErrOf result TraceFault.Memory → Appends (W.contents out.old) (W.contents out.new) [] }
+    ensures write { IsErrOf result TraceFault.Write → HasRisenBy 1 (W.failures out.old) (W.failures out.new) }
+    ensures faults { IfErr result (λ fault. IsOfWriting fault) }
+{
+    let mut text = Vec::new(alloc);
+    push_pairs(&mut text, b"contents ", pairs)?;
+    put_text(out, &text)
 }
 
 /// Prints the line of a refused batch. Its faults are those of `print_replies`.

@@ -5,12 +5,13 @@ ghost use Rattle.std.specs.Io.KnownBytes.{Consumes, IsAtEnd};
 ghost use Rattle.bw_trace.specs.Counts.{HasRisenBy};
 ghost use Rattle.bw_trace.specs.Faults.{IsOfBytes, IsOfInput, IsOfReading, IfLine};
 ghost use Rattle.bw_trace.specs.Lines.{IsLineOf, judged_lines_of};
-ghost use Rattle.bw_trace.specs.Grammar.{IsLineMeaning};
+ghost use Rattle.bw_trace.specs.Grammar.{IsLineMeaning, first_place, place_behind};
 ghost use Rattle.bw_trace.specs.Sources.{IsOver, ReadsOn};
 ghost use Rattle.bw_trace.specs.Traces.{StandFor, IsFaultyAt, trace_from, cut_trace_from, no_trace};
 
 use crate::faults::TraceFault;
 use crate::judging::{LINE_MAX, Meaning, judge};
+use crate::places::{Place, Version};
 use crate::ports::Inlet;
 use bw_batch::{Memory, Op};
 use bw_memory::Alloc;
@@ -31,7 +32,7 @@ pub struct Source<R: Inlet> {
     at: usize,
     len: usize,
     ended: bool,
-    judged: u64,
+    place: Place,
     fault: Option<TraceFault>,
 }
 
@@ -44,7 +45,7 @@ impl<R: Inlet> Model for Source<R> {
 
     ghost view = { λ s. record {
       unread = unread_of s.buffer.items s.at s.len (R.remaining s.reader);
-      judged = s.judged;
+      place = s.place;
       fault = s.fault;
       turns = s.turns;
       budget = 4096 * s.turns + (s.len - s.at);
@@ -56,7 +57,7 @@ impl<R: Inlet> Model for Source<R> {
     } };
 
     ghost invariant = { λ s. (vec_len s.buffer ≡ 4096) × (s.at ≤ s.len) × (s.len ≤ 4096)
-        × (s.judged + (4096 * s.turns + (s.len - s.at)) < 2 ^ 64)
+        × (s.place.lines + (4096 * s.turns + (s.len - s.at)) < 2 ^ 64)
         × (s.ended ≡ true → (s.at ≡ s.len) × IsAtEnd (R.remaining s.reader) × (R.has_ended s.reader ≡ true)) };
 }
 
@@ -67,7 +68,7 @@ impl<R: Inlet> Source<R> {
     /// 64-bit number.
     pub fn new(alloc: Alloc, reader: R, turns: u64) -> Result<Source<R>, Memory>
         ensures unread { IfOk result (λ source. source.unread ≡ R.remaining reader) }
-        ensures fresh { IfOk result (λ source. (source.judged ≡ 0) × (source.fault ≡ None) × (source.ended ≡ false)) }
+        ensures fresh { IfOk result (λ source. (source.place ≡ first_place) × (source.fault ≡ None) × (source.ended ≡ false)) }
         ensures turns { IfOk result (λ source. source.turns ≡ min turns TURNS_MAX) }
         ensures reader { IfOk result (λ source. (source.calls ≡ R.calls reader) × (source.failures ≡ R.failures reader) × (source.has_ended ≡ R.has_ended reader)) }
     {
@@ -79,7 +80,10 @@ impl<R: Inlet> Source<R> {
             at: 0,
             len: 0,
             ended: false,
-            judged: 0,
+            place: Place {
+                lines: 0,
+                version: Version::First,
+            },
             fault: None,
         })
     }
@@ -100,7 +104,7 @@ impl<R: Inlet> Source<R> {
         ensures falls { IfOk result (λ next. IfSome next (λ _. self.new.budget < self.old.budget)) }
         ensures over { self.old.ended ≡ true → result ≡ Ok None }
         ensures on { ReadsOn self.old self.new }
-        ensures same { (self.new.judged ≡ self.old.judged) × (self.new.fault ≡ self.old.fault) }
+        ensures same { (self.new.place ≡ self.old.place) × (self.new.fault ≡ self.old.fault) }
         ensures none_failed { OnOk result (self.new.failures ≡ self.old.failures) }
         ensures faults { IfErr result (λ fault. IsOfInput fault × (self.old.ended ≡ false) × Consumes self.old.unread self.new.remaining []) }
         ensures read { IsErrOf result TraceFault.Read → HasRisenBy 1 self.old.failures self.new.failures }
@@ -145,7 +149,7 @@ impl<R: Inlet> Source<R> {
         ensures falls { result ≡ Ok true → self.new.budget < self.old.budget }
         ensures over { self.old.ended ≡ true → result ≡ Ok false }
         ensures on { ReadsOn self.old self.new }
-        ensures same { (self.new.judged ≡ self.old.judged) × (self.new.fault ≡ self.old.fault) }
+        ensures same { (self.new.place ≡ self.old.place) × (self.new.fault ≡ self.old.fault) }
         ensures none_failed { OnOk result (self.new.failures ≡ self.old.failures) }
         ensures faults { IfErr result (λ fault. IsOfBytes fault) }
         ensures cut { IfErr result (λ fault. IsOfInput fault → (self.old.ended ≡ false)
@@ -164,24 +168,27 @@ impl<R: Inlet> Source<R> {
     }
 
     // One more line was judged.
-    fn count_line(&mut self)
-        requires { self.old.judged + 1 + self.old.budget < 2 ^ 64 }
-        ensures { self.new ≡ record self.old { judged = self.old.judged + 1 } }
+    fn pass(&mut self, meaning: &Meaning)
+        requires { self.old.place.lines + 1 + self.old.budget < 2 ^ 64 }
+        ensures { self.new ≡ record self.old { place = place_behind self.old.place meaning.now } }
     {
-        self.judged += 1;
+        self.place.lines += 1;
+        if let Meaning::StartsVersion2 = meaning {
+            self.place.version = Version::Second;
+        }
     }
 
     // Reads a line and judges it. None at the end.
     fn next_line(&mut self, line: &mut Vec<u8, Alloc>) -> Result<Option<Meaning>, TraceFault>
-        requires { self.old.judged + self.old.budget < 2 ^ 64 }
+        requires { self.old.place.lines + self.old.budget < 2 ^ 64 }
         ensures meaning { IfOk result (λ next. (read : List ℕ) × Consumes self.old.unread self.new.unread read × MatchOption next
-            ((read ≡ []) × (self.new.judged ≡ self.old.judged) × IsOver self.new)
-            (λ meaning. IsLineMeaning read meaning self.new.ended × (self.new.judged ≡ self.old.judged + 1) × (self.old.ended ≡ false)
+            ((read ≡ []) × (self.new.place ≡ self.old.place) × IsOver self.new)
+            (λ meaning. IsLineMeaning self.old.place read meaning self.new.ended × (self.new.place ≡ place_behind self.old.place meaning) × (self.old.ended ≡ false)
             × (self.new.ended ≡ true → IsOver self.new))) }
         ensures over { self.old.ended ≡ true → result ≡ Ok None }
         ensures cut { IfErr result (λ fault. IsOfInput fault → (self.old.ended ≡ false)
             × ((read : List ℕ) × Consumes self.old.unread self.new.remaining read × (judged_lines_of read ≡ []))) }
-        ensures falls { IfOk result (λ next. IfSome next (λ _. self.new.judged + self.new.budget < 2 ^ 64 × (self.new.budget < self.old.budget))) }
+        ensures falls { IfOk result (λ next. IfSome next (λ _. self.new.place.lines + self.new.budget < 2 ^ 64 × (self.new.budget < self.old.budget))) }
         ensures on { ReadsOn self.old self.new }
         ensures fault { self.new.fault ≡ self.old.fault }
         ensures none_failed { OnOk result (self.new.failures ≡ self.old.failures) }
@@ -193,22 +200,22 @@ impl<R: Inlet> Source<R> {
         if !self.read_line(line)? {
             return Ok(None);
         }
-        self.count_line();
-        let meaning = judge(*line.allocator(), line)?;
+        let meaning = judge(*line.allocator(), self.place, line)?;
+        self.pass(&meaning);
         Ok(Some(meaning))
     }
 
     // The operations up to the next `go` or the end.
     fn gather(&mut self) -> Result<Option<Vec<Op, Alloc>>, TraceFault>
         ensures batch { IfOk result (λ next. (read : List ℕ) × Consumes self.old.unread self.new.unread read × MatchOption next
-            ((trace_from self.old.judged read ≡ no_trace) × (self.old.ended ≡ true → read ≡ []) × IsOver self.new)
-            (λ ops. StandFor self.old.judged read (ops.items ∷ []) self.new.judged self.new.ended × (self.old.ended ≡ false)
+            ((trace_from self.old.place read ≡ no_trace) × (self.old.ended ≡ true → read ≡ []) × IsOver self.new)
+            (λ ops. StandFor self.old.place read (ops.items ∷ []) self.new.place self.new.ended × (self.old.ended ≡ false)
             × (self.new.ended ≡ true → IsOver self.new))) }
         ensures over { self.old.ended ≡ true → result ≡ Ok None }
         ensures line { IfErr result (λ fault. IfLine fault (λ number cause. (read : List ℕ) × Consumes self.old.unread self.new.unread read
-            × IsFaultyAt self.old.judged read number cause self.new.ended × (self.new.ended ≡ true → IsOver self.new))) }
+            × IsFaultyAt self.old.place read number cause self.new.ended × (self.new.ended ≡ true → IsOver self.new))) }
         ensures cut { IfErr result (λ fault. IsOfInput fault → (self.old.ended ≡ false)
-            × ((read : List ℕ) × Consumes self.old.unread self.new.remaining read × (cut_trace_from self.old.judged read ≡ no_trace))) }
+            × ((read : List ℕ) × Consumes self.old.unread self.new.remaining read × (cut_trace_from self.old.place read ≡ no_trace))) }
         ensures falls { IfOk result (λ next. IfSome next (λ _. self.new.budget < self.old.budget)) }
         ensures on { ReadsOn self.old self.new }
         ensures fault { self.new.fault ≡ self.old.fault }
@@ -223,11 +230,12 @@ impl<R: Inlet> Source<R> {
         while let Some(meaning) = self.next_line(&mut line)? {
             match meaning {
                 Meaning::Nothing => {}
+                Meaning::StartsVersion2 => {}
                 Meaning::Operation(op) => ops.push(op)?,
                 Meaning::EndsBatch => return Ok(Some(ops)),
                 Meaning::Faulty(cause) => {
                     return Err(TraceFault::Line {
-                        number: self.judged,
+                        number: self.place.lines,
                         cause,
                     });
                 }
@@ -247,17 +255,17 @@ impl<R: Inlet> Source<R> {
 pub fn read_batch<R: Inlet>(source: &mut Source<R>) -> Result<Option<Vec<Op, Alloc>>, TraceFault>
     // The bytes that were read stand for the batch. At the end they stand for none, and the reader told its end.
     ensures batch { IfOk result (λ next. (read : List ℕ) × Consumes source.old.unread source.new.unread read × MatchOption next
-        ((trace_from source.old.judged read ≡ no_trace) × (source.old.ended ≡ true → read ≡ []) × IsOver source.new)
-        (λ ops. StandFor source.old.judged read (ops.items ∷ []) source.new.judged source.new.ended × (source.old.ended ≡ false)
+        ((trace_from source.old.place read ≡ no_trace) × (source.old.ended ≡ true → read ≡ []) × IsOver source.new)
+        (λ ops. StandFor source.old.place read (ops.items ∷ []) source.new.place source.new.ended × (source.old.ended ≡ false)
         × (source.new.ended ≡ true → IsOver source.new))) }
     ensures over { source.old.fault ≡ None → source.old.ended ≡ true → result ≡ Ok None }
     // The line of this number is the first that is faulty, whatever follows.
     ensures line { source.old.fault ≡ None → IfErr result (λ fault. IfLine fault (λ number cause. (read : List ℕ)
-        × Consumes source.old.unread source.new.unread read × IsFaultyAt source.old.judged read number cause source.new.ended
+        × Consumes source.old.unread source.new.unread read × IsFaultyAt source.old.place read number cause source.new.ended
         × (source.new.ended ≡ true → IsOver source.new))) }
     // Where the input failed or did not end, no line `go` was read whole.
     ensures cut { source.old.fault ≡ None → IfErr result (λ fault. IsOfInput fault → (source.old.ended ≡ false)
-        × ((read : List ℕ) × Consumes source.old.unread source.new.remaining read × (cut_trace_from source.old.judged read ≡ no_trace))) }
+        × ((read : List ℕ) × Consumes source.old.unread source.new.remaining read × (cut_trace_from source.old.place read ≡ no_trace))) }
     ensures read { source.old.fault ≡ None → IsErrOf result TraceFault.Read → HasRisenBy 1 source.old.failures source.new.failures }
     ensures endless { source.old.fault ≡ None → IsErrOf result TraceFault.Endless → source.new.turns ≡ 0 }
     ensures faults { source.old.fault ≡ None → IfErr result (λ fault. IsOfReading fault) }

@@ -1,10 +1,14 @@
 // How keys and values are spelled.
-ghost use Rattle.std.specs.Prelude.{◌≡◌, ◌++◌, OnOk};
+ghost use Rattle.std.specs.Prelude.{◌≡◌, ◌++◌, OnOk, IfOk};
 ghost use Rattle.std.specs.List.{list_all};
-ghost use Rattle.bw_trace.specs.Spelling.{is_plain, spelled};
+ghost use Rattle.std.specs.Option.{option_map};
+ghost use Rattle.std.specs.Result.{result_ok};
+ghost use Rattle.bw_trace.specs.Spelling.{is_plain, is_plain_word, spelled};
+ghost use Rattle.hex.specs.Hex.{decode_of};
 
 use bw_batch::Memory;
 use bw_memory::Alloc;
+use hex::FromHexError;
 
 fn is_plain_byte(b: u8) -> bool
     ensures { result ≡ is_plain b }
@@ -12,8 +16,14 @@ fn is_plain_byte(b: u8) -> bool
     b.is_ascii_alphanumeric() || b == b'_' || b == b'.' || b == b'-'
 }
 
-/// Whether all bytes of a word are letters, digits, `_`, `.` or `-`.
+/// Whether a word has bytes, and all are letters, digits, `_`, `.` or `-`.
 pub(crate) fn is_spelled_plain(word: &[u8]) -> bool
+    ensures { result ≡ is_plain_word word.now }
+{
+    !word.is_empty() && has_plain_bytes_alone(word)
+}
+
+fn has_plain_bytes_alone(word: &[u8]) -> bool
     ensures { result ≡ list_all is_plain word.now }
 {
     word.iter().all(|b| is_plain_byte(*b))
@@ -23,7 +33,7 @@ pub(crate) fn is_spelled_plain(word: &[u8]) -> bool
 pub(crate) fn push_spelled(text: &mut Vec<u8, Alloc>, bytes: &[u8]) -> Result<(), Memory>
     ensures { OnOk result (text.new.items ≡ text.old.items ++ spelled bytes.now) }
 {
-    if !bytes.is_empty() && is_spelled_plain(bytes) {
+    if is_spelled_plain(bytes) {
         text.extend_from_slice(bytes)?;
     } else {
         let digits = hex::encode(*text.allocator(), bytes)?;
@@ -31,4 +41,15 @@ pub(crate) fn push_spelled(text: &mut Vec<u8, Alloc>, bytes: &[u8]) -> Result<()
         text.extend_from_slice(digits.as_bytes())?;
     }
     Ok(())
+}
+
+/// The bytes that pairs of hexadecimal digits stand for. None where a byte is no digit, or a digit is left over.
+pub(crate) fn bytes_of_digits(alloc: Alloc, digits: &[u8]) -> Result<Option<Vec<u8, Alloc>>, Memory>
+    ensures { IfOk result (λ bytes. option_map (λ v. v.items) bytes ≡ result_ok (decode_of digits.now)) }
+{
+    match hex::decode(alloc, digits) {
+        Ok(bytes) => Ok(Some(bytes)),
+        Err(FromHexError::OutOfMemory) => Err(Memory),
+        Err(_) => Ok(None),
+    }
 }

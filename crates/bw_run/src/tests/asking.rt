@@ -74,6 +74,7 @@ fn replies_are_taken_before_the_next_batch_is_read(rt: HostRuntime) {
     let mut out = Replied { replied };
     let mut errors = runner.sink();
     let status = run_words(
+        &rt,
         runner.alloc,
         &["run", "-"],
         input,

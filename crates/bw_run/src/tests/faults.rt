@@ -45,6 +45,7 @@ fn a_failed_write_ends_the_run(rt: HostRuntime) {
         let mut errors = runner.sink();
         let input = runner.pieces(TWO_BATCHES);
         let status = run_words(
+            &rt,
             runner.alloc,
             &["run", "-"],
             input,
@@ -60,6 +61,7 @@ fn a_failed_write_ends_the_run(rt: HostRuntime) {
     let mut errors = runner.sink();
     let input = runner.pieces(TWO_BATCHES);
     let status = run_words(
+        &rt,
         runner.alloc,
         &["run", "-"],
         input,
@@ -78,6 +80,7 @@ fn a_failed_write_comes_before_a_later_faulty_line(rt: HostRuntime) {
     let mut errors = runner.sink();
     let input = runner.pieces("get a\ngo\nbogus\n");
     let status = run_words(
+        &rt,
         runner.alloc,
         &["run", "-"],
         input,

@@ -53,7 +53,7 @@ fn blank_lines_and_comments_are_counted(rt: HostRuntime) {
 fn words_are_those_of_the_table(rt: HostRuntime) {
     let runner = Runner::new(&rt, rt.alloc());
     for word in [
-        "GET", "Get", "ge", "gets", "insert", "update", "delete", "scan", "goo", "%",
+        "GET", "Get", "ge", "gets", "inserts", "put", "del", "swap", "scans", "goo", "shape", "%",
     ] {
         let text = runner.joined(&["get a\n", word, " a 1\n"]);
         runner.expect_fault(text.as_str(), "line 2: unknown word");
@@ -69,6 +69,15 @@ fn each_line_has_its_number_of_words(rt: HostRuntime) {
         "upsert",
         "upsert a",
         "upsert a 1 2",
+        "insert a",
+        "update a 1 2",
+        "delete",
+        "delete a b",
+        "swapif a 1",
+        "swapif a 1 2 3",
+        "scan a *",
+        "scan a * 1 2",
+        "rscan a",
         "go a",
         "go go",
     ] {
@@ -85,14 +94,16 @@ fn faults_come_in_order(rt: HostRuntime) {
     let text = runner.joined(&["bogus ", hashes.as_str(), "\nbogus"]);
     runner.expect_fault(text.as_str(), "line 1: line longer than 8192 bytes");
     runner.expect_fault("bogus % %", "line 1: unknown word");
-    runner.expect_fault("get % %", "line 1: wrong number of words");
-    runner.expect_fault("upsert % x y", "line 1: wrong number of words");
-    runner.expect_fault("upsert % x", "line 1: badly spelled key");
+    runner.expect_fault("get %x %x", "line 1: wrong number of words");
+    runner.expect_fault("upsert %x x y", "line 1: wrong number of words");
+    runner.expect_fault("upsert %x x", "line 1: badly spelled key");
+    runner.expect_fault("scan a %x x", "line 1: badly spelled key");
     for (front, back, message) in [
-        ("get ", "%", "line 1: badly spelled key"),
+        ("get ", "/", "line 1: badly spelled key"),
         ("get ", " b", "line 1: wrong number of words"),
         ("upsert ", " x", "line 1: key longer than 64 bytes"),
-        ("upsert % ", "", "line 1: badly spelled key"),
+        ("upsert %x ", "", "line 1: badly spelled key"),
+        ("scan a ", " x", "line 1: key longer than 64 bytes"),
     ] {
         let text = runner.joined(&[front, KEY_65, back]);
         runner.expect_fault(text.as_str(), message);
@@ -147,7 +158,8 @@ fn keys_are_letters_digits_and_three_signs(rt: HostRuntime) {
     let runner = Runner::new(&rt, rt.alloc());
     runner.expect("upsert azAZ09_.- 1\nget azAZ09_.-\n", "new\nis 1\n", "", 0);
     for key in [
-        "%", "%61", "a%", "a/b", "a:", "a@", "a[", "a`", "a{", "*", "a,b", "\u{e9}", "a\u{0}",
+        "%4", "%4g", "%%", "a%", "a/b", "a:", "a@", "a[", "a`", "a{", "*", "a,b", "\u{e9}",
+        "a\u{0}",
     ] {
         let text = runner.joined(&["get ", key, "\n"]);
         runner.expect_fault(text.as_str(), "line 1: badly spelled key");

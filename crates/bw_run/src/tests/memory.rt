@@ -19,6 +19,7 @@ fn each_growth_is_refused_in_turn(rt: HostRuntime) {
         let input = runner.pieces(TWO_BATCHES);
         runner.alloc.refuse(growth);
         let status = run_words(
+            &rt,
             runner.alloc,
             &["run", "-"],
             input,
@@ -69,6 +70,7 @@ fn a_message_without_memory_is_of_memory(rt: HostRuntime) {
         let input = runner.pieces("bogus");
         runner.alloc.refuse(growth);
         let status = run_words(
+            &rt,
             runner.alloc,
             &["run", "-"],
             input,

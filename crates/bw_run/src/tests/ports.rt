@@ -6,6 +6,7 @@ use bw_memory::{Alloc, Heap};
 use bw_trace::{Failed, Inlet, Outlet};
 use std::alloc::Global;
 use std::process::Abort;
+use std::rt::Files;
 
 // How often the input may be read, where a test doesn't say.
 pub const TURNS: u64 = 1_000_000;
@@ -117,14 +118,14 @@ impl Outlet for Sink {
 
 /// Runs the program, and ends the test where it does something else than is expected.
 #[derive(Drop)]
-pub struct Runner<'a, R: Abort> {
+pub struct Runner<'a, R: Abort + Files + AllocGlobal> {
     rt: &'a R,
     global: Global,
     // what the program allocates from
     pub alloc: Alloc,
 }
 
-impl<'a, R: Abort> Runner<'a, R> {
+impl<'a, R: Abort + Files + AllocGlobal> Runner<'a, R> {
     pub fn new(rt: &'a R, global: Global) -> Runner<'a, R> {
         let alloc = Heap::counted(global).leak(global).expect(rt, "memory");
         Runner { rt, global, alloc }
@@ -177,7 +178,41 @@ impl<'a, R: Abort> Runner<'a, R> {
         let mut out = self.sink();
         let mut errors = self.sink();
         let words = ["run", "-"];
-        let found = run_words(self.alloc, &words, input, &mut out, &mut errors, turns);
+        let found = run_words(
+            self.rt,
+            self.alloc,
+            &words,
+            input,
+            &mut out,
+            &mut errors,
+            turns,
+        );
+        self.expect_text(&out, output);
+        self.expect_message(&errors, message);
+        assert_eq!(self.rt; found, status);
+    }
+
+    /// Other words over a text that is read at once.
+    pub fn expect_words(
+        &self,
+        words: &[&'static str],
+        text: &str,
+        output: &str,
+        message: &str,
+        status: u8,
+    ) {
+        let mut out = self.sink();
+        let mut errors = self.sink();
+        let input = self.pieces(text);
+        let found = run_words(
+            self.rt,
+            self.alloc,
+            words,
+            input,
+            &mut out,
+            &mut errors,
+            TURNS,
+        );
         self.expect_text(&out, output);
         self.expect_message(&errors, message);
         assert_eq!(self.rt; found, status);

@@ -1,6 +1,5 @@
 // Whole traces: what is written for them.
 use super::ports::{BOTH_TEXTS, Runner, TURNS, TWO_BATCHES};
-use crate::command::{no_memory, run_words, wrong_usage};
 
 const KEY_64: &str = "kkkkkkkkkkkkkkkkkkkkkkkkkkkkkkkkkkkkkkkkkkkkkkkkkkkkkkkkkkkkkkkk";
 
@@ -101,63 +100,103 @@ fn a_batch_has_65536_operations_at_most(rt: HostRuntime) {
 }
 
 #[test]
-fn other_words_are_no_command(rt: HostRuntime) {
+fn each_operation_has_its_replies(rt: HostRuntime) {
     let runner = Runner::new(&rt, rt.alloc());
-    let commands: [&[&str]; 7] = [
-        &[],
-        &["run"],
-        &["run", "x"],
-        &["dump", "-"],
-        &["--help"],
-        &["run", "-", "-"],
-        &["-", "run"],
-    ];
-    for words in commands {
-        let mut out = runner.sink();
-        let mut errors = runner.sink();
-        let input = runner.pieces(TWO_BATCHES);
-        let status = run_words(runner.alloc, words, input, &mut out, &mut errors, TURNS);
-        assert_eq!(rt; status, 2);
-        runner.expect_text(&out, "");
-        runner.expect_message(&errors, "usage: bw_run run -");
-    }
-}
-
-#[test]
-fn a_message_that_is_not_taken_leaves_the_status(rt: HostRuntime) {
-    let runner = Runner::new(&rt, rt.alloc());
-    for (words, text, expected) in [
-        ("-", "bogus", 3),
-        ("-", "upsert a 1\ngo\nget", 3),
-        ("x", "get a", 2),
+    for (text, output) in [
+        (
+            "insert a 1\ninsert a 2\nupdate a 3\ndelete a\nupdate a 4\nupsert a 5\nget a",
+            "inserted\nheld 1\nwas 1\nwas 3\nnone\nnew\nis 5\n",
+        ),
+        ("get a\ninsert a 1\nget a", "none\ninserted\nis 1\n"),
+        (
+            "scan % * 9\nupsert b 2\nscan % * 9",
+            "scan 0\nnew\nscan 1\nb 2\n",
+        ),
+        (
+            "upsert a 1\nupsert b 2\nupsert c 3\ngo\nscan b b 9\nscan c a 9\nscan a * 0\nscan % * 99\nscan a c 9\nscan b * 1",
+            "new\nnew\nnew\nscan 0\nscan 0\nscan 0\nscan 3\na 1\nb 2\nc 3\nscan 2\na 1\nb 2\nscan 1\nb 2\n",
+        ),
+        (
+            "insert a 1\ndelete a\ninsert a 2\ngo\nupdate a 3\ninsert a 4\ngo\ndelete a\nupsert a 5\nget a",
+            "inserted\nwas 1\ninserted\nwas 2\nheld 3\nwas 3\nnew\nis 5\n",
+        ),
+        (
+            "upsert ab 1\nupsert b 2\nupsert %6100 3\nupsert % 4\nupsert a 5\nscan % * 9",
+            "new\nnew\nnew\nnew\nnew\nscan 5\n% 4\na 5\n%6100 3\nab 1\nb 2\n",
+        ),
+        (
+            "# load\n  upsert   a   007\n\ngo\nget %61\nget %4A",
+            "new\nis 7\nnone\n",
+        ),
+        (
+            "swapif a 1 2\nupsert a 1\nswapif a 2 3\nswapif a 1 2\nget a\ninsert b 5\nrscan % * 1\nrscan a b 9\nrscan % * 9",
+            "none\nnew\nheld 1\nwas 1\nis 2\ninserted\nscan 1\nb 5\nscan 1\na 2\nscan 2\nb 5\na 2\n",
+        ),
     ] {
-        let mut out = runner.sink();
-        let mut errors = runner.sink_failing_at(1);
-        let input = runner.pieces(text);
-        let status = run_words(
-            runner.alloc,
-            &["run", words],
-            input,
-            &mut out,
-            &mut errors,
-            TURNS,
-        );
-        assert_eq!(rt; status, expected);
-        runner.expect_text(&errors, "");
+        runner.expect(text, output, "", 0);
     }
 }
 
 #[test]
-fn the_start_of_the_program_has_its_own_messages(rt: HostRuntime) {
+fn the_empty_key_and_the_longest_are_scanned(rt: HostRuntime) {
     let runner = Runner::new(&rt, rt.alloc());
-    let mut errors = runner.sink();
-    assert_eq!(rt; wrong_usage(&mut errors), 2);
-    runner.expect_message(&errors, "usage: bw_run run -");
-    let mut errors = runner.sink();
-    assert_eq!(rt; no_memory(&mut errors), 1);
-    runner.expect_message(&errors, "out of memory");
-    let mut errors = runner.sink_failing_at(1);
-    assert_eq!(rt; wrong_usage(&mut errors), 2);
-    let mut errors = runner.sink_failing_at(1);
-    assert_eq!(rt; no_memory(&mut errors), 1);
+    let text = runner.joined(&[
+        "upsert % 1\nupsert ",
+        KEY_64,
+        " 2\nscan % * 9\ngo\nget ",
+        KEY_64,
+        "k",
+    ]);
+    let output = runner.joined(&["new\nnew\nscan 2\n% 1\n", KEY_64, " 2\n"]);
+    runner.expect(
+        text.as_str(),
+        output.as_str(),
+        "line 5: key longer than 64 bytes",
+        3,
+    );
+}
+
+#[test]
+fn values_of_version_2_are_spelled_like_keys(rt: HostRuntime) {
+    let runner = Runner::new(&rt, rt.alloc());
+    let long = runner.repeated("v", 1025, "");
+    let text = runner.joined(&[
+        "bw 2\nupsert a %\nget a\nupsert a %00ff\nswapif a %00FF hello.txt\nget a\ngo\nupdate a ",
+        long.as_str(),
+    ]);
+    runner.expect(
+        text.as_str(),
+        "new\nis %\nwas %\nwas %00ff\nis hello.txt\n",
+        "line 8: value longer than 1024 bytes",
+        3,
+    );
+    let longest = runner.repeated("v", 1024, "");
+    let text = runner.joined(&["bw 2\nupsert a ", longest.as_str(), "\nget a"]);
+    let output = runner.joined(&["new\nis ", longest.as_str(), "\n"]);
+    runner.expect(text.as_str(), output.as_str(), "", 0);
+}
+
+#[test]
+fn the_first_line_alone_says_the_version(rt: HostRuntime) {
+    let runner = Runner::new(&rt, rt.alloc());
+    for (text, output, message, status) in [
+        ("bw 2", "", "", 0),
+        ("  bw   2 \r\nupsert a 007\nget a", "new\nis 007\n", "", 0),
+        ("bw 2\nupsert a %4", "", "line 2: badly spelled value", 3),
+        ("get a\nbw 2", "", "line 2: unknown word", 3),
+        ("\nbw 2", "", "line 2: unknown word", 3),
+        ("bw 2\nbw 2", "", "line 2: unknown word", 3),
+        ("bw", "", "line 1: unknown word", 3),
+        ("bw 1", "", "line 1: unknown word", 3),
+        ("bw 02", "", "line 1: unknown word", 3),
+        ("bw 2 2", "", "line 1: unknown word", 3),
+        (
+            "upsert a x",
+            "",
+            "line 1: not a whole number up to 18446744073709551615",
+            3,
+        ),
+    ] {
+        runner.expect(text, output, message, status);
+    }
 }

@@ -6,7 +6,7 @@ use Rattle.bw_trace.proofs.running.run_trace.Given as goal
 
 abbrev pub invariant-loop-index : goal.invariant-loop-index
 invariant-loop-index g l = record {
-  so_far : RunsTo l.fn.options.batch_max l.fn.source l.source (contents_of l.index) (g.W.Outlet.contents l.fn.out) (g.W.Outlet.contents l.out) l.summary;
+  so_far : RunsTo l.fn.job l.fn.options.batch_max l.fn.source l.source (contents_of l.index) (g.W.Outlet.contents l.fn.out) (g.W.Outlet.contents l.out) l.summary;
   on : ReadsOn l.fn.source l.source;
   fault : l.fn.source.fault ≡ None → l.source.fault ≡ None;
   settings : settings_of l.index ≡ l.fn.options;

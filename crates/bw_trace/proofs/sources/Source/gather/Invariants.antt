@@ -5,12 +5,12 @@ use Rattle.bw_trace.proofs.sources.Source.gather.Given as goal
 
 abbrev pub invariant-loop-line : goal.invariant-loop-line
 invariant-loop-line g l = record {
-  so_far : HasGathered l.fn.self.judged l.fn.self.ended l.fn.self.unread l.self.unread l.ops.items l.self.judged l.self.ended;
+  so_far : HasGathered l.fn.self.place l.fn.self.ended l.fn.self.unread l.self.unread l.ops.items l.self.place l.self.ended;
   over : l.fn.self.ended ≡ true → (l.self.ended ≡ true) × (l.ops.items ≡ []);
   on : ReadsOn l.fn.self l.self;
   fault : l.self.fault ≡ l.fn.self.fault;
   paid : l.self.budget + length l.ops.items ≤ l.fn.self.budget;
-  room : l.self.judged + l.self.budget < 2 ^ 64;
+  room : l.self.place.lines + l.self.budget < 2 ^ 64;
   none_failed : l.self.failures ≡ l.fn.self.failures;
 }
 

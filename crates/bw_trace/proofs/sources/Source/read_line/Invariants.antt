@@ -10,7 +10,7 @@ invariant-loop g l = record {
   count : length l.line.items ≡ l.counter;
   taken : Consumes l.fn.self.unread l.self.unread l.line.items;
   on : ReadsOn l.fn.self l.self;
-  same : (l.self.judged ≡ l.fn.self.judged) × (l.self.fault ≡ l.fn.self.fault);
+  same : (l.self.place ≡ l.fn.self.place) × (l.self.fault ≡ l.fn.self.fault);
   paid : l.self.budget + l.counter ≤ l.fn.self.budget;
   ended : l.self.ended ≡ l.fn.self.ended;
   going : 0 < l.counter → l.self.ended ≡ false;

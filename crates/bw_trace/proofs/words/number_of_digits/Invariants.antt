@@ -1,6 +1,6 @@
 use Rattle.std.proofs.Common.{◌≡◌, ◌<◌, ◌^◌, drop}
 use Rattle.bw_trace.specs.Grammar.{number_behind}
-use Rattle.bw_trace.proofs.judging.number_in.Given as goal
+use Rattle.bw_trace.proofs.words.number_of_digits.Given as goal
 
 abbrev pub invariant-loop-b : goal.invariant-loop-b
 invariant-loop-b l = record {

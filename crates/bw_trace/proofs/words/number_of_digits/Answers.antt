@@ -2,7 +2,7 @@ use Rattle.std.proofs.Common.{◌∙◌, sym, arith}
 use Rattle.std.proofs.lemmas.List.{at_drop_all}
 use Rattle.bw_trace.specs.Grammar.{number_behind}
 use Rattle.bw_trace.proofs.Numbers.{digit_le}
-use Rattle.bw_trace.proofs.judging.number_in.Goals as goal
+use Rattle.bw_trace.proofs.words.number_of_digits.Goals as goal
 
 pub returns-in_err-checked_mul : goal.returns-in_err-checked_mul
 returns-in_err-checked_mul c = rw c.from_residual.ensures (λ small. c.in_err-checked_mul.ensures (omega (arith, small, digit_le c.args.word.now c.loop-b.b-index c.loop-b.number c.loop-b-test.true c.loop-b.invariant.rest)))

@@ -1,0 +1,8 @@
+use Rattle.bw_run.proofs.JobsLemmas.{all_done}
+use Rattle.bw_run.proofs.command.run.Goals as goal
+
+pub returns-clause-done : goal.returns-clause-done
+returns-clause-done g c =
+    let source = c.in_ok-source.source in
+    all_done c.args.options c.args.job source.place (g.R.Inlet.remaining c.args.input) source.unread c.run_trace.new.source.unread (g.W.Outlet.contents c.args.output.now)
+    (g.W.Outlet.contents c.run_trace.new.out) c.run_trace.result c.in_ok-source.ensures.fresh.0 c.in_ok-source.ensures.unread c.run_trace.ensures.done

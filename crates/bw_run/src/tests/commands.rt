@@ -1,0 +1,245 @@
+// Words of a command line: jobs, options, files, help and version.
+use super::ports::{BOTH_TEXTS, Runner, TURNS, TWO_BATCHES};
+use crate::command::{no_memory, run_words};
+
+const HISTORY: &str =
+    "insert a 1\ndelete a\ninsert a 2\ngo\nupdate a 3\ninsert a 4\ngo\ndelete a\nupsert a 5\nget a";
+
+#[test]
+fn standard_input_is_the_trace(rt: HostRuntime) {
+    let runner = Runner::new(&rt, rt.alloc());
+    let commands: [&[&'static str]; 4] = [
+        &["run"],
+        &["run", "-"],
+        &["run", "--workers", "1", "--piece", "4096"],
+        &[
+            "run",
+            "--workers=64",
+            "-",
+            "--page-max=4",
+            "--page-min=2",
+            "--chain=1",
+        ],
+    ];
+    for words in commands {
+        runner.expect_words(words, TWO_BATCHES, BOTH_TEXTS, "", 0);
+    }
+}
+
+#[test]
+fn a_dump_prints_what_is_held_at_the_end(rt: HostRuntime) {
+    let runner = Runner::new(&rt, rt.alloc());
+    for (text, output) in [
+        ("", "contents 0\n"),
+        ("go\n", "contents 0\n"),
+        (HISTORY, "contents 1\na 5\n"),
+        (
+            "upsert ab 1\nupsert b 2\nupsert %6100 3\nupsert % 4\nupsert a 5",
+            "contents 5\n% 4\na 5\n%6100 3\nab 1\nb 2\n",
+        ),
+    ] {
+        runner.expect_words(&["dump"], text, output, "", 0);
+    }
+    runner.expect_words(&["run"], "go\n", "", "", 0);
+}
+
+#[test]
+fn a_dump_that_ends_by_a_fault_prints_nothing(rt: HostRuntime) {
+    let runner = Runner::new(&rt, rt.alloc());
+    runner.expect_words(
+        &["dump"],
+        "upsert a 1\ngo\nbogus",
+        "",
+        "line 3: unknown word",
+        3,
+    );
+}
+
+#[test]
+fn batches_above_batch_max_are_refused(rt: HostRuntime) {
+    let runner = Runner::new(&rt, rt.alloc());
+    let text =
+        "upsert a 1\nupsert b 2\nupsert c 3\ngo\nupsert a 9\ndelete b\ndelete c\nget a\ngo\nget a\nget b\nget c";
+    runner.expect_words(
+        &["run", "--batch-max", "3"],
+        text,
+        "new\nnew\nnew\nrefused long 4 3\nis 1\nis 2\nis 3\n",
+        "",
+        4,
+    );
+    runner.expect_words(
+        &["dump", "--batch-max", "3"],
+        text,
+        "contents 3\na 1\nb 2\nc 3\n",
+        "",
+        4,
+    );
+}
+
+#[test]
+fn each_option_has_its_range(rt: HostRuntime) {
+    let runner = Runner::new(&rt, rt.alloc());
+    let commands: [(&[&'static str], &str); 12] = [
+        (&["run", "--workers", "0"], "workers must be from 1 to 64"),
+        (&["run", "--workers", "65"], "workers must be from 1 to 64"),
+        (&["dump", "--piece", "4097"], "piece must be from 1 to 4096"),
+        (&["run", "--chain", "0"], "chain must be from 1 to 1024"),
+        (
+            &["run", "--page-max", "3"],
+            "page-max must be from 4 to 4096",
+        ),
+        (
+            &["run", "--page-max", "4", "--page-min", "3"],
+            "page-min must be from 0 to half of page-max",
+        ),
+        (
+            &["run", "--batch-max", "65537"],
+            "batch-max must be from 1 to 65536",
+        ),
+        (
+            &["run", "--record-max", "65535"],
+            "record-max must be from batch-max to 16777216",
+        ),
+        (
+            &["run", "--record-max", "16777217"],
+            "record-max must be from batch-max to 16777216",
+        ),
+        (
+            &["run", "--piece", "0", "--workers", "0"],
+            "workers must be from 1 to 64",
+        ),
+        (
+            &["run", "--workers", "0", "no/such/file"],
+            "workers must be from 1 to 64",
+        ),
+        (
+            &["run", "--batch-max", "0"],
+            "batch-max must be from 1 to 65536",
+        ),
+    ];
+    for (words, message) in commands {
+        runner.expect_words(words, "bogus", "", message, 2);
+    }
+}
+
+#[test]
+fn a_file_is_read_in_place_of_the_input(rt: HostRuntime) {
+    let runner = Runner::new(&rt, rt.alloc());
+    runner.expect_words(&["run", "/dev/null"], "get a", "", "", 0);
+    runner.expect_words(&["dump", "/dev/null"], "upsert a 1", "contents 0\n", "", 0);
+}
+
+#[test]
+fn a_file_that_cannot_be_opened_cannot_be_read(rt: HostRuntime) {
+    let runner = Runner::new(&rt, rt.alloc());
+    runner.expect_words(&["run", "no/such/file"], "get a", "", "cannot read", 1);
+    runner.expect_words(&["dump", "no/such/file"], "get a", "", "cannot read", 1);
+}
+
+#[test]
+fn other_words_are_no_command(rt: HostRuntime) {
+    let runner = Runner::new(&rt, rt.alloc());
+    let commands: [&[&'static str]; 9] = [
+        &[],
+        &["shape"],
+        &["-"],
+        &["run", "-", "-"],
+        &["run", "--workers"],
+        &["run", "--workers", "x"],
+        &["run", "--workers", "-1"],
+        &["run", "--bogus"],
+        &["run", "--piece", "18446744073709551616"],
+    ];
+    for words in commands {
+        let mut out = runner.sink();
+        let mut errors = runner.sink();
+        let input = runner.pieces(TWO_BATCHES);
+        let status = run_words(
+            &rt,
+            runner.alloc,
+            words,
+            input,
+            &mut out,
+            &mut errors,
+            TURNS,
+        );
+        assert_eq!(rt; status, 2);
+        runner.expect_text(&out, "");
+        assert!(rt; errors.taken.starts_with(b"error: ".as_slice()));
+    }
+}
+
+#[test]
+fn help_and_version_are_outputs(rt: HostRuntime) {
+    let runner = Runner::new(&rt, rt.alloc());
+    runner.expect_words(&["--version"], "bogus", "bw_run 0.1.0\n", "", 0);
+    let commands: [&[&'static str]; 3] = [&["--help"], &["-h"], &["run", "--help"]];
+    for words in commands {
+        let mut out = runner.sink();
+        let mut errors = runner.sink();
+        let input = runner.pieces("bogus");
+        let status = run_words(
+            &rt,
+            runner.alloc,
+            words,
+            input,
+            &mut out,
+            &mut errors,
+            TURNS,
+        );
+        assert_eq!(rt; status, 0);
+        runner.expect_text(&errors, "");
+        let front =
+            b"Runs a trace of operations on an ordered index from keys to values.\n\nUsage: bw_run run [OPTIONS] [FILE]\n       bw_run dump [OPTIONS] [FILE]\n";
+        assert!(rt; out.taken.starts_with(front.as_slice()));
+    }
+}
+
+#[test]
+fn help_that_is_not_taken_cannot_be_written(rt: HostRuntime) {
+    let runner = Runner::new(&rt, rt.alloc());
+    let mut out = runner.sink_failing_at(1);
+    let mut errors = runner.sink();
+    let input = runner.pieces("");
+    let status = run_words(
+        &rt,
+        runner.alloc,
+        &["--help"],
+        input,
+        &mut out,
+        &mut errors,
+        TURNS,
+    );
+    assert_eq!(rt; status, 1);
+    runner.expect_message(&errors, "cannot write");
+}
+
+#[test]
+fn a_message_that_is_not_taken_leaves_the_status(rt: HostRuntime) {
+    let runner = Runner::new(&rt, rt.alloc());
+    let commands: [(&[&'static str], &str, u8); 4] = [
+        (&["run", "-"], "bogus", 3),
+        (&["run", "-"], "upsert a 1\ngo\nget", 3),
+        (&["run", "--workers", "0"], "get a", 2),
+        (&["bogus"], "get a", 2),
+    ];
+    for (words, text, expected) in commands {
+        let mut out = runner.sink();
+        let mut errors = runner.sink_failing_at(1);
+        let input = runner.pieces(text);
+        let status = run_words(
+            &rt,
+            runner.alloc,
+            words,
+            input,
+            &mut out,
+            &mut errors,
+            TURNS,
+        );
+        assert_eq!(rt; status, expected);
+        runner.expect_text(&errors, "");
+    }
+    let mut errors = runner.sink();
+    assert_eq!(rt; no_memory(&mut errors), 1);
+    runner.expect_message(&errors, "out of memory");
+}
