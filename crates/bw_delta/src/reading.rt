@@ -133,8 +133,9 @@ pub(crate) fn copied(value: Option<&Value>) -> Result<Option<Value>, Memory>
     }
 }
 
-/// The writes in the order of their stamps.
-pub(crate) fn in_order<'a>(
+/// The writes in the order of their stamps, in about n log2 n steps for n writes. `Memory` is answered where the list finds
+/// none.
+pub fn in_order<'a>(
     alloc: Alloc,
     writes: &[&'a Write],
 ) -> Result<Vec<&'a Write, Alloc>, Memory>

@@ -1,0 +1,4 @@
+mod Lists
+mod Entries
+mod Groups
+mod ReplyLemmas
