@@ -2,3 +2,4 @@ mod Lists
 mod Entries
 mod Groups
 mod ReplyLemmas
+mod Ranges

@@ -1,11 +1,12 @@
 -- The reply to an operation on one key, by the writes as of its stamp.
-use Rattle.std.proofs.Common.{◌≡◌, inl, inr, ℕ, zero, suc, ◌+◌, ◌<◌, ◌≤◌, Bool, true, false, cond, List, [], ◌∷◌, ◌++◌, length, take, drop, get_or, slice_get, slice_set, Option, Some, None, refl, sym, ap, ◌∙◌, subst, arith}
+use Rattle.std.proofs.Common.{◌≡◌, inl, inr, ℕ, zero, suc, ◌+◌, ◌-◌, ◌<◌, ◌≤◌, Bool, true, false, cond, List, [], ◌∷◌, ◌++◌, length, take, drop, get_or, slice_get, slice_set, Option, Some, None, refl, sym, ap, ◌∙◌, subst, arith}
 use Rattle.std.specs.Option.{option_map}
 use Rattle.std.proofs.lemmas.Bool.{cases_eq}
-use Rattle.std.proofs.lemmas.List.{take_more, length-set}
+use Rattle.std.proofs.lemmas.List.{take_more, take_all, map-append, length-set}
 use Rattle.std.specs.List.{AllByRecursion}
-use Rattle.std.specs.FinMap.{find, get, from_sorted, get-from_sorted}
-use Rattle.bw_key.specs.Order.{KeyBytes, key_cmp, key_eq, key_eq_equiv}
+use Rattle.std.specs.List.Sorted.{IsPermutation}
+use Rattle.std.specs.FinMap.{find, get, from_entries, get-from_entries}
+use Rattle.bw_key.specs.Order.{KeyBytes, key_cmp, key_cmp_total, key_eq, key_eq_equiv}
 use Rattle.bw_model.specs.Values.{ValueBytes}
 use Rattle.bw_model.specs.Contents.{Contents}
 use Rattle.bw_model.specs.Actions.{answer}
@@ -16,7 +17,7 @@ use Rattle.bw_model.specs.declared.operations.Op.{Op}
 use Rattle.bw_model.specs.declared.operations.Op.TheVariants.{Get, Insert, Upsert, Update, Delete, SwapIf, Scan, Rscan}
 use Rattle.bw_model.specs.declared.operations.Reply.{Reply}
 use Rattle.bw_delta.specs.Writes.{WriteView}
-use Rattle.bw_delta.specs.History.{history, action_at}
+use Rattle.bw_delta.specs.History.{history, action_at, HasDistinctStamps}
 use Rattle.bw_delta.specs.Rising.{HasRisingStamps}
 use Rattle.bw_delta.specs.Batches.{write_of, stamped, writes_of, writes_to}
 use Rattle.bw_delta.specs.ContentsAsOf.{contents_as_of, HoldsBatch}
@@ -24,10 +25,13 @@ use Rattle.bw_delta.proofs.Histories.{at_first, past_other, none_below}
 use Rattle.bw_delta.proofs.Batches.{rising_batch, rising_filter}
 use Rattle.bw_delta.specs.Readings.{from_stamp}
 use Rattle.bw_delta.proofs.Readings.{all_left, action_left, resumed, left_later}
-use Rattle.bw_delta.proofs.ContentsAsOf.{get_as_of, batch_is_read_in_turn}
-use Rattle.bw_answer.specs.Points.{key_of, Entry, HasRisingPlaces, IsEntryOf}
+use Rattle.bw_delta.proofs.ContentsAsOf.{get_as_of, same_as_of, batch_is_read_in_turn}
+use Rattle.bw_delta.proofs.Orders.{distinct_permuted}
+use Rattle.bw_delta.proofs.Filters.{same_filtered}
+use Rattle.bw_answer.specs.Points.{key_of, Entry, entries_of, HasRisingPlaces, IsEntryOf}
+use Rattle.bw_answer.specs.declared.points.Point.{Point}
 use Rattle.bw_answer.specs.Page.{PageView, IsPage, contents_before, replies_to, reply_to, IsAnswered}
-use Rattle.bw_answer.proofs.Lists.{get_set, get_other, get_within, all_append, all_same, drop_next}
+use Rattle.bw_answer.proofs.Lists.{get_set, get_other, get_within, all_append, all_same, drop_next, take_to}
 
 -- a reply of a batch
 pub reply_at : (ops : List Op) (m : Contents ValueBytes) (i : ℕ) → slice_get (replies_of ops m) i ≡ option_map (λ op. reply_of op (contents_after (take i ops) m)) (slice_get ops i)
@@ -146,13 +150,13 @@ point_reply page q key place entry = go (slice_get page.ops place) refl entry
         none : None ≡ Some (Some key) → ⊥
         none e = cc
     go (Some op) is has =
-        let start : Contents ValueBytes = from_sorted page.pairs in
+        let start : Contents ValueBytes = from_entries page.pairs in
         let m = contents_before page.pairs page.writes page.base in
         let here = contents_as_of start page.writes (page.base + place) in
         let stamp = page.base + place in
         let actions = action_at (writes_to key page.writes) in
         let own : key_of op ≡ Some key = same has in
-        let value = get_as_of start page.writes q.holds.distinct stamp key ∙ ap (λ v. history v actions stamp) (get-from_sorted key_cmp page.pairs key q.sorted) in
+        let value = get_as_of start page.writes q.holds.distinct stamp key ∙ ap (λ v. history v actions stamp) (get-from_entries key_cmp_total page.pairs key) in
         let write = sym (action_here page.base page.ops place op key is own) ∙ sym (q.holds.same key stamp (omega arith)) in
         reply_at page.ops m place
         ∙ ap (option_map (λ (o : Op). reply_of o (contents_after (take place page.ops) m))) is
@@ -184,6 +188,13 @@ answering_none page q key all replies value rest rising len is left = record {
   keeps = λ place answered. answered;
   len = len;
 }
+
+-- a right reply, set at its place, and the others
+pub still : (page : PageView) (replies replies' : List Reply) (place other : ℕ) (reply : Reply) → replies' ≡ slice_set replies place reply → IsAnswered page replies' place → IsAnswered page replies other → IsAnswered page replies' other
+still page replies replies' place other reply set here old = elim (cases_eq place other) [
+  | inl same ↦ subst (IsAnswered page replies') same here
+  | inr apart ↦ ap (λ l. slice_get l other) set ∙ get_other replies place other reply apart ∙ old
+]
 
 -- one entry further
 pub answer_more : (page : PageView) → IsPage page → (key : KeyBytes) (all : List Entry) (n : ℕ) (before replies replies' : List Reply) (stamp : ℕ) (value : Option ValueBytes) (rest : List WriteView)
@@ -220,9 +231,95 @@ answer_more page q key all n before replies replies' stamp value rest place valu
       keeps = λ other old. stays other (so.keeps other old);
       len = ap length set ∙ length-set replies place reply ∙ so.len;
     }
+-- The points up to a place are answered.
+pub record AreAnsweredTo (page : PageView) (ps : List Point) (n : ℕ) (replies : List Reply) : Type 0 where
+  pub within : n ≤ length ps
+  pub len : length replies ≡ length page.ops
+  pub done : AllByRecursion (λ e. IsAnswered page replies e.1) (entries_of (take n ps))
+
+-- and so with a group more
+pub group_answered : (page : PageView) (ps : List Point) (n m : ℕ) (replies replies' : List Reply) → n ≤ m → m ≤ length ps → AreAnsweredTo page ps n replies →
+    length replies' ≡ length replies → ((place : ℕ) → IsAnswered page replies place → IsAnswered page replies' place) →
+    AllByRecursion (λ e. IsAnswered page replies' e.1) (entries_of (take (m - n) (drop n ps))) → AreAnsweredTo page ps m replies'
+group_answered page ps n m replies replies' le bound so len keeps more =
+    let answered = λ (e : Entry). IsAnswered page replies e.1 in
+    let answered' = λ (e : Entry). IsAnswered page replies' e.1 in
+    let front = entries_of (take n ps) in
+    let part = entries_of (take (m - n) (drop n ps)) in
+    let both = ap entries_of (take_to ps n m le) ∙ map-append (λ (q : Point). (q.key.now, q.place)) (take n ps) (take (m - n) (drop n ps)) in
+    record {
+      within = bound;
+      len = len ∙ so.len;
+      done = subst (AllByRecursion answered') (sym both) (all_append answered' front part (all_same answered answered' (λ e. keeps e.1) front so.done) more);
+    }
+
+pub all_answered : (page : PageView) (ps : List Point) (n : ℕ) (replies : List Reply) → length ps ≤ n → AreAnsweredTo page ps n replies → AllByRecursion (λ e. IsAnswered page replies e.1) (entries_of ps)
+all_answered page ps n replies le so = subst (λ l. AllByRecursion (λ e. IsAnswered page replies e.1) (entries_of l)) (take_all n ps le) so.done
+
+-- the entries of a part are among those of the whole
+pub part_holds : (P : Entry → Type 0) (ps : List Point) (n k : ℕ) → AllByRecursion P (entries_of ps) → AllByRecursion P (entries_of (take k (drop n ps)))
+part_holds P ps n k all = front k (drop n ps) (rest n ps all)
   where
-    still : (page : PageView) (replies replies' : List Reply) (place other : ℕ) (reply : Reply) → replies' ≡ slice_set replies place reply → IsAnswered page replies' place → IsAnswered page replies other → IsAnswered page replies' other
-    still page replies replies' place other reply set here old = elim (cases_eq place other) [
-      | inl same ↦ subst (IsAnswered page replies') same here
-      | inr apart ↦ ap (λ l. slice_get l other) set ∙ get_other replies place other reply apart ∙ old
-    ]
+    rest : (n : ℕ) (ps : List Point) → AllByRecursion P (entries_of ps) → AllByRecursion P (entries_of (drop n ps))
+    rest zero ps all = all
+    rest (suc n) [] all = all
+    rest (suc n) (p ∷ ps) all = rest n ps all.1
+
+    front : (k : ℕ) (ps : List Point) → AllByRecursion P (entries_of ps) → AllByRecursion P (entries_of (take k ps))
+    front zero ps all = tt
+    front (suc k) [] all = tt
+    front (suc k) (p ∷ ps) all = (all.0, front k ps all.1)
+
+-- the reply to any operation, by the map as of its stamp
+pub scan_answered : (page : PageView) → IsPage page → (op : Op) (place : ℕ) (replies : List Reply) (reply : Reply) → length replies ≡ length page.ops → slice_get page.ops place ≡ Some op →
+    reply ≡ reply_of op (contents_before page.pairs page.writes (page.base + place)) → IsAnswered page (slice_set replies place reply) place
+scan_answered page q op place replies reply len is answers =
+    let m = contents_before page.pairs page.writes page.base in
+    let within = get_within page.ops place op is in
+    get_set replies place reply (omega (arith, len, within))
+    ∙ sym (reply_at page.ops m place ∙ ap (option_map (λ (o : Op). reply_of o (contents_after (take place page.ops) m))) is
+      ∙ ap (λ (n : Contents ValueBytes). Some (reply_of op n)) (sym (batch_is_read_in_turn (from_entries page.pairs) page.writes page.base page.ops place q.holds))
+      ∙ ap Some (sym answers))
+
+-- Of the operations up to a place, the scans are answered.
+pub record AreScansAnswered (page : PageView) (n : ℕ) (before replies : List Reply) : Type 0 where
+  pub len : length replies ≡ length page.ops
+  pub keeps : (place : ℕ) → IsAnswered page before place → IsAnswered page replies place
+  pub done : (place : ℕ) → place < n → option_map key_of (slice_get page.ops place) ≡ Some None → IsAnswered page replies place
+
+pub one_more_answered : (page : PageView) (n : ℕ) (before replies replies' : List Reply) → AreScansAnswered page n before replies → length replies' ≡ length replies →
+    (option_map key_of (slice_get page.ops n) ≡ Some None → IsAnswered page replies' n) → ((place : ℕ) → IsAnswered page replies place → IsAnswered page replies' place) →
+    AreScansAnswered page (n + 1) before replies'
+one_more_answered page n before replies replies' so len here keeps = record {
+  len = len ∙ so.len;
+  keeps = λ place old. keeps place (so.keeps place old);
+  done = λ place lt scan. elim (cases_eq place n) [
+    | inl same ↦ subst (IsAnswered page replies') (sym same) (here (subst (λ k. option_map key_of (slice_get page.ops k) ≡ Some None) same scan))
+    | inr apart ↦ keeps place (so.done place (below place n lt apart) scan)
+  ];
+}
+  where
+    below : (i n : ℕ) → i < n + 1 → (i ≡ n → ⊥) → i < n
+    below i n lt apart = grind (arith, lt, apart)
+
+-- all scans are answered
+pub scans_answered : (page : PageView) (n : ℕ) (before replies : List Reply) → length page.ops ≤ n → AreScansAnswered page n before replies → (place : ℕ) → option_map key_of (slice_get page.ops place) ≡ Some None → IsAnswered page replies place
+scans_answered page n before replies le so place scan = go (slice_get page.ops place) refl scan
+  where
+    go : (o : Option Op) → slice_get page.ops place ≡ o → option_map key_of o ≡ Some None → IsAnswered page replies place
+    go None is has = absurd (none has)
+      where
+        none : ◌≡◌ {A = Option (Option KeyBytes)} None (Some None) → ⊥
+        none e = cc
+    go (Some op) is has = let within = get_within page.ops place op is in so.done place (omega (arith, within, le)) scan
+
+-- the same writes in another order
+pub moved_holds : (base : ℕ) (ops : List Op) (xs ys : List WriteView) → IsPermutation xs ys → HoldsBatch base ops xs → HoldsBatch base ops ys
+moved_holds base ops xs ys moved holds = record {
+  distinct = distinct_permuted xs ys moved holds.distinct;
+  same = λ key stamp le. same_filtered (λ w. key_eq key w.key) xs ys stamp moved holds.distinct ∙ holds.same key stamp le;
+}
+
+pub moved_contents : (start : Contents ValueBytes) (xs ys : List WriteView) (n : ℕ) → IsPermutation xs ys → HasDistinctStamps xs → contents_as_of start ys n ≡ contents_as_of start xs n
+moved_contents start xs ys n moved distinct =
+    same_as_of start ys xs n (distinct_permuted xs ys moved distinct) distinct (λ key t lt. same_filtered (λ w. key_eq key w.key) xs ys t moved distinct)

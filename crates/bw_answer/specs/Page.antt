@@ -1,8 +1,8 @@
 -- A batch over one page: the operations, the page's pairs, and the writes in its chain.
-use Rattle.std.specs.Prelude.{◌≡◌, ℕ, ◌+◌, ◌≤◌, ◌^◌, Bool, T, List, length, Option, Some, None, slice_get}
+use Rattle.std.specs.Prelude.{◌≡◌, ℕ, ◌+◌, ◌≤◌, ◌^◌, Bool, List, length, Option, Some, None, slice_get}
 use Rattle.std.specs.Ordering.{is_lt}
 use Rattle.std.specs.List.Sorted.{IsSortedBy}
-use Rattle.std.specs.FinMap.{find, from_sorted, is_sorted}
+use Rattle.std.specs.FinMap.{find, from_entries}
 use Rattle.bw_key.specs.Order.{KeyBytes, key_cmp}
 use Rattle.bw_model.specs.Values.{ValueBytes}
 use Rattle.bw_model.specs.Actions.{answer}
@@ -24,7 +24,7 @@ pub record PageView : Type 0 where
 
 -- the map before the batch: the pairs under the writes below the batch's stamps
 abbrev pub contents_before : List (KeyBytes × ValueBytes) → List WriteView → ℕ → Contents ValueBytes
-contents_before pairs writes base = contents_as_of (from_sorted pairs) writes base
+contents_before pairs writes base = contents_as_of (from_entries pairs) writes base
 
 -- the replies to the batch, those of one thread that runs it in order
 abbrev pub replies_to : PageView → List Reply
@@ -37,7 +37,6 @@ reply_to (Some action) value = answer action value
 
 -- The writes are grouped by key, in the order of the keys, and each key's are in the order of their stamps.
 pub record IsPage (page : PageView) : Type 0 where
-  pub sorted : T (is_sorted key_cmp page.pairs)
   pub holds : HoldsBatch page.base page.ops page.writes
   pub grouped : IsSortedBy (λ v w. is_lt (key_cmp v.key w.key)) page.writes
   pub rising : (key : KeyBytes) → HasRisingStamps 0 (writes_to key page.writes)

@@ -53,7 +53,6 @@ impl<'a> Page<'a> {
         ensures ops { IfOk result (λ page. page.ops ≡ ops.now) }
         ensures replies { IfOk result (λ page. replies_to page ≡ replies_of ops.now (contents_before leaf.now.pairs (pointed_to writes.now) base)) }
     {
-        let _sorted = leaf.pairs();
         let writes = by_key(alloc, writes)?;
         Ok(Page {
             ops,
@@ -115,10 +114,29 @@ impl<'a> Page<'a> {
         ensures keeps { OnOk result ((place : ℕ) → IsAnswered self.now replies.old place → IsAnswered self.now replies.new place) }
     {
         for (place, op) in self.ops.iter().enumerate() {
-            if let Some(reply) = self.scan_reply(alloc, op, self.base + place as u64)? {
-                replies[place] = reply;
-            }
+            self.answer_scan(alloc, op, place, replies)?;
         }
+        Ok(())
+    }
+
+    // Answers an operation at its place, where it is a scan.
+    fn answer_scan(
+        &self,
+        alloc: Alloc,
+        op: &Op,
+        place: usize,
+        replies: &mut [Reply],
+    ) -> Result<(), Memory>
+        requires places { length replies.old ≡ length self.now.ops }
+        requires op { slice_get self.now.ops place ≡ Some op.now }
+        ensures len { length replies.new ≡ length replies.old }
+        ensures answered { OnOk result (option_map key_of (slice_get self.now.ops place) ≡ Some None → IsAnswered self.now replies.new place) }
+        ensures keeps { OnOk result ((other : ℕ) → IsAnswered self.now replies.old other → IsAnswered self.now replies.new other) }
+    {
+        let Some(reply) = self.scan_reply(alloc, op, self.base + place as u64)? else {
+            return Ok(());
+        };
+        replies[place] = reply;
         Ok(())
     }
 
