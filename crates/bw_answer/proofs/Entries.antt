@@ -1,6 +1,5 @@
 -- The points of a batch, and groups of them.
-use Rattle.std.proofs.Common.{◌≡◌, ℕ, zero, suc, ◌+◌, ◌-◌, ◌<◌, ◌≤◌, Bool, true, false, cond, not, List, [], ◌∷◌, ◌++◌, length, take, drop, map, get_or, slice_get, Option, Some, None, refl, sym, ap, ◌∙◌, subst, arith, add-one}
-use Rattle.std.specs.Prelude.{filter}
+use Rattle.std.proofs.Common.{◌≡◌, ℕ, zero, suc, ◌+◌, ◌-◌, ◌<◌, ◌≤◌, Bool, true, false, cond, not, List, [], ◌∷◌, ◌++◌, length, take, drop, get_or, slice_get, Option, Some, None, refl, sym, ap, ◌∙◌, subst, arith, add-one}
 use Rattle.std.specs.Option.{option_map}
 use Rattle.std.specs.List.{AllByRecursion}
 use Rattle.std.proofs.lemmas.List.{map-append, take-append-drop, get_or_default, get_or-map}
@@ -82,11 +81,11 @@ group_rises key ps n m le rising so =
     let front = entries_of (take n ps) in
     let back = entries_of (drop (m - n) (drop n ps)) in
     let split : entries_of ps ≡ front ++ (entries_of part ++ back) =
-        ap entries_of whole ∙ map-append (λ (q : Point). (q.key.now, q.place)) (take n ps) (part ++ drop (m - n) (drop n ps))
-        ∙ ap (λ l. front ++ l) (map-append (λ (q : Point). (q.key.now, q.place)) part (drop (m - n) (drop n ps))) in
+    ap entries_of whole ∙ map-append (λ (q : Point). (q.key.now, q.place)) (take n ps) (part ++ drop (m - n) (drop n ps))
+    ∙ ap (λ l. front ++ l) (map-append (λ (q : Point). (q.key.now, q.place)) part (drop (m - n) (drop n ps))) in
     let picked : entries_at key (entries_of ps) ≡ entries_at key front ++ (entries_of part ++ entries_at key back) =
-        ap (entries_at key) split ∙ filter-append at front (entries_of part ++ back)
-        ∙ ap (λ l. entries_at key front ++ l) (filter-append at (entries_of part) back ∙ ap (λ l. l ++ entries_at key back) (all_stay key (entries_of part) so)) in
+    ap (entries_at key) split ∙ filter-append at front (entries_of part ++ back)
+    ∙ ap (λ l. entries_at key front ++ l) (filter-append at (entries_of part) back ∙ ap (λ l. l ++ entries_at key back) (all_stay key (entries_of part) so)) in
     rising_front 0 (entries_of part) (entries_at key back)
     (rising_back 0 (entries_at key front) (entries_of part ++ entries_at key back) (subst (HasRisingPlaces 0) picked rising))
 

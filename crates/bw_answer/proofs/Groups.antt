@@ -1,5 +1,5 @@
 -- Lists that are sorted by key, and the part of one key.
-use Rattle.std.proofs.Common.{◌≡◌, ℕ, zero, suc, ◌+◌, ◌<◌, ◌≤◌, Bool, true, false, cond, not, ◌&&◌, List, [], ◌∷◌, length, take, drop, map, get_or, refl, sym, ap, ◌∙◌, subst, arith, length-drop, Ordering}
+use Rattle.std.proofs.Common.{◌≡◌, ℕ, zero, suc, ◌+◌, ◌<◌, ◌≤◌, Bool, true, false, cond, not, ◌&&◌, List, [], ◌∷◌, length, take, drop, map, get_or, refl, sym, ap, ◌∙◌, arith, length-drop, Ordering}
 use Rattle.std.specs.Prelude.{filter}
 use Rattle.std.specs.Borrow.{Bor}
 use Rattle.std.specs.Ordering.{is_lt, is_le, is_eq, ordering_reverse}
@@ -11,7 +11,7 @@ use Rattle.std.proofs.lemmas.List.{get_or-map, length-map}
 use Rattle.std.proofs.lemmas.List.Sorted.{ranks_by, sorted_far}
 use Rattle.bw_key.specs.Order.{KeyBytes, key_cmp, key_cmp_total, key_eq, key_ties}
 use Rattle.bw_model.specs.declared.operations.Action.TheVariants.{Delete}
-use Rattle.bw_page.proofs.KeyOrder.{below_self, upto_below, upto_trans, neither_below}
+use Rattle.bw_page.proofs.KeyOrder.{upto_below, upto_trans}
 use Rattle.bw_delta.specs.Writes.{WriteView}
 use Rattle.bw_delta.specs.History.{pointed_to}
 use Rattle.bw_delta.specs.Batches.{writes_to}
@@ -161,9 +161,9 @@ one_group key refs n m le first second =
     let size = length-drop n refs in
     let before = λ (i : ℕ) (d : Bor WriteView) (lt : i < n) (lt' : i < length refs). not_below key (get_or refs i d).now.key (first.0 i d (omega arith) lt) in
     let inside = λ (i : ℕ) (d : Bor WriteView) (lt : i < m) (lt' : i < length (drop n refs)).
-        equal key (get_or (drop n refs) i d).now.key
-        (ap (λ (r : Bor WriteView). is_lt (key_cmp r.now.key key)) (in_rest refs n i d) ∙ first.1 (n + i) d (omega arith) (omega (arith, lt', size)))
-        (sym (upto_is (get_or (drop n refs) i d).now.key key) ∙ second.0 i d (omega arith) lt) in
+    equal key (get_or (drop n refs) i d).now.key
+    (ap (λ (r : Bor WriteView). is_lt (key_cmp r.now.key key)) (in_rest refs n i d) ∙ first.1 (n + i) d (omega arith) (omega (arith, lt', size)))
+    (sym (upto_is (get_or (drop n refs) i d).now.key key) ∙ second.0 i d (omega arith) lt) in
     let after = λ (i : ℕ) (d : Bor WriteView) (ge : m ≤ i) (lt' : i < length (drop n refs)). past key (get_or (drop n refs) i d).now.key (sym (upto_is (get_or (drop n refs) i d).now.key key) ∙ second.1 i d ge lt') in
     sym (filter_seen now (λ (w : WriteView). key_eq key w.key) refs ∙ ap (map now) (filter_rest at n refs before ∙ filter_front at m (drop n refs) inside after))
   where

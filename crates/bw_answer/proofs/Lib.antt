@@ -2,4 +2,5 @@ mod Lists
 mod Entries
 mod Groups
 mod ReplyLemmas
-mod Ranges
+pub mod Ranges
+mod Wholes

@@ -1,6 +1,5 @@
 -- The pairs of a range of keys as of a stamp.
-use Rattle.std.proofs.Common.{◌≡◌, ℕ, Bool, cond, List, [], ◌∷◌, Option, None, T, Result, Ok, Err, IfOk, refl, sym, ap, ◌∙◌, subst}
-use Rattle.std.specs.Option.{option_or}
+use Rattle.std.proofs.Common.{◌≡◌, ℕ, cond, List, [], ◌∷◌, Option, None, T, Result, Ok, Err, IfOk, sym, ap, ◌∙◌}
 use Rattle.std.specs.FinMap.{find, get, entries, entries_sorted, from_entries, get-entries, get-from_entries, is_sorted}
 use Rattle.std.specs.FinMap.Entries.{same_entries}
 use Rattle.bw_key.specs.Order.{KeyBytes, key_cmp, key_cmp_total}
@@ -21,7 +20,7 @@ pub range_is : (m : Contents ValueBytes) (low : KeyBytes) (high : Option KeyByte
     ((key : KeyBytes) → find key_cmp key pairs ≡ cond (is_in_range low high key) (get m key) None) → pairs ≡ pairs_of_range m low high
 range_is m low high pairs sorted values =
     same_entries key_cmp key_cmp_total only_equal_tie pairs (pairs_of_range m low high) sorted (sorted_in_range low high (entries m) (entries_sorted m)) (λ key.
-      values key ∙ ap (λ (o : Option ValueBytes). cond (is_in_range low high key) o None) (get-entries m key) ∙ sym (find_in_range low high key (entries m)))
+    values key ∙ ap (λ (o : Option ValueBytes). cond (is_in_range low high key) o None) (get-entries m key) ∙ sym (find_in_range low high key (entries m)))
 
 -- those of one leaf under writes
 pub leaf_range : (leaf : LeafView ValueBytes) (writes : List WriteView) (stamp : ℕ) (low : KeyBytes) (high : Option KeyBytes) (pairs : List (KeyBytes × ValueBytes)) →
@@ -30,10 +29,10 @@ pub leaf_range : (leaf : LeafView ValueBytes) (writes : List WriteView) (stamp :
 leaf_range leaf writes stamp low high pairs distinct so =
     let start : Contents ValueBytes = from_entries leaf.pairs in
     range_is (contents_as_of start writes stamp) low high pairs so.sorted (λ key.
-      so.values key
-      ∙ ap (λ (o : Option ValueBytes). cond (is_in_range low high key) o None)
-          (ap (λ (v : Option ValueBytes). history v (action_at (writes_to key writes)) stamp) (or_none (find key_cmp key leaf.pairs) ∙ sym (get-from_entries key_cmp_total leaf.pairs key))
-            ∙ sym (get_as_of start writes distinct stamp key)))
+    so.values key
+    ∙ ap (λ (o : Option ValueBytes). cond (is_in_range low high key) o None)
+    (ap (λ (v : Option ValueBytes). history v (action_at (writes_to key writes)) stamp) (or_none (find key_cmp key leaf.pairs) ∙ sym (get-from_entries key_cmp_total leaf.pairs key))
+    ∙ sym (get_as_of start writes distinct stamp key)))
 
 pub range_ok : {E : Type 0} (page : PageView) (leaf : LeafView ValueBytes) (writes : List WriteView) (stamp : ℕ) (low : KeyBytes) (high : Option KeyBytes) (r : Result (List (KeyBytes × ValueBytes)) E) →
     HasDistinctStamps writes → leaf.pairs ≡ page.pairs → writes ≡ page.writes →

@@ -1,5 +1,5 @@
 -- The reply to an operation on one key, by the writes as of its stamp.
-use Rattle.std.proofs.Common.{◌≡◌, inl, inr, ℕ, zero, suc, ◌+◌, ◌-◌, ◌<◌, ◌≤◌, Bool, true, false, cond, List, [], ◌∷◌, ◌++◌, length, take, drop, get_or, slice_get, slice_set, Option, Some, None, refl, sym, ap, ◌∙◌, subst, arith}
+use Rattle.std.proofs.Common.{◌≡◌, inl, inr, ℕ, zero, suc, ◌+◌, ◌-◌, ◌<◌, ◌≤◌, true, false, cond, List, [], ◌∷◌, ◌++◌, length, take, drop, get_or, slice_get, slice_set, Option, Some, None, refl, sym, ap, ◌∙◌, subst, arith}
 use Rattle.std.specs.Option.{option_map}
 use Rattle.std.proofs.lemmas.Bool.{cases_eq}
 use Rattle.std.proofs.lemmas.List.{take_more, take_all, map-append, length-set}
@@ -18,7 +18,6 @@ use Rattle.bw_model.specs.declared.operations.Op.TheVariants.{Get, Insert, Upser
 use Rattle.bw_model.specs.declared.operations.Reply.{Reply}
 use Rattle.bw_delta.specs.Writes.{WriteView}
 use Rattle.bw_delta.specs.History.{history, action_at, HasDistinctStamps}
-use Rattle.bw_delta.specs.Rising.{HasRisingStamps}
 use Rattle.bw_delta.specs.Batches.{write_of, stamped, writes_of, writes_to}
 use Rattle.bw_delta.specs.ContentsAsOf.{contents_as_of, HoldsBatch}
 use Rattle.bw_delta.proofs.Histories.{at_first, past_other, none_below}
@@ -212,13 +211,13 @@ answer_more page q key all n before replies replies' stamp value rest place valu
     let rising = subst (HasRisingPlaces so.low) next so.upto.1 in
     let later : stamp ≤ now = omega (arith, so.upto.0, rising.0) in
     let value_is : value' ≡ history start (action_at ws) now =
-        reads ∙ ap (λ v. history v (action_at rest) now) so.reads ∙ ap (λ l. history (history start (action_at ws) stamp) (action_at l) now) so.left ∙ resumed start 0 ws stamp now (q.rising key) later in
+    reads ∙ ap (λ v. history v (action_at rest) now) so.reads ∙ ap (λ l. history (history start (action_at ws) stamp) (action_at l) now) so.left ∙ resumed start 0 ws stamp now (q.rising key) later in
     let rest_is : rest' ≡ from_stamp now ws = left ∙ ap (from_stamp now) so.left ∙ left_later stamp now ws later in
     let action_is : action_at rest' now ≡ action_at ws now = ap (λ l. action_at l now) rest_is ∙ action_left now ws now (omega arith) in
     let wanted = point_reply page q key place entry in
     let within : place < length replies = subst (λ m. place < m) (sym (so.len ∙ sym (replies_length page.ops (contents_before page.pairs page.writes page.base)))) (get_within (replies_to page) place _ wanted) in
     let reply_is : Some reply ≡ slice_get (replies_to page) place =
-        ap Some (answers ∙ ap (λ a. reply_to a value') action_is ∙ ap (reply_to (action_at ws now)) value_is) ∙ sym wanted in
+    ap Some (answers ∙ ap (λ a. reply_to a value') action_is ∙ ap (reply_to (action_at ws now)) value_is) ∙ sym wanted in
     let here : IsAnswered page replies' place = ap (λ l. slice_get l place) set ∙ get_set replies place reply within ∙ reply_is in
     let stays = λ (other : ℕ) (old : IsAnswered page replies other). still page replies replies' place other reply set here old in
     record {
@@ -231,6 +230,7 @@ answer_more page q key all n before replies replies' stamp value rest place valu
       keeps = λ other old. stays other (so.keeps other old);
       len = ap length set ∙ length-set replies place reply ∙ so.len;
     }
+
 -- The points up to a place are answered.
 pub record AreAnsweredTo (page : PageView) (ps : List Point) (n : ℕ) (replies : List Reply) : Type 0 where
   pub within : n ≤ length ps
@@ -278,8 +278,8 @@ scan_answered page q op place replies reply len is answers =
     let within = get_within page.ops place op is in
     get_set replies place reply (omega (arith, len, within))
     ∙ sym (reply_at page.ops m place ∙ ap (option_map (λ (o : Op). reply_of o (contents_after (take place page.ops) m))) is
-      ∙ ap (λ (n : Contents ValueBytes). Some (reply_of op n)) (sym (batch_is_read_in_turn (from_entries page.pairs) page.writes page.base page.ops place q.holds))
-      ∙ ap Some (sym answers))
+    ∙ ap (λ (n : Contents ValueBytes). Some (reply_of op n)) (sym (batch_is_read_in_turn (from_entries page.pairs) page.writes page.base page.ops place q.holds))
+    ∙ ap Some (sym answers))
 
 -- Of the operations up to a place, the scans are answered.
 pub record AreScansAnswered (page : PageView) (n : ℕ) (before replies : List Reply) : Type 0 where

@@ -1,8 +1,8 @@
 -- A batch over one page: the operations, the page's pairs, and the writes in its chain.
-use Rattle.std.specs.Prelude.{◌≡◌, ℕ, ◌+◌, ◌≤◌, ◌^◌, Bool, List, length, Option, Some, None, slice_get}
+use Rattle.std.specs.Prelude.{◌≡◌, ℕ, ◌+◌, ◌≤◌, ◌^◌, List, length, Option, Some, None, slice_get}
 use Rattle.std.specs.Ordering.{is_lt}
 use Rattle.std.specs.List.Sorted.{IsSortedBy}
-use Rattle.std.specs.FinMap.{find, from_entries}
+use Rattle.std.specs.FinMap.{from_entries}
 use Rattle.bw_key.specs.Order.{KeyBytes, key_cmp}
 use Rattle.bw_model.specs.Values.{ValueBytes}
 use Rattle.bw_model.specs.Actions.{answer}

@@ -1,6 +1,5 @@
 -- The operations of a batch that read or write one key each, with their places in the batch.
 use Rattle.std.specs.Prelude.{◌≡◌, ℕ, ◌+◌, ◌≤◌, List, [], ◌∷◌, ◌++◌, Option, Some, None, filter, map, slice_get, true}
-use Rattle.std.specs.Borrow.{Bor}
 use Rattle.std.specs.Option.{option_map}
 use Rattle.bw_key.specs.Order.{KeyBytes, key_eq}
 use Rattle.bw_model.specs.declared.operations.Op.{Op}

@@ -35,8 +35,7 @@ pub fn replies(
     let mut points = points_of(alloc, ops)?;
     group(&mut points)?;
     let mut replies = unanswered(alloc, ops.len())?;
-    page.answer_points(&points, &mut replies)?;
-    page.answer_scans(alloc, &mut replies)?;
+    page.answer(alloc, &points, &mut replies)?;
     Ok(Replies::from_vec(replies))
 }
 

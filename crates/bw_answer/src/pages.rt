@@ -7,7 +7,7 @@ ghost use Rattle.bw_model.specs.Contents.{pairs_of_range};
 ghost use Rattle.bw_model.specs.Model.{reply_of, replies_of};
 ghost use Rattle.bw_delta.specs.History.{pointed_to, action_at};
 ghost use Rattle.bw_delta.specs.ContentsAsOf.{HoldsBatch};
-ghost use Rattle.bw_answer.specs.Points.{key_of, entries_of, entries_at, HasKey, HasRisingPlaces, IsEntryOf};
+ghost use Rattle.bw_answer.specs.Points.{key_of, entries_from, entries_of, entries_at, HasKey, HasRisingPlaces, IsEntryOf};
 ghost use Rattle.bw_answer.specs.Page.{contents_before, replies_to, reply_to, IsAnswered};
 
 use crate::grouping::{by_key, group_of};
@@ -62,12 +62,23 @@ impl<'a> Page<'a> {
         })
     }
 
-    /// Answers the operations on one key each, which are grouped by key.
-    pub(crate) fn answer_points(
+    /// Gives each operation its reply. The points are those of the operations, grouped by key.
+    pub(crate) fn answer(
         &self,
+        alloc: Alloc,
         points: &[Point<'_>],
         replies: &mut [Reply],
     ) -> Result<(), Memory>
+        requires places { length replies.old ≡ length self.now.ops }
+        requires points { (key : KeyBytes) → entries_at key (entries_of points.now) ≡ entries_at key (entries_from 0 self.now.ops) }
+        ensures { OnOk result (replies.new ≡ replies_to self.now) }
+    {
+        self.answer_points(points, replies)?;
+        self.answer_scans(alloc, replies)
+    }
+
+    // Answers the operations on one key each, which are grouped by key.
+    fn answer_points(&self, points: &[Point<'_>], replies: &mut [Reply]) -> Result<(), Memory>
         requires places { length replies.old ≡ length self.now.ops }
         requires entries { AllByRecursion (IsEntryOf self.now.ops) (entries_of points.now) }
         requires rising { (key : KeyBytes) → HasRisingPlaces 0 (entries_at key (entries_of points.now)) }
@@ -106,8 +117,8 @@ impl<'a> Page<'a> {
         Ok(())
     }
 
-    /// Answers the scans.
-    pub(crate) fn answer_scans(&self, alloc: Alloc, replies: &mut [Reply]) -> Result<(), Memory>
+    // Answers the scans.
+    fn answer_scans(&self, alloc: Alloc, replies: &mut [Reply]) -> Result<(), Memory>
         requires places { length replies.old ≡ length self.now.ops }
         ensures len { length replies.new ≡ length replies.old }
         ensures answered { OnOk result ((place : ℕ) → option_map key_of (slice_get self.now.ops place) ≡ Some None → IsAnswered self.now replies.new place) }
@@ -147,12 +158,16 @@ impl<'a> Page<'a> {
     {
         match op {
             Op::Scan { from, to, most } => {
-                let mut pairs = self.range_as_of(alloc, from, to.as_ref(), stamp)?.into_vec();
+                let mut pairs = self
+                    .range_as_of(alloc, from, to.as_ref(), stamp)?
+                    .into_vec();
                 pairs.truncate(first(pairs.len(), *most));
                 Ok(Some(Reply::Pairs(Pairs::from_vec(pairs))))
             }
             Op::Rscan { from, to, most } => {
-                let mut pairs = self.range_as_of(alloc, from, to.as_ref(), stamp)?.into_vec();
+                let mut pairs = self
+                    .range_as_of(alloc, from, to.as_ref(), stamp)?
+                    .into_vec();
                 pairs.reverse();
                 pairs.truncate(first(pairs.len(), *most));
                 Ok(Some(Reply::Pairs(Pairs::from_vec(pairs))))

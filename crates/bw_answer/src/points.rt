@@ -17,10 +17,7 @@ pub(crate) struct Point<'a> {
 }
 
 /// The points of a batch, in its order.
-pub(crate) fn points_of<'a>(
-    alloc: Alloc,
-    ops: &'a [Op],
-) -> Result<Vec<Point<'a>, Alloc>, Memory>
+pub(crate) fn points_of<'a>(alloc: Alloc, ops: &'a [Op]) -> Result<Vec<Point<'a>, Alloc>, Memory>
     ensures { IfOk result (λ points. entries_of points.items ≡ entries_from 0 ops.now) }
 {
     let mut points = Vec::with_capacity(alloc, ops.len())?;

@@ -1,8 +1,6 @@
-use Rattle.std.proofs.Common.{◌≡◌, List, ap, sym, map, ◌∙◌, rules}
-use Rattle.std.specs.Prelude.{filter}
-use Rattle.std.specs.Borrow.{Bor}
+use Rattle.std.proofs.Common.{ap, sym, map, ◌∙◌, rules}
 use Rattle.std.proofs.lemmas.List.Sorted.{answers_always}
-use Rattle.bw_key.specs.Order.{KeyBytes, key_eq}
+use Rattle.bw_key.specs.Order.{key_eq}
 use Rattle.bw_answer.specs.Points.{Entry}
 use Rattle.bw_answer.specs.declared.points.Point.{Point}
 use Rattle.bw_answer.proofs.Groups.{is_below, ranks, same_of_key, filter_seen}

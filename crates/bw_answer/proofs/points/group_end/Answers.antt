@@ -1,6 +1,4 @@
-use Rattle.std.proofs.Common.{◌≡◌, ℕ, length, ◌+◌, ◌-◌, ◌∷◌, [], List, take, drop, get_or, refl, sym, ap, subst, ◌∙◌, true, arith}
-use Rattle.bw_key.specs.Order.{KeyBytes, key_eq}
-use Rattle.bw_answer.specs.declared.points.Point.{Point}
+use Rattle.std.proofs.Common.{◌≡◌, ℕ, length, ◌-◌, take, drop, get_or, subst, arith}
 use Rattle.bw_answer.proofs.Entries.{IsOfKey, group_more, group_one, still_of_key}
 use Rattle.bw_answer.proofs.points.group_end.Goals as goal
 

@@ -1,4 +1,4 @@
-use Rattle.std.proofs.Common.{◌≡◌, ◌-◌, take, drop, get_or}
+use Rattle.std.proofs.Common.{◌-◌, take, drop, get_or}
 use Rattle.bw_answer.specs.declared.points.Point.{Point}
 use Rattle.bw_answer.proofs.Entries.{IsOfKey}
 use Rattle.bw_answer.proofs.points.group_end.Given as goal

@@ -1,4 +1,4 @@
-use Rattle.std.proofs.Common.{◌≡◌, sym, ap, ◌∙◌, ◌+◌, take}
+use Rattle.std.proofs.Common.{sym, ap, ◌∙◌, ◌+◌, take}
 use Rattle.std.proofs.lemmas.List.{take_all}
 use Rattle.std.specs.Option.{option_copied}
 use Rattle.bw_answer.specs.Points.{key_of, entries_from}

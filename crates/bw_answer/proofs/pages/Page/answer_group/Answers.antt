@@ -1,7 +1,7 @@
-use Rattle.std.proofs.Common.{◌≡◌, ◌<◌, ◌≤◌, ◌+◌, ◌^◌, ℕ, List, length, sym, ap, subst, ◌∙◌, refl, rules, arith}
+use Rattle.std.proofs.Common.{◌≡◌, ◌+◌, ℕ, List, length, sym, ap, subst, ◌∙◌, refl, arith}
 use Rattle.std.specs.Borrow.{Bor}
 use Rattle.std.specs.FinMap.{find}
-use Rattle.bw_key.specs.Order.{key_cmp, key_eq}
+use Rattle.bw_key.specs.Order.{key_cmp}
 use Rattle.bw_delta.specs.Writes.{WriteView}
 use Rattle.bw_delta.specs.History.{pointed_to, history, action_at}
 use Rattle.bw_delta.specs.Readings.{from_stamp}
@@ -69,4 +69,4 @@ loop-point-preserved c =
     let reply = c.in_ok-replies.ensures ∙ ap (λ (n : ℕ). reply_to (action_at reading.rest n) reading.value) stamp in
     rw stamp
     (answer_more page (subst IsPage c.self.view_is c.self.invariant) key (entries_of points) at c.args.replies.now c.loop-point.replies _ old.stamp old.value old.rest p.place
-        reading.value reading.rest c.in_ok-replies.field-0 (omega (arith, c.loop-point-test.true, seen_length points)) here place entry c.loop-point.invariant value rest reply refl)
+    reading.value reading.rest c.in_ok-replies.field-0 (omega (arith, c.loop-point-test.true, seen_length points)) here place entry c.loop-point.invariant value rest reply refl)

@@ -1,4 +1,4 @@
-use Rattle.std.proofs.Common.{◌≡◌, ◌-◌, ◌≤◌, take, drop, subst, arith}
+use Rattle.std.proofs.Common.{◌-◌, arith}
 use Rattle.bw_answer.specs.Points.{IsEntryOf}
 use Rattle.bw_answer.proofs.Entries.{group_rises}
 use Rattle.bw_answer.proofs.ReplyLemmas.{group_answered, all_answered, part_holds}

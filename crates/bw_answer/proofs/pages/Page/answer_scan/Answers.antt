@@ -1,10 +1,9 @@
-use Rattle.std.proofs.Common.{◌≡◌, ◌+◌, ℕ, Some, refl, ap, sym, subst, ◌∙◌}
+use Rattle.std.proofs.Common.{◌+◌, refl, ap, subst, ◌∙◌}
 use Rattle.bw_model.specs.Model.{reply_of}
 use Rattle.bw_answer.specs.Page.{PageView, IsPage, contents_before, IsAnswered}
 use Rattle.bw_answer.proofs.ReplyLemmas.{still, scan_answered}
 use Rattle.bw_answer.proofs.pages.Page.answer_scan.Goals as goal
 use Rattle.bw_answer.proofs.pages.Page.answer_scan.Goals.{Joined-replies-place}
-use Rattle.bw_model.specs.declared.operations.Reply.{Reply}
 use Rattle.std.specs.List.{slice_set}
 
 here : (c : Joined-replies-place) → IsAnswered c.args.self.now (slice_set c.args.replies.now c.args.place c.in-Some.reply) c.args.place

@@ -1,5 +1,4 @@
-use Rattle.std.proofs.Common.{◌≡◌, arith}
-use Rattle.bw_answer.proofs.ReplyLemmas.{one_more_answered, scans_answered}
+use Rattle.std.proofs.Common.{arith}
 use Rattle.bw_answer.proofs.pages.Page.answer_scans.Goals as goal
 
 pub loop-place-init : goal.loop-place-init

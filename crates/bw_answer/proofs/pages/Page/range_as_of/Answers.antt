@@ -1,7 +1,5 @@
-use Rattle.std.proofs.Common.{◌≡◌, List, ap, sym, subst, ◌∙◌}
-use Rattle.std.specs.Borrow.{Bor}
+use Rattle.std.proofs.Common.{ap, sym, subst, ◌∙◌}
 use Rattle.std.specs.Option.{option_copied}
-use Rattle.bw_delta.specs.Writes.{WriteView}
 use Rattle.bw_delta.specs.History.{pointed_to, HasDistinctStamps}
 use Rattle.bw_answer.specs.Page.{PageView}
 use Rattle.bw_answer.proofs.Ranges.{range_ok}
