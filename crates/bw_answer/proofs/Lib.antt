@@ -1,6 +1,6 @@
 mod Lists
 mod Entries
 mod Groups
-mod ReplyLemmas
+pub mod ReplyLemmas
 pub mod Ranges
 mod Wholes
