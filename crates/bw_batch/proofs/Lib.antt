@@ -1,1 +1,3 @@
 pub mod RunsLemmas
+mod ChainLemmas
+mod IndexLemmas

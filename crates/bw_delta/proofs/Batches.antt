@@ -39,7 +39,7 @@ after_is (Scan from to most) m = refl
 after_is (Rscan from to most) m = refl
 
 -- the stamps rise from a lower one on too
-from_lower : (low low' : ℕ) (ws : List WriteView) → low ≤ low' → HasRisingStamps low' ws → HasRisingStamps low ws
+pub from_lower : (low low' : ℕ) (ws : List WriteView) → low ≤ low' → HasRisingStamps low' ws → HasRisingStamps low ws
 from_lower low low' [] le rising = tt
 from_lower low low' (w ∷ ws) le rising = (omega (arith, le, rising.0), rising.1)
 
@@ -77,7 +77,7 @@ one_write m (Some write) base n ws key rising lt =
     ] refl
 
 -- as of the first stamp of a batch there is only what was before
-nothing_yet : (m : Contents ValueBytes) (base : ℕ) (ops : List Op) (key : KeyBytes) (n : ℕ) → n ≤ base → get m key ≡ history (get m key) (action_at (writes_to key (writes_of base ops))) n
+pub nothing_yet : (m : Contents ValueBytes) (base : ℕ) (ops : List Op) (key : KeyBytes) (n : ℕ) → n ≤ base → get m key ≡ history (get m key) (action_at (writes_to key (writes_of base ops))) n
 nothing_yet m base ops key n le =
     let rising = rising_filter (λ w. key_eq key w.key) base (writes_of base ops) (rising_batch base ops) in
     sym (quiet (get m key) (action_at (writes_to key (writes_of base ops))) n (λ t lt. none_below base (writes_to key (writes_of base ops)) t rising (omega (arith, le, lt))))

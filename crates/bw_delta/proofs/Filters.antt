@@ -31,7 +31,7 @@ module _ {X : Type 0} (p : X → Bool) where
       at later b (suc k) lt e = let more = later (k, omega (arith, lt), e) in ((suc more.0.0, omega (arith, more.0.1), more.0.2), more.1)
 
 module _ (p : WriteView → Bool) where
-  apart_filter : (s : ℕ) (ws : List WriteView) → AllByRecursion (λ y. nat_eq s y ≡ false) (map (λ (w : WriteView). w.stamp) ws) → AllByRecursion (λ y. nat_eq s y ≡ false) (map (λ (w : WriteView). w.stamp) (filter p ws))
+  pub apart_filter : (s : ℕ) (ws : List WriteView) → AllByRecursion (λ y. nat_eq s y ≡ false) (map (λ (w : WriteView). w.stamp) ws) → AllByRecursion (λ y. nat_eq s y ≡ false) (map (λ (w : WriteView). w.stamp) (filter p ws))
   apart_filter s [] h = h
   apart_filter s (w ∷ ws) h = by (p w) (apart_filter s ws h.1)
     where

@@ -5,3 +5,5 @@ pub mod Batches
 pub mod Filters
 pub mod Maps
 pub mod Foldings
+pub mod ContentsAsOf
+pub mod Readings

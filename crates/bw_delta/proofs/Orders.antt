@@ -17,7 +17,7 @@ use Rattle.bw_delta.proofs.Histories.{at_first, past_other, same_history}
 flips : (x y : ℕ) → nat_eq x y ≡ nat_eq y x
 flips x y = grind (arith, nat_tests)
 
-not_same : (m n : ℕ) → nat_eq m n ≡ false → m ≢ n
+pub not_same : (m n : ℕ) → nat_eq m n ≡ false → m ≢ n
 not_same m n e same = absurd (different (sym e ∙ is_same m n same))
   where
     different : false ≡ true → ⊥

@@ -15,8 +15,8 @@ mod writes;
 
 pub use arena::Arena;
 pub use folding::leaf_as_of;
-pub use laws::contents_are_history;
-pub use reading::value_as_of;
+pub use laws::{batch_is_read_in_turn, contents_are_history};
+pub use reading::{Reading, in_order, value_as_of};
 pub use writes::{Delta, Write};
 
 /// The operations of a batch, the replies to them, and what a write does.

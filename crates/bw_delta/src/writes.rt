@@ -1,6 +1,8 @@
 // What is written at a key, and when.
-use bw_key::Key;
-use bw_model::Action;
+ghost use Rattle.std.specs.Prelude.{◌≡◌, IfOk};
+
+use bw_key::{Key, Memory};
+use bw_model::{Action, Op};
 use std::marker::Model;
 
 /// A write at a key. No two writes have one stamp.
@@ -19,6 +21,28 @@ impl Model for Write {
     ghost view = { λ w. record { stamp = w.stamp; key = w.key; action = w.action } };
 
     ghost inverse = { λ w. record { stamp = w.stamp; key = w.key; action = w.action } };
+}
+
+impl Write {
+    ghost use Rattle.std.specs.Prelude.{List};
+    ghost use Rattle.bw_delta.specs.Batches.{stamped, write_of};
+    ghost use Rattle.bw_delta.specs.Writes.{one_or_none};
+
+    /// What an operation writes, with this stamp; nothing where it only reads. It copies the key and the values.
+    pub fn from_op(op: &Op, stamp: u64) -> Result<Option<Write>, Memory>
+        ensures { IfOk result (λ write. one_or_none write ≡ stamped stamp (write_of op.now)) }
+    {
+        let (key, action) = match op {
+            Op::Get(_) | Op::Scan { .. } | Op::Rscan { .. } => return Ok(None),
+            Op::Insert(key, value) => (key, Action::Insert(value.copy()?)),
+            Op::Upsert(key, value) => (key, Action::Upsert(value.copy()?)),
+            Op::Update(key, value) => (key, Action::Update(value.copy()?)),
+            Op::Delete(key) => (key, Action::Delete),
+            Op::SwapIf(key, old, new) => (key, Action::SwapIf(old.copy()?, new.copy()?)),
+        };
+        let key = key.copy()?;
+        Ok(Some(Write { stamp, key, action }))
+    }
 }
 
 /// A delta record: a change of a page, which is put before the page's former state.

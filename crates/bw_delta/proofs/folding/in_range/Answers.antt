@@ -2,7 +2,7 @@ use Rattle.std.proofs.Common.{◌≡◌, ◌++◌, List, None, T, cond, sym, ap,
 use Rattle.std.specs.Prelude.{filter}
 use Rattle.std.specs.Option.{option_copied}
 use Rattle.std.specs.FinMap.{find, is_sorted}
-use Rattle.bw_key.specs.Order.{KeyBytes, key_cmp}
+use Rattle.bw_key.specs.Order.{key_cmp}
 use Rattle.bw_model.specs.Contents.{is_in_range, is_pair_in_range}
 use Rattle.bw_model.specs.Lists.{Pair}
 use Rattle.bw_delta.proofs.Maps.{found_in, in_order, find_in_range, sorted_in_range}

@@ -2,7 +2,7 @@ use Rattle.std.proofs.Common.{List, Some, cond, sym, ap, ◌∙◌}
 use Rattle.std.specs.Option.{option_or}
 use Rattle.std.specs.FinMap.{find}
 use Rattle.std.specs.BTreeMap as tree
-use Rattle.bw_key.specs.Order.{KeyBytes, key_cmp, key_eq}
+use Rattle.bw_key.specs.Order.{key_cmp, key_eq}
 use Rattle.bw_model.specs.Values.{ValueBytes}
 use Rattle.bw_model.specs.Lists.{Pair}
 use Rattle.bw_delta.proofs.Maps.{find_last}

@@ -1,10 +1,10 @@
-use Rattle.std.proofs.Common.{List, ◌++◌, ◌∷◌, [], sym, ap, ◌∙◌}
+use Rattle.std.proofs.Common.{List, ◌∷◌, [], sym, ap, ◌∙◌}
 use Rattle.std.proofs.lemmas.List.{map-append}
 use Rattle.std.specs.Borrow.{Bor}
 use Rattle.std.specs.Option.{option_or}
 use Rattle.std.specs.FinMap.{find}
 use Rattle.std.specs.BTreeMap as tree
-use Rattle.bw_key.specs.Order.{KeyBytes, key_cmp}
+use Rattle.bw_key.specs.Order.{key_cmp}
 use Rattle.bw_model.specs.Values.{ValueBytes}
 use Rattle.bw_model.specs.Lists.{Pair}
 use Rattle.bw_page.specs.Leaves.{LeafView}

@@ -1,5 +1,4 @@
 use Rattle.std.proofs.Common.{◌≡◌, List, Option, IfOk, ap, subst, ◌∙◌}
-use Rattle.std.specs.Borrow.{Bor}
 use Rattle.std.specs.Option.{option_copied}
 use Rattle.bw_model.specs.Values.{ValueBytes}
 use Rattle.bw_delta.specs.Writes.{WriteView}
@@ -11,6 +10,9 @@ pub returns : goal.returns
 returns c =
     let start = option_copied c.args.start in
     let stamp = c.args.stamp in
-    let latest = c.latest.ensures ∙ ap (λ (l : List (Bor WriteView)). history start (action_at (pointed_to l)) stamp) c.deref.ensures.value in
-    let read = same_reading (pointed_to c.args.writes.now) (pointed_to c.in_ok-ordered.ordered.items) start (option_copied c.latest.result) stamp c.in_ok-ordered.ensures.same c.requires latest in
-    subst (λ (v : Option ValueBytes). IfOk c.copied.result (λ value. value ≡ v)) read c.copied.ensures
+    let writes = c.new-reading.ensures.rest ∙ ap pointed_to c.deref.ensures.value in
+    let read = c.value.ensures ∙ c.advance.ensures.value
+    ∙ ap (λ (v : Option ValueBytes). history v (action_at c.new-reading.result.rest) stamp) c.new-reading.ensures.value
+    ∙ ap (λ (ws : List WriteView). history start (action_at ws) stamp) writes in
+    let ordered = same_reading (pointed_to c.args.writes.now) (pointed_to c.in_ok-ordered.ordered.items) start (option_copied c.value.result) stamp c.in_ok-ordered.ensures.same c.requires read in
+    subst (λ (v : Option ValueBytes). IfOk c.copied.result (λ value. value ≡ v)) ordered c.copied.ensures

@@ -1,0 +1,71 @@
+// The operations of a batch that read or write one key each.
+ghost use Rattle.std.specs.Prelude.{◌≡◌, ℕ, ◌<◌, ◌≤◌, length, IfOk, OnOk, ◌-◌, take, drop, slice_index_or};
+ghost use Rattle.std.specs.List.{AllByRecursion};
+ghost use Rattle.std.specs.Option.{option_copied};
+ghost use Rattle.bw_key.specs.Order.{KeyBytes};
+ghost use Rattle.bw_answer.specs.Points.{key_of, entries_from, entries_of, entries_at, HasKey};
+
+use bw_key::{Key, Memory};
+use bw_memory::Alloc;
+use bw_model::Op;
+
+/// An operation's key, and its place in the batch.
+#[derive(Drop)]
+pub(crate) struct Point<'a> {
+    pub(crate) key: &'a Key,
+    pub(crate) place: usize,
+}
+
+/// The points of a batch, in its order.
+pub(crate) fn points_of<'a>(alloc: Alloc, ops: &'a [Op]) -> Result<Vec<Point<'a>, Alloc>, Memory>
+    ensures { IfOk result (λ points. entries_of points.items ≡ entries_from 0 ops.now) }
+{
+    let mut points = Vec::with_capacity(alloc, ops.len())?;
+    for (place, op) in ops.iter().enumerate() {
+        match point_key(op) {
+            Some(key) => points.push(Point { key, place })?,
+            None => {}
+        }
+    }
+    Ok(points)
+}
+
+// The key that an operation reads or writes, where it is one.
+fn point_key(op: &Op) -> Option<&Key>
+    ensures { option_copied result ≡ key_of op.now }
+{
+    match op {
+        Op::Get(key)
+        | Op::Insert(key, _)
+        | Op::Upsert(key, _)
+        | Op::Update(key, _)
+        | Op::Delete(key)
+        | Op::SwapIf(key, _, _) => Some(key),
+        Op::Scan { .. } | Op::Rscan { .. } => None,
+    }
+}
+
+/// Groups points by key. Those of one key keep their order.
+pub(crate) fn group(points: &mut Vec<Point<'_>, Alloc>) -> Result<(), Memory>
+    ensures { OnOk result ((key : KeyBytes) → entries_at key (entries_of points.new.items) ≡ entries_at key (entries_of points.old.items)) }
+{
+    points.sort_by(|a, b| a.key.cmp(b.key))?;
+    Ok(())
+}
+
+/// Where the group of points that begins at `start` ends.
+pub(crate) fn group_end(points: &[Point<'_>], start: usize) -> usize
+    requires { start < length points.now }
+    ensures more { start < result }
+    ensures bound { result ≤ length points.now }
+    ensures same { let one = entries_of (take (result - start) (drop start points.now)) in
+        (d : Point) → AllByRecursion (HasKey (slice_index_or points.now start d).key.now) one }
+{
+    let key = points[start].key;
+    for end in start + 1..points.len() {
+        if *points[end].key != *key {
+            return end;
+        }
+    }
+    points.len()
+}

@@ -1,0 +1,45 @@
+-- A delta chain over an arena of records.
+use Rattle.std.specs.Prelude.{◌≡◌, ℕ, zero, suc, ◌+◌, ◌<◌, ◌≤◌, ◌^◌, List, [], ◌∷◌, length, map, slice_get, Option, None}
+use Rattle.std.specs.Option.{option_map}
+use Rattle.std.specs.List.{AllByRecursion}
+use Rattle.bw_model.specs.Values.{ValueBytes}
+use Rattle.bw_page.specs.Leaves.{LeafView}
+use Rattle.bw_delta.specs.Rising.{HasRisingStamps}
+use Rattle.bw_delta.specs.Writes.{WriteView}
+use Rattle.bw_delta.specs.declared.writes.Delta.{Delta}
+use Rattle.bw_delta.specs.declared.writes.Delta.TheVariants.{Put}
+
+-- the write of a record
+abbrev pub write_in : Delta → WriteView
+write_in (Put w) = w
+
+abbrev pub writes_in : List (Delta × ℕ) → List WriteView
+writes_in = map (λ entry. write_in entry.0)
+
+-- the word of the chain of the first n records: that of the last of them, or the base page's
+abbrev pub word_of : ℕ → ℕ
+word_of zero = 0
+word_of (suc n) = 2 ^ 32 + n
+
+-- each record's link is the word of the chain of those before it
+abbrev pub AreLinked : ℕ → List (Delta × ℕ) → Type 0
+AreLinked n [] = Unit {0}
+AreLinked n (entry ∷ entries) = (entry.1 ≡ word_of n) × AreLinked (n + 1) entries
+
+pub record IsChain (records : List (Delta × ℕ)) (word : ℕ) : Type 0 where
+  pub linked : AreLinked 0 records
+  pub head : word ≡ word_of (length records)
+  pub few : length records ≤ 2 ^ 32
+
+-- the newest write of the chain of the first n, and the word of what stands under it
+abbrev pub newest_of : ℕ → List WriteView → Option (WriteView × ℕ)
+newest_of zero ws = None
+newest_of (suc n) ws = option_map (λ w. (w, word_of n)) (slice_get ws n)
+
+-- One leaf holds all keys. The stamps in the chain rise, and are below the next one.
+pub record IsIndex (leaf : LeafView ValueBytes) (chain : List WriteView) (next : ℕ) : Type 0 where
+  pub low : leaf.low ≡ []
+  pub high : leaf.high ≡ None
+  pub rising : HasRisingStamps 0 chain
+  pub past : AllByRecursion (λ w. w.stamp < next) chain
+  pub fits : next ≤ 2 ^ 40
