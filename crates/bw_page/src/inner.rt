@@ -111,8 +111,9 @@ impl Inner {
     /// The children from place `keep` on, as a page that begins at the first of their separators and ends where this
     /// one does. `keep` is less than the number of children.
     ///
-    /// It copies those children, in one growth for their list and one for each separator of more than 24 bytes, as
-    /// every call here that makes a page. `Memory` is answered where one of them is refused. This page stays as it is.
+    /// It copies those children, in one growth for their list and one for each key of more than 24 bytes, the bounds
+    /// among them; so do the other calls here that make a page of others. `Memory` is answered where one of them is
+    /// refused. This page stays as it is.
     pub fn upper_half(&self, keep: usize) -> Result<Inner, Memory>
         requires { keep < length self.now.children }
         ensures { IfOk result (λ half. half ≡ upper_inner self.now keep) }

@@ -111,8 +111,8 @@ impl Leaf {
     /// The pairs from place `keep` on, as a leaf that begins at the first of their keys and ends where this one does.
     /// `keep` is less than the number of pairs.
     ///
-    /// It copies those pairs, in one growth for their list and one for each key or value of more than 24 bytes.
-    /// `Memory` is answered where one of them is refused. This leaf stays as it is.
+    /// It copies those pairs, in one growth for their list and one for each key or value of more than 24 bytes, the
+    /// bounds among them. `Memory` is answered where one of them is refused. This leaf stays as it is.
     pub fn upper_half(&self, keep: usize) -> Result<Leaf, Memory>
         requires { keep < length self.now.pairs }
         ensures value { IfOk result (λ half. half ≡ upper_leaf self.now keep) }
@@ -129,8 +129,8 @@ impl Leaf {
     /// This leaf and its right neighbour as one: the pairs of both, up to the neighbour's end and with its neighbour.
     /// The right leaf begins where this one ends.
     ///
-    /// It copies all pairs, in one growth for their list and one for each key or value of more than 24 bytes. `Memory`
-    /// is answered where one of them is refused. Both leaves stay as they are.
+    /// It copies all pairs, in one growth for their list and one for each key or value of more than 24 bytes, the bounds
+    /// among them. `Memory` is answered where one of them is refused. Both leaves stay as they are.
     pub fn joined(&self, right: &Leaf) -> Result<Leaf, Memory>
         requires { self.now.high ≡ Some right.now.low }
         ensures { IfOk result (λ leaf. leaf ≡ joined_leaf self.now right.now) }
