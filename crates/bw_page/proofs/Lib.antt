@@ -1,2 +1,4 @@
 pub mod KeyOrder
 pub mod Search
+pub mod Entries
+pub mod Separators

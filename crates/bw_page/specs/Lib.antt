@@ -1,2 +1,4 @@
+pub mod Pages
 pub mod Leaves
+pub mod Inners
 pub mod Codes

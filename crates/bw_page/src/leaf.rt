@@ -1,13 +1,14 @@
 // Leaf pages.
-ghost use Rattle.std.specs.Prelude.{◌≡◌, [], None};
+ghost use Rattle.std.specs.Prelude.{◌≡◌, ◌<◌, length, [], None, IfOk};
 ghost use Rattle.std.specs.FinMap.{find};
 ghost use Rattle.std.specs.Option.{option_copied};
 ghost use Rattle.bw_key.specs.Order.{key_cmp};
-ghost use Rattle.bw_page.specs.Leaves.{IsLeaf};
+ghost use Rattle.bw_page.specs.Leaves.{joined_leaf, upper_leaf};
+ghost use Rattle.bw_page.specs.Pages.{BeginsAt, IsPage};
 
 use crate::pages::PageId;
 use crate::sorted;
-use bw_key::Key;
+use bw_key::{Key, Memory};
 use bw_memory::Alloc;
 use bw_model::{Pairs, Value};
 use std::marker::Model;
@@ -21,21 +22,22 @@ pub struct Leaf {
     low: Key,
     high: Option<Key>,
     side: Option<PageId>,
-    pairs: Pairs,
+    pairs: Vec<(Key, Value), Alloc>,
 }
 
 impl Model for Leaf {
     ghost use Rattle.bw_model.specs.Values.{ValueBytes};
-    ghost use Rattle.bw_page.specs.Leaves.{LeafView, IsLeaf};
+    ghost use Rattle.bw_page.specs.Leaves.{LeafView};
+    ghost use Rattle.bw_page.specs.Pages.{IsPage};
     ghost use Rattle.bw_page.specs.Codes.{coded_leaf};
 
     ghost Value = { LeafView ValueBytes };
 
     ghost coded = { coded_leaf };
 
-    ghost view = { λ l. record { low = l.low; high = l.high; side = l.side; pairs = l.pairs } };
+    ghost view = { λ l. record { low = l.low; high = l.high; side = l.side; pairs = l.pairs.items } };
 
-    ghost invariant = { λ l. IsLeaf l.low l.high l.side l.pairs };
+    ghost invariant = { λ l. IsPage l.low l.high l.side l.pairs.items };
 }
 
 impl Leaf {
@@ -50,13 +52,13 @@ impl Leaf {
             low: Key::new(alloc, &[]).unwrap(),
             high: None,
             side: None,
-            pairs: Pairs::from_vec(Vec::new(alloc)),
+            pairs: Vec::new(alloc),
         }
     }
 
     /// The leaf of these bounds and pairs. It takes no memory.
     pub fn from_pairs(low: Key, high: Option<Key>, side: Option<PageId>, pairs: Pairs) -> Leaf
-        requires { IsLeaf low high side pairs }
+        requires { IsPage low high side pairs }
         ensures low { result.low ≡ low }
         ensures high { result.high ≡ high }
         ensures side { result.side ≡ side }
@@ -66,7 +68,7 @@ impl Leaf {
             low,
             high,
             side,
-            pairs,
+            pairs: pairs.into_vec(),
         }
     }
 
@@ -94,7 +96,7 @@ impl Leaf {
     /// The pairs, in the order of their keys.
     pub fn pairs(&self) -> &[(Key, Value)]
         ensures value { result.now ≡ self.now.pairs }
-        ensures rules { IsLeaf self.now.low self.now.high self.now.side self.now.pairs }
+        ensures rules { IsPage self.now.low self.now.high self.now.side self.now.pairs }
     {
         self.pairs.as_slice()
     }
@@ -103,6 +105,41 @@ impl Leaf {
     pub fn find(&self, key: &Key) -> Option<&Value>
         ensures { option_copied result ≡ find key_cmp key.now self.now.pairs }
     {
-        sorted::value_at(self.pairs.as_slice(), key)
+        sorted::value_at(&self.pairs, key)
+    }
+
+    /// The pairs from place `keep` on, as a leaf that begins at the first of their keys and ends where this one does.
+    /// `keep` is less than the number of pairs.
+    ///
+    /// It copies those pairs, in one growth for their list and one for each key or value of more than 24 bytes, the
+    /// bounds among them. `Memory` is answered where one of them is refused. This leaf stays as it is.
+    pub fn upper_half(&self, keep: usize) -> Result<Leaf, Memory>
+        requires { keep < length self.now.pairs }
+        ensures value { IfOk result (λ half. half ≡ upper_leaf self.now keep) }
+        ensures kept { IfOk result (λ half. BeginsAt half.low half.pairs) }
+    {
+        Ok(Leaf {
+            low: self.pairs[keep].0.copy()?,
+            high: sorted::copy_end(&self.high)?,
+            side: self.side,
+            pairs: sorted::copy_from(*self.pairs.allocator(), &self.pairs, keep)?,
+        })
+    }
+
+    /// This leaf and its right neighbour as one: the pairs of both, up to the neighbour's end and with its neighbour.
+    /// The right leaf begins where this one ends.
+    ///
+    /// It copies all pairs, in one growth for their list and one for each key or value of more than 24 bytes, the bounds
+    /// among them. `Memory` is answered where one of them is refused. Both leaves stay as they are.
+    pub fn joined(&self, right: &Leaf) -> Result<Leaf, Memory>
+        requires { self.now.high ≡ Some right.now.low }
+        ensures { IfOk result (λ leaf. leaf ≡ joined_leaf self.now right.now) }
+    {
+        Ok(Leaf {
+            low: self.low.copy()?,
+            high: sorted::copy_end(&right.high)?,
+            side: right.side,
+            pairs: sorted::join(*self.pairs.allocator(), &self.pairs, &right.pairs)?,
+        })
     }
 }

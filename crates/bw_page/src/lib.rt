@@ -1,15 +1,21 @@
-//! Base pages of an ordered index in the form of a Bw-tree: the pairs of a range of keys, with the bounds of the range
-//! and a side link to the right neighbour, as in a B-link tree. A page is never edited: a new one takes its place.
+//! Base pages of an ordered index in the form of a Bw-tree: the pairs of a range of keys, or the separators of its
+//! children, with the bounds of the range and a side link to the right neighbour, as in a B-link tree. A page is never
+//! edited: a new one takes its place.
 #![tactic(auto)]
 
+mod inner;
 mod leaf;
 mod pages;
 mod sorted;
 #[cfg(test)]
 mod tests;
 
+pub use inner::Inner;
 pub use leaf::Leaf;
-pub use pages::PageId;
+pub use pages::{Page, PageId};
 
 /// The values of an index.
 pub use bw_model::Value;
+
+/// Want of memory.
+pub use bw_key::Memory;

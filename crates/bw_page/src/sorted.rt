@@ -1,11 +1,35 @@
-// Sorted lists of entries, searched by halves.
-ghost use Rattle.std.specs.Prelude.{◌≡◌, ◌≤◌, length, T};
-ghost use Rattle.std.specs.FinMap.{find, is_sorted};
+// Sorted lists of entries: searched by halves, and copied.
+ghost use Rattle.std.specs.Prelude.{◌≡◌, ◌<◌, ◌≤◌, ◌++◌, drop, filter, length, not, IfOk, OnOk, T};
+ghost use Rattle.std.specs.FinMap.{find, is_sorted, put};
 ghost use Rattle.std.specs.Option.{option_copied};
-ghost use Rattle.bw_key.specs.Order.{key_cmp};
+ghost use Rattle.bw_key.specs.Order.{key_cmp, key_eq};
 ghost use Rattle.bw_model.specs.Sorted.{place_of};
+ghost use Rattle.bw_page.specs.Inners.{IsLastUpto, IsUpto};
+ghost use Rattle.bw_page.specs.Pages.{first_key};
 
-use bw_key::Key;
+use crate::pages::PageId;
+use bw_key::{Key, Memory};
+use bw_memory::Alloc;
+use bw_model::Value;
+
+/// What an entry has at its key.
+pub(crate) trait Copied: Sized {
+    /// The same again.
+    fn copied(&self) -> Result<Self, Memory>
+        ensures { IfOk result (λ copy. copy ≡ self.now) };
+}
+
+impl Copied for Value {
+    fn copied(&self) -> Result<Value, Memory> {
+        self.copy()
+    }
+}
+
+impl Copied for PageId {
+    fn copied(&self) -> Result<PageId, Memory> {
+        Ok(*self)
+    }
+}
 
 /// How many entries at the front have a smaller key, in about log2 n key comparisons.
 pub(crate) fn place<V>(entries: &[(Key, V)], key: &Key) -> usize
@@ -27,4 +51,107 @@ pub(crate) fn value_at<'a, V>(entries: &'a [(Key, V)], key: &Key) -> Option<&'a 
     } else {
         None
     }
+}
+
+/// What the last entry has whose key isn't above the given one, in about log2 n key comparisons. The first isn't.
+pub(crate) fn last_upto<'a, V>(entries: &'a [(Key, V)], key: &Key) -> &'a V
+    requires some { 0 < length entries.now }
+    requires first { IsUpto (first_key entries.now) key.now }
+    requires sorted { T (is_sorted key_cmp entries.now) }
+    ensures { IsLastUpto key.now entries.now result.now }
+{
+    let upto = entries.partition_point(|entry| entry.0 <= *key);
+    &entries[upto - 1].1
+}
+
+/// The same end of a range again.
+pub(crate) fn copy_end(end: &Option<Key>) -> Result<Option<Key>, Memory>
+    ensures { IfOk result (λ copy. copy ≡ end.now) }
+{
+    match end {
+        Some(key) => Ok(Some(key.copy()?)),
+        None => Ok(None),
+    }
+}
+
+// Adds copies of entries. There is room for them.
+fn push_copies<V: Copied + Drop>(
+    list: &mut Vec<(Key, V), Alloc>,
+    entries: &[(Key, V)],
+) -> Result<(), Memory>
+    ensures { OnOk result (list.new.items ≡ list.old.items ++ entries.now) }
+{
+    for entry in entries {
+        list.push((entry.0.copy()?, entry.1.copied()?))?;
+    }
+    Ok(())
+}
+
+/// The entries from a place on again.
+pub(crate) fn copy_from<V: Copied + Drop>(
+    alloc: Alloc,
+    entries: &[(Key, V)],
+    start: usize,
+) -> Result<Vec<(Key, V), Alloc>, Memory>
+    requires { start ≤ length entries.now }
+    ensures { IfOk result (λ copy. copy.items ≡ drop start entries.now) }
+{
+    let mut copy = Vec::with_capacity(alloc, entries.len() - start)?;
+    push_copies(&mut copy, &entries[start..])?;
+    Ok(copy)
+}
+
+/// The entries of two lists, one behind the other.
+pub(crate) fn join<V: Copied + Drop>(
+    alloc: Alloc,
+    left: &[(Key, V)],
+    right: &[(Key, V)],
+) -> Result<Vec<(Key, V), Alloc>, Memory>
+    ensures { IfOk result (λ all. all.items ≡ left.now ++ right.now) }
+{
+    let mut all = Vec::with_capacity(alloc, left.len() + right.len())?;
+    push_copies(&mut all, left)?;
+    push_copies(&mut all, right)?;
+    Ok(all)
+}
+
+/// The entries with one more, in place of one that stands at its key.
+pub(crate) fn copy_with<V: Copied + Drop>(
+    alloc: Alloc,
+    entries: &[(Key, V)],
+    key: &Key,
+    value: V,
+) -> Result<Vec<(Key, V), Alloc>, Memory>
+    requires { T (is_sorted key_cmp entries.now) }
+    ensures { IfOk result (λ copy. copy.items ≡ put key_cmp key.now value entries.now) }
+{
+    let at = place(entries, key);
+    let mut copy = Vec::with_capacity(alloc, entries.len() + 1)?;
+    push_copies(&mut copy, &entries[..at])?;
+    copy.push((key.copy()?, value))?;
+    let rest = if at < entries.len() && entries[at].0 == *key {
+        at + 1
+    } else {
+        at
+    };
+    push_copies(&mut copy, &entries[rest..])?;
+    Ok(copy)
+}
+
+/// The entries but for the one at a key.
+pub(crate) fn copy_without<V: Copied + Drop>(
+    alloc: Alloc,
+    entries: &[(Key, V)],
+    key: &Key,
+) -> Result<Vec<(Key, V), Alloc>, Memory>
+    ensures { IfOk result (λ copy. copy.items ≡ filter (λ entry. not (key_eq key.now entry.0)) entries.now) }
+{
+    let mut copy = Vec::with_capacity(alloc, entries.len())?;
+    for entry in entries {
+        if *key == entry.0 {
+            continue;
+        }
+        copy.push((entry.0.copy()?, entry.1.copied()?))?;
+    }
+    Ok(copy)
 }

@@ -1,0 +1,179 @@
+// Inner pages.
+ghost use Rattle.std.specs.Prelude.{◌≡◌, ◌≢◌, ◌<◌, length, Some, IfOk, T};
+ghost use Rattle.std.specs.Option.{option_copied};
+ghost use Rattle.bw_model.specs.Contents.{is_in_range};
+ghost use Rattle.bw_page.specs.Inners.{IsInner, IsLastUpto, IsUpto, joined_inner, upper_inner, with_child, without_child};
+ghost use Rattle.bw_page.specs.Pages.{BeginsAt};
+
+use crate::pages::PageId;
+use crate::sorted;
+use bw_key::{Key, Memory};
+use bw_memory::Alloc;
+use std::marker::Model;
+
+/// An inner page: separators, each with the child whose keys are from it on. The separators strictly rise, and lie
+/// from `low` on and below `high`; the first is `low`. So each key of the range has a child.
+///
+/// The level is 1 where the children are leaves, and one more for each level above. No `high` is no upper end. A page
+/// has a right neighbour, `side`, exactly where it has a `high`, and that neighbour's range begins there.
+#[derive(Debug, Drop)]
+pub struct Inner {
+    level: u32,
+    low: Key,
+    high: Option<Key>,
+    side: Option<PageId>,
+    children: Vec<(Key, PageId), Alloc>,
+}
+
+impl Model for Inner {
+    ghost use Rattle.bw_page.specs.Inners.{InnerView, IsInner};
+    ghost use Rattle.bw_page.specs.Codes.{coded_inner};
+
+    ghost Value = { InnerView };
+
+    ghost coded = { coded_inner };
+
+    ghost view = { λ p. record { level = p.level; low = p.low; high = p.high; side = p.side; children = p.children.items } };
+
+    ghost invariant = { λ p. IsInner p.level p.low p.high p.side p.children.items };
+}
+
+impl Inner {
+    /// The page of this level, these bounds and children. It takes no memory.
+    pub fn from_children(
+        level: u32,
+        low: Key,
+        high: Option<Key>,
+        side: Option<PageId>,
+        children: Vec<(Key, PageId), Alloc>,
+    ) -> Inner
+        requires { IsInner level low high side children.items }
+        ensures level { result.level ≡ level }
+        ensures low { result.low ≡ low }
+        ensures high { result.high ≡ high }
+        ensures side { result.side ≡ side }
+        ensures children { result.children ≡ children.entry.items }
+    {
+        Inner {
+            level,
+            low,
+            high,
+            side,
+            children,
+        }
+    }
+
+    /// The level, 1 or more.
+    pub fn level(&self) -> u32
+        ensures { result ≡ self.now.level }
+    {
+        self.level
+    }
+
+    /// The lower end of the range, which belongs to it.
+    pub fn low(&self) -> &Key
+        ensures { result.now ≡ self.now.low }
+    {
+        &self.low
+    }
+
+    /// The upper end of the range, which doesn't belong to it.
+    pub fn high(&self) -> Option<&Key>
+        ensures { option_copied result ≡ self.now.high }
+    {
+        self.high.as_ref()
+    }
+
+    /// The right neighbour.
+    pub fn side(&self) -> Option<PageId>
+        ensures { result ≡ self.now.side }
+    {
+        self.side
+    }
+
+    /// The separators with their children, in order.
+    pub fn children(&self) -> &[(Key, PageId)]
+        ensures value { result.now ≡ self.now.children }
+        ensures rules { IsInner self.now.level self.now.low self.now.high self.now.side self.now.children }
+    {
+        self.children.as_slice()
+    }
+
+    /// The child with the greatest separator that isn't above the key, in about log2 n key comparisons for n children.
+    /// The key isn't below `low`.
+    pub fn child_for(&self, key: &Key) -> PageId
+        requires { IsUpto self.now.low key.now }
+        ensures { IsLastUpto key.now self.now.children result }
+    {
+        *sorted::last_upto(&self.children, key)
+    }
+
+    /// The children from place `keep` on, as a page that begins at the first of their separators and ends where this
+    /// one does. `keep` is less than the number of children.
+    ///
+    /// It copies those children, in one growth for their list and one for each key of more than 24 bytes, the bounds
+    /// among them; so do the other calls here that make a page of others. `Memory` is answered where one of them is
+    /// refused. This page stays as it is.
+    pub fn upper_half(&self, keep: usize) -> Result<Inner, Memory>
+        requires { keep < length self.now.children }
+        ensures { IfOk result (λ half. half ≡ upper_inner self.now keep) }
+    {
+        Ok(Inner {
+            level: self.level,
+            low: self.children[keep].0.copy()?,
+            high: sorted::copy_end(&self.high)?,
+            side: self.side,
+            children: sorted::copy_from(*self.children.allocator(), &self.children, keep)?,
+        })
+    }
+
+    /// This page and its right neighbour as one: the children of both, up to the neighbour's end and with its
+    /// neighbour. The right page is of the same level and begins where this one ends. Both stay as they are.
+    pub fn joined(&self, right: &Inner) -> Result<Inner, Memory>
+        requires level { self.now.level ≡ right.now.level }
+        requires next { self.now.high ≡ Some right.now.low }
+        ensures { IfOk result (λ inner. inner ≡ joined_inner self.now right.now) }
+    {
+        Ok(Inner {
+            level: self.level,
+            low: self.low.copy()?,
+            high: sorted::copy_end(&right.high)?,
+            side: right.side,
+            children: sorted::join(*self.children.allocator(), &self.children, &right.children)?,
+        })
+    }
+
+    // A page of the same level, bounds and neighbour.
+    fn over(&self, children: Vec<(Key, PageId), Alloc>) -> Result<Inner, Memory>
+        requires { IsInner self.now.level self.now.low self.now.high self.now.side children.items }
+        ensures { IfOk result (λ inner. inner ≡ record self.now { children = children.entry.items }) }
+    {
+        Ok(Inner {
+            level: self.level,
+            low: self.low.copy()?,
+            high: sorted::copy_end(&self.high)?,
+            side: self.side,
+            children,
+        })
+    }
+
+    /// This page with the child at the separator, in place of one that stands there. The separator is in the range of
+    /// the page. This page stays as it is.
+    pub fn with_child(&self, sep: &Key, child: PageId) -> Result<Inner, Memory>
+        requires { T (is_in_range self.now.low self.now.high sep.now) }
+        ensures { IfOk result (λ inner. inner ≡ with_child self.now sep.now child) }
+    {
+        let alloc = *self.children.allocator();
+        self.over(sorted::copy_with(alloc, &self.children, sep, child)?)
+    }
+
+    /// This page without the separator and its child, or an equal page where it has no such separator. The separator
+    /// isn't `low`. This page stays as it is.
+    pub fn without_child(&self, sep: &Key) -> Result<Inner, Memory>
+        requires { sep.now ≢ self.now.low }
+        ensures { IfOk result (λ inner. inner ≡ without_child self.now sep.now) }
+    {
+        let alloc = *self.children.allocator();
+        self.over(sorted::copy_without(alloc, &self.children, sep)?)
+    }
+}

@@ -1,0 +1,113 @@
+// Leaves.
+use super::making::{a_and_b, c_with, heap, key, value};
+use crate::{Leaf, PageId};
+use bw_memory::Alloc;
+use bw_model::Pairs;
+use std::process::Abort;
+
+// The leaf of the keys from `c` on and below `h`, with page 7 at its right.
+fn c_to_h<R: Abort>(rt: &R, alloc: Alloc) -> Leaf {
+    let pairs = vec![in alloc;
+        (key(rt, alloc, b"c"), value(rt, alloc, b"3")),
+        (key(rt, alloc, b"d"), value(rt, alloc, b"4")),
+        (key(rt, alloc, b"dd"), value(rt, alloc, b"")),
+        (key(rt, alloc, b"f"), value(rt, alloc, b"6")),
+    ]
+    .expect(rt, "the pairs");
+    Leaf::from_pairs(
+        key(rt, alloc, b"c"),
+        Some(key(rt, alloc, b"h")),
+        Some(PageId(7)),
+        Pairs::from_vec(pairs),
+    )
+}
+
+// Compares a leaf's pairs with the bytes of the wanted ones.
+fn has_pairs<R: Abort>(rt: &R, leaf: &Leaf, wanted: &[(&'static [u8], &'static [u8])]) {
+    assert_eq!(rt; leaf.pairs().len(), wanted.len());
+    for (pair, (key, value)) in leaf.pairs().iter().zip(wanted) {
+        assert_eq!(rt; pair.0.bytes(), *key);
+        assert_eq!(rt; pair.1.bytes(), *value);
+    }
+}
+
+// Whether a leaf begins at a key and is the last one.
+fn is_last_from<R: Abort>(rt: &R, leaf: &Leaf, low: &[u8]) {
+    assert_eq!(rt; leaf.low().bytes(), low);
+    assert!(rt; leaf.high().is_none());
+    assert!(rt; leaf.side().is_none());
+}
+
+#[test]
+fn an_empty_leaf_has_all_keys_and_no_pair(rt: HostRuntime) {
+    let alloc = heap(&rt, rt.alloc());
+    alloc.refuse(1);
+    let leaf = Leaf::empty(alloc);
+    assert_eq!(rt; alloc.left(), 1);
+    is_last_from(&rt, &leaf, b"");
+    has_pairs(&rt, &leaf, &[]);
+    assert!(rt; leaf.find(&key(&rt, alloc, b"")).is_none());
+}
+
+#[test]
+fn a_leaf_has_its_bounds_and_pairs(rt: HostRuntime) {
+    let alloc = heap(&rt, rt.alloc());
+    let leaf = c_to_h(&rt, alloc);
+    assert_eq!(rt; leaf.low().bytes(), b"c".as_slice());
+    assert_eq!(rt; leaf.high().map(|high| high.bytes()), Some(b"h".as_slice()));
+    assert_eq!(rt; leaf.side(), Some(PageId(7)));
+    has_pairs(
+        &rt,
+        &leaf,
+        &[(b"c", b"3"), (b"d", b"4"), (b"dd", b""), (b"f", b"6")],
+    );
+}
+
+#[test]
+fn a_key_is_found_among_the_pairs_alone(rt: HostRuntime) {
+    let alloc = heap(&rt, rt.alloc());
+    let leaf = c_to_h(&rt, alloc);
+    let found = [
+        (b"c".as_slice(), b"3".as_slice()),
+        (b"d", b"4"),
+        (b"dd", b""),
+        (b"f", b"6"),
+    ];
+    for (bytes, wanted) in found {
+        let key = key(&rt, alloc, bytes);
+        alloc.refuse(1);
+        assert_eq!(rt; leaf.find(&key).map(|value| value.bytes()), Some(wanted));
+        assert_eq!(rt; alloc.left(), 1);
+    }
+    for bytes in [b"".as_slice(), b"b", b"cc", b"e", b"g", b"h", b"z"] {
+        assert!(rt; leaf.find(&key(&rt, alloc, bytes)).is_none());
+    }
+}
+
+#[test]
+fn two_leaves_join(rt: HostRuntime) {
+    let alloc = heap(&rt, rt.alloc());
+    let leaf = a_and_b(&rt, alloc)
+        .joined(&c_with(&rt, alloc, b"3"))
+        .expect(&rt, "memory");
+    is_last_from(&rt, &leaf, b"");
+    has_pairs(&rt, &leaf, &[(b"a", b"1"), (b"b", b"2"), (b"c", b"3")]);
+}
+
+#[test]
+fn the_upper_half_begins_with_the_first_pair_that_moves(rt: HostRuntime) {
+    let alloc = heap(&rt, rt.alloc());
+    let leaf = a_and_b(&rt, alloc)
+        .joined(&c_with(&rt, alloc, b"3"))
+        .expect(&rt, "memory");
+    let half = leaf.upper_half(1).expect(&rt, "memory");
+    is_last_from(&rt, &half, b"b");
+    has_pairs(&rt, &half, &[(b"b", b"2"), (b"c", b"3")]);
+}
+
+#[test]
+fn page_names_are_their_numbers(rt: HostRuntime) {
+    assert_eq!(rt; PageId(3), PageId(3));
+    assert_ne!(rt; PageId(3), PageId(4));
+    assert_eq!(rt; PageId(u32::MAX).0, 4294967295);
+}

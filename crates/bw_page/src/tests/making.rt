@@ -1,0 +1,103 @@
+// Keys, values and pages from bytes.
+ghost use Rattle.std.specs.Prelude.{◌≡◌, [], ◌∷◌, length, None, Some};
+
+use crate::{Inner, Leaf, PageId, Value};
+use bw_key::Key;
+use bw_memory::{Alloc, Heap};
+use bw_model::Pairs;
+use std::alloc::Global;
+use std::process::Abort;
+
+/// Longer than a key or a value that takes no memory.
+pub const LONG: &[u8] = b"a text of more than 24 bytes";
+
+/// A heap of its own, which is never freed.
+pub fn heap<R: Abort>(rt: &R, global: Global) -> Alloc {
+    Box::leak(Box::new(global, Heap::counted(global)).expect(rt, "a heap"))
+}
+
+pub fn key<R: Abort>(rt: &R, alloc: Alloc, bytes: &[u8]) -> Key
+    ensures { result ≡ bytes.now }
+{
+    Key::new(alloc, bytes).expect(rt, "a key")
+}
+
+pub fn value<R: Abort>(rt: &R, alloc: Alloc, bytes: &[u8]) -> Value {
+    Value::new(alloc, bytes).expect(rt, "a value")
+}
+
+/// The first leaf, up to `c`, with page 1 at its right: a 1, b 2.
+pub fn a_and_b<R: Abort>(rt: &R, alloc: Alloc) -> Leaf
+    ensures high { result.high ≡ Some (99 ∷ []) }
+    ensures pairs { length result.pairs ≡ 2 }
+{
+    let pairs = vec![in alloc;
+        (key(rt, alloc, b"a"), value(rt, alloc, b"1")),
+        (key(rt, alloc, b"b"), value(rt, alloc, b"2")),
+    ];
+    Leaf::from_pairs(
+        key(rt, alloc, b""),
+        Some(key(rt, alloc, b"c")),
+        Some(PageId(1)),
+        Pairs::from_vec(pairs.expect(rt, "the pairs")),
+    )
+}
+
+/// The last leaf, from `c` on: c and this value.
+pub fn c_with<R: Abort>(rt: &R, alloc: Alloc, bytes: &[u8]) -> Leaf
+    ensures low { result.low ≡ 99 ∷ [] }
+    ensures pairs { length result.pairs ≡ 1 }
+{
+    let pairs = vec![in alloc; (key(rt, alloc, b"c"), value(rt, alloc, bytes))];
+    Leaf::from_pairs(
+        key(rt, alloc, b"c"),
+        None,
+        None,
+        Pairs::from_vec(pairs.expect(rt, "the pair")),
+    )
+}
+
+/// The first inner page over leaves, up to `c`, with page 9 at its right: page 0 from the start on.
+pub fn from_start<R: Abort>(rt: &R, alloc: Alloc) -> Inner
+    ensures level { result.level ≡ 1 }
+    ensures low { result.low ≡ [] }
+    ensures high { result.high ≡ Some (99 ∷ []) }
+    ensures children { length result.children ≡ 1 }
+{
+    let children = vec![in alloc; (key(rt, alloc, b""), PageId(0))];
+    Inner::from_children(
+        1,
+        key(rt, alloc, b""),
+        Some(key(rt, alloc, b"c")),
+        Some(PageId(9)),
+        children.expect(rt, "the child"),
+    )
+}
+
+/// The last inner page over leaves: page 1 from `c` on.
+pub fn from_c<R: Abort>(rt: &R, alloc: Alloc) -> Inner
+    ensures level { result.level ≡ 1 }
+    ensures low { result.low ≡ 99 ∷ [] }
+    ensures high { result.high ≡ None }
+    ensures children { length result.children ≡ 1 }
+{
+    let children = vec![in alloc; (key(rt, alloc, b"c"), PageId(1))];
+    Inner::from_children(
+        1,
+        key(rt, alloc, b"c"),
+        None,
+        None,
+        children.expect(rt, "the child"),
+    )
+}
+
+/// The two as one: page 0 from the start on, page 1 from `c` on.
+pub fn from_start_and_c<R: Abort>(rt: &R, alloc: Alloc) -> Inner
+    ensures low { result.low ≡ [] }
+    ensures high { result.high ≡ None }
+    ensures children { length result.children ≡ 2 }
+{
+    from_start(rt, alloc)
+        .joined(&from_c(rt, alloc))
+        .expect(rt, "memory")
+}
