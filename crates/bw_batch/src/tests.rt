@@ -1,6 +1,7 @@
 // Worked examples of what the contracts say, and what no contract says: that batches are accepted, the printed
 // texts, and each growth of memory refused in turn.
 mod batches;
+mod largest;
 mod making;
 mod options;
 mod randomly;

@@ -135,10 +135,7 @@ pub(crate) fn copied(value: Option<&Value>) -> Result<Option<Value>, Memory>
 
 /// The writes in the order of their stamps, in about n log2 n steps for n writes. `Memory` is answered where the list finds
 /// none.
-pub fn in_order<'a>(
-    alloc: Alloc,
-    writes: &[&'a Write],
-) -> Result<Vec<&'a Write, Alloc>, Memory>
+pub fn in_order<'a>(alloc: Alloc, writes: &[&'a Write]) -> Result<Vec<&'a Write, Alloc>, Memory>
     requires { HasDistinctStamps (pointed_to writes.now) }
     ensures rising { IfOk result (λ ordered. HasRisingStamps 0 (pointed_to ordered.items)) }
     ensures same { IfOk result (λ ordered. IsPermutation (pointed_to writes.now) (pointed_to ordered.items)) }

@@ -68,19 +68,18 @@ fn batch<R: Abort>(rt: &R, make: &Maker<R>, random: &mut Random) -> Vec<Op, Allo
     ops
 }
 
-#[test]
-fn batches_are_answered_as_by_the_plain_program(rt: HostRuntime) {
-    let make = Maker::new(&rt, rt.alloc());
-    let mut random = Random { state: 20180610 };
+// Runs a hundred batches that are drawn from a seed.
+fn compare<R: Abort>(rt: &R, make: &Maker<R>, seed: u64) {
+    let mut random = Random { state: seed };
     let mut index = make.index(16);
     let mut map = ReferenceMap::new(make.alloc);
-    for number in 0..400u64 {
-        let ops = batch(&rt, &make, &mut random);
+    for number in 0..100u64 {
+        let ops = batch(rt, make, &mut random);
         match index.run(&ops, &OpenGate) {
             Ok(done) => {
                 assert!(rt; ops.len() <= 16);
-                let expected = map.run(&ops).expect(&rt, "memory");
-                same(&rt, done.replies.as_slice(), expected.as_slice());
+                let expected = map.run(&ops).expect(rt, "memory");
+                same(rt, done.replies.as_slice(), expected.as_slice());
             }
             Err(refusal) => {
                 assert!(rt; ops.len() > 16);
@@ -88,8 +87,16 @@ fn batches_are_answered_as_by_the_plain_program(rt: HostRuntime) {
                 assert_eq!(rt; refusal, Refusal::TooLong { ops, most: 16 });
             }
         }
-        let contents = index.contents().expect(&rt, "memory");
-        let expected = map.entries().expect(&rt, "memory");
-        assert_eq!(rt; contents, expected, "batch {number}: {ops:?}");
+        let contents = index.contents().expect(rt, "memory");
+        let expected = map.entries().expect(rt, "memory");
+        assert_eq!(rt; contents, expected, "seed {seed}, batch {number}: {ops:?}");
+    }
+}
+
+#[test]
+fn batches_are_answered_as_by_the_plain_program(rt: HostRuntime) {
+    let make = Maker::new(&rt, rt.alloc());
+    for seed in [20180610, 20130408, 19810429, 7] {
+        compare(&rt, &make, seed);
     }
 }

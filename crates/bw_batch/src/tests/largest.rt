@@ -1,0 +1,60 @@
+// The largest batches: all writes on one key, and each on a key of its own.
+use super::making::Maker;
+use crate::{Index, Key, Op, OpenGate, Reply, Value};
+use bw_memory::Alloc;
+use std::process::Abort;
+
+// A batch of so many upserts, of this key or each of its own, whose values are their places.
+fn upserts<R: Abort>(rt: &R, make: &Maker<R>, count: u32, is_one_key: bool) -> Vec<Op, Alloc> {
+    let mut ops = Vec::new(make.alloc);
+    for place in 0..count {
+        let scattered = if is_one_key { 0 } else { place.reverse_bits() };
+        let key = Key::new(make.alloc, &scattered.to_be_bytes()).expect(rt, "a key");
+        let value = Value::new(make.alloc, &place.to_be_bytes()).expect(rt, "a value");
+        ops.push(Op::Upsert(key, value)).expect(rt, "memory");
+    }
+    ops
+}
+
+// How many pairs the index holds, and the last value.
+fn held<R: Abort>(rt: &R, index: &Index) -> (usize, Option<[u8; 4]>) {
+    let pairs = index.contents().expect(rt, "memory").into_vec();
+    let last = pairs.last().map(|pair| {
+        let mut bytes = [0; 4];
+        for (to, from) in bytes.iter_mut().zip(pair.1.bytes()) {
+            *to = *from;
+        }
+        bytes
+    });
+    (pairs.len(), last)
+}
+
+#[test]
+fn one_key_is_written_65536_times(rt: HostRuntime) {
+    let make = Maker::new(&rt, rt.alloc());
+    let mut index = make.index(65_536);
+    let ops = upserts(&rt, &make, 65_536, true);
+    let done = index.run(&ops, &OpenGate).expect(&rt, "memory");
+    let replies = done.replies.as_slice();
+    assert_eq!(rt; replies.len(), 65_536);
+    assert!(rt; replies.first() == Some(&Reply::New));
+    let before = Value::new(make.alloc, &[0, 0, 0xff, 0xfe]).expect(&rt, "a value");
+    assert!(rt; replies.last() == Some(&Reply::Was(before)));
+    assert_eq!(rt; held(&rt, &index), (1, Some([0, 0, 0xff, 0xff])));
+}
+
+#[test]
+fn each_of_65536_keys_is_written(rt: HostRuntime) {
+    let make = Maker::new(&rt, rt.alloc());
+    let mut index = make.index(65_536);
+    let ops = upserts(&rt, &make, 65_536, false);
+    let done = index.run(&ops, &OpenGate).expect(&rt, "memory");
+    assert_eq!(rt; done.replies.as_slice().len(), 65_536);
+    assert!(rt;
+        done.replies
+            .as_slice()
+            .iter()
+            .all(|reply| *reply == Reply::New)
+    );
+    assert_eq!(rt; held(&rt, &index), (65_536, Some([0, 0, 0xff, 0xff])));
+}
