@@ -1,8 +1,8 @@
 -- The map of an index, before and after a batch.
-use Rattle.std.proofs.Common.{◌≡◌, ℕ, ◌+◌, ◌<◌, ◌≤◌, ◌^◌, Bool, true, false, cond, List, [], ◌∷◌, ◌++◌, length, map, nat_eq, Option, Some, None, Result, Ok, Err, IfOk, refl, sym, ap, ◌∙◌, subst, arith}
+use Rattle.std.proofs.Common.{◌≡◌, ℕ, ◌+◌, ◌<◌, ◌≤◌, ◌^◌, Bool, true, false, cond, List, [], ◌∷◌, ◌++◌, length, map, nat_eq, Option, Some, None, Result, Ok, Err, IfOk, refl, sym, ap, ◌∙◌, subst, arith, zero, suc, T, ◌&&◌}
 use Rattle.std.specs.Prelude.{filter, reverse}
-use Rattle.std.specs.List.{AllByRecursion, IsDistinct}
-use Rattle.std.specs.FinMap.{empty, entries, from_entries, get-empty, get-from_entries}
+use Rattle.std.specs.List.{AllByRecursion, IsDistinct, list_all}
+use Rattle.std.specs.FinMap.{empty, entries, entries_sorted, find, is_sorted, from_entries, get-empty, get-entries, get-from_entries}
 use Rattle.std.proofs.lemmas.Bool.Decides.{nat_tests}
 use Rattle.std.proofs.lemmas.List.{take_all}
 use Rattle.std.proofs.lemmas.List.Elements.{filter-append}
@@ -16,6 +16,7 @@ use Rattle.bw_model.specs.declared.operations.Action.{Action}
 use Rattle.bw_model.specs.declared.operations.Op.{Op}
 use Rattle.bw_model.specs.declared.operations.Reply.{Reply}
 use Rattle.bw_page.specs.Leaves.{LeafView}
+use Rattle.bw_page.specs.Pages.{IsPage}
 use Rattle.bw_delta.specs.Writes.{WriteView}
 use Rattle.bw_delta.specs.History.{action_at, HasDistinctStamps}
 use Rattle.bw_delta.specs.Rising.{HasRisingStamps}
@@ -196,3 +197,39 @@ pub next_contents : (leaf : LeafView ValueBytes) (old new : List WriteView) (bas
     contents_as_of (from_entries leaf.pairs) old base ≡ m → contents_as_of (from_entries leaf.pairs) new (base + length ops) ≡ contents_after ops m
 next_contents leaf old new base ops m is grown same =
     ap (λ ws. contents_as_of (from_entries leaf.pairs) ws (base + length ops)) grown ∙ staged_after old base ops is.rising is.past (from_entries leaf.pairs) ∙ ap (contents_after ops) same
+
+-- where there is no write, nothing changes
+no_writes : (start : Contents ValueBytes) (n : ℕ) → contents_as_of start [] n ≡ start
+unfolding contents_as_of
+no_writes start zero = refl
+no_writes start (suc n) = no_writes start n
+
+-- the pairs of a map are a page of all keys
+all_held : (es : List (KeyBytes × ValueBytes)) → T (list_all (is_pair_in_range [] None) es)
+all_held [] = tt
+all_held (e ∷ es) = by (is_pair_in_range [] None e) (from_empty e.0) (all_held es)
+  where
+    from_empty : (key : KeyBytes) → is_in_range [] None key ≡ true
+    from_empty [] = refl
+    from_empty (b ∷ bs) = refl
+
+    by : (b : Bool) → b ≡ true → T (list_all (is_pair_in_range [] None) es) → T (b && list_all (is_pair_in_range [] None) es)
+    by true e rest = rest
+    by false e rest = absurd (different e)
+      where
+        different : false ≡ true → ⊥
+        different e = cc
+
+pub folded_contents : (m : Contents ValueBytes) (pairs : List (KeyBytes × ValueBytes)) (chain : List WriteView) (n : ℕ) → pairs ≡ entries m → chain ≡ [] → contents_as_of (from_entries pairs) chain n ≡ m
+folded_contents m pairs chain n is none =
+    ap (λ ws. contents_as_of (from_entries pairs) ws n) none ∙ no_writes (from_entries pairs) n
+    ∙ same_contents (from_entries pairs) m (λ key. get-from_entries key_cmp_total pairs key ∙ ap (find key_cmp key) is ∙ sym (get-entries m key))
+
+-- the pairs of a map are a page of all keys
+pub whole_page : (m : Contents ValueBytes) (low : KeyBytes) (pairs : List (KeyBytes × ValueBytes)) → low ≡ [] → pairs ≡ entries m → IsPage low None None pairs
+whole_page m low pairs none is = subst (λ k. IsPage k None None pairs) (sym none) (record {
+  sorted = subst (λ es. T (is_sorted key_cmp es)) (sym is) (entries_sorted m);
+  inside = all_held pairs;
+  wide = tt;
+  linked = refl;
+})
