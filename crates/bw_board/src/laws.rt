@@ -1,4 +1,5 @@
-//! Each atomic step of a board is one event of `bw_core`: one law for each kind of step, over a table's words and its seats' views.
+//! Each atomic step of a board is one event of `bw_core`, but for a load after a join, which changes nothing: one law for each kind
+//! of step, over a table's words and its seats' views.
 //!
 //! A law says that the table is lawful after the step, that its world went on by the event, what the event answered, and what the
 //! step tells its seat. Each function has an empty body: its contract is the law.

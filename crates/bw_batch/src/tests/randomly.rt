@@ -59,32 +59,32 @@ fn draw<R: Abort>(make: &Maker<R>, random: &mut Random) -> Op {
     }
 }
 
-// A batch of up to 20 operations.
+// A batch of up to 60 operations.
 fn batch<R: Abort>(rt: &R, make: &Maker<R>, random: &mut Random) -> Vec<Op, Alloc> {
     let mut ops = Vec::new(make.alloc);
-    for _ in 0..random.below(21) {
+    for _ in 0..random.below(61) {
         ops.push(draw(make, random)).expect(rt, "memory");
     }
     ops
 }
 
-// Runs a hundred batches that are drawn from a seed.
+// Runs batches that are drawn from a seed, some 1,800 writes on a few keys: the chain is folded among them.
 fn compare<R: Abort>(rt: &R, make: &Maker<R>, seed: u64) {
     let mut random = Random { state: seed };
-    let mut index = make.index(16);
+    let mut index = make.index(48);
     let mut map = ReferenceMap::new(make.alloc);
-    for number in 0..100u64 {
+    for number in 0..150u64 {
         let ops = batch(rt, make, &mut random);
         match index.run(&ops, &OpenGate) {
             Ok(done) => {
-                assert!(rt; ops.len() <= 16);
+                assert!(rt; ops.len() <= 48);
                 let expected = map.run(&ops).expect(rt, "memory");
                 same(rt, done.replies.as_slice(), expected.as_slice());
             }
             Err(refusal) => {
-                assert!(rt; ops.len() > 16);
+                assert!(rt; ops.len() > 48);
                 let ops = ops.len() as u64;
-                assert_eq!(rt; refusal, Refusal::TooLong { ops, most: 16 });
+                assert_eq!(rt; refusal, Refusal::TooLong { ops, most: 48 });
             }
         }
         let contents = index.contents().expect(rt, "memory");
@@ -96,7 +96,7 @@ fn compare<R: Abort>(rt: &R, make: &Maker<R>, seed: u64) {
 #[test]
 fn batches_are_answered_as_by_the_plain_program(rt: HostRuntime) {
     let make = Maker::new(&rt, rt.alloc());
-    for seed in [20180610, 20130408, 19810429, 7] {
+    for seed in [20180610, 7] {
         compare(&rt, &make, seed);
     }
 }
