@@ -6,8 +6,8 @@ use Rattle.std.proofs.lemmas.List.{map-append, drop_all, length-map, reverse-app
 use Rattle.bw_model.specs.declared.operations.Op.{Op}
 use Rattle.bw_delta.specs.Batches.{stamped, write_of, writes_of}
 use Rattle.bw_delta.specs.Writes.{WriteView}
-use Rattle.bw_delta.specs.declared.writes.Delta.{Delta}
-use Rattle.bw_delta.specs.declared.writes.Delta.TheVariants.{Put}
+use Rattle.bw_delta.specs.declared.deltas.Delta.{Delta}
+use Rattle.bw_delta.specs.declared.deltas.Delta.TheVariants.{Put}
 use Rattle.bw_batch.specs.Chains.{write_in, writes_in, word_of, AreLinked, IsChain, newest_of}
 
 abbrev Entry : Type 0

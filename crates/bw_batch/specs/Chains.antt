@@ -6,8 +6,8 @@ use Rattle.bw_model.specs.Values.{ValueBytes}
 use Rattle.bw_page.specs.Leaves.{LeafView}
 use Rattle.bw_delta.specs.Rising.{HasRisingStamps}
 use Rattle.bw_delta.specs.Writes.{WriteView}
-use Rattle.bw_delta.specs.declared.writes.Delta.{Delta}
-use Rattle.bw_delta.specs.declared.writes.Delta.TheVariants.{Put}
+use Rattle.bw_delta.specs.declared.deltas.Delta.{Delta}
+use Rattle.bw_delta.specs.declared.deltas.Delta.TheVariants.{Put}
 
 -- the write of a record
 abbrev pub write_in : Delta → WriteView

@@ -1,6 +1,6 @@
 -- An arena as contracts see it.
 use Rattle.std.specs.Prelude.{ℕ, List, map}
-use Rattle.bw_delta.specs.declared.writes.Delta.{Delta}
+use Rattle.bw_delta.specs.declared.deltas.Delta.{Delta}
 
 -- the records, each with its link word, and how many more are sure to find room
 pub record ArenaView : Type 0 where

@@ -3,7 +3,7 @@ ghost use Rattle.std.specs.Prelude.{◌≡◌, ℕ, ◌+◌, ◌<◌, ◌≤◌,
 ghost use Rattle.std.specs.Option.{option_map};
 ghost use Rattle.bw_delta.specs.Arenas.{deltas_of, links_of};
 
-use crate::writes::Delta;
+use crate::deltas::Delta;
 use bw_key::Memory;
 use bw_memory::Alloc;
 use std::marker::Model;

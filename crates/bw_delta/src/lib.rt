@@ -6,6 +6,7 @@
 #![tactic(auto)]
 
 mod arena;
+mod deltas;
 mod folding;
 mod laws;
 mod reading;
@@ -14,10 +15,11 @@ mod tests;
 mod writes;
 
 pub use arena::Arena;
+pub use deltas::Delta;
 pub use folding::leaf_as_of;
 pub use laws::{batch_is_read_in_turn, contents_are_history};
 pub use reading::{Reading, in_order, value_as_of};
-pub use writes::{Delta, Write};
+pub use writes::Write;
 
 /// The operations of a batch, the replies to them, and what a write does.
 pub use bw_model::{Action, Op, Reply};

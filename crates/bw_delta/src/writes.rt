@@ -44,10 +44,3 @@ impl Write {
         Ok(Some(Write { stamp, key, action }))
     }
 }
-
-/// A delta record: a change of a page, which is put before the page's former state.
-#[derive(Debug, Drop, PartialEq, Eq)]
-pub enum Delta {
-    /// A write at a key of a leaf.
-    Put(Write),
-}

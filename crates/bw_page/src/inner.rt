@@ -1,7 +1,7 @@
 // Inner pages.
-ghost use Rattle.std.specs.Prelude.{◌≡◌, ◌≢◌, ◌<◌, length, Some, IfOk, T};
+ghost use Rattle.std.specs.Prelude.{◌≡◌, ◌≢◌, ◌<◌, length, Some, IfOk, MatchOption, true, false, T};
 ghost use Rattle.std.specs.Option.{option_copied};
-ghost use Rattle.bw_model.specs.Contents.{is_in_range};
+ghost use Rattle.bw_model.specs.Contents.{is_below_end, is_in_range};
 ghost use Rattle.bw_page.specs.Inners.{IsInner, IsLastUpto, IsUpto, joined_inner, upper_inner, with_child, without_child};
 ghost use Rattle.bw_page.specs.Pages.{BeginsAt};
 
@@ -97,6 +97,16 @@ impl Inner {
         ensures rules { IsInner self.now.level self.now.low self.now.high self.now.side self.now.children }
     {
         self.children.as_slice()
+    }
+
+    /// The right neighbour, where the key is past the end of the range: there a search goes on, as in a B-link tree.
+    pub fn past(&self, key: &Key) -> Option<PageId>
+        ensures { MatchOption result (is_below_end self.now.high key.now ≡ true) (λ next. (is_below_end self.now.high key.now ≡ false) × (self.now.side ≡ Some next)) }
+    {
+        match &self.high {
+            Some(high) if *key >= *high => self.side,
+            _ => None,
+        }
     }
 
     /// The child with the greatest separator that isn't above the key, in about log2 n key comparisons for n children.

@@ -1,8 +1,9 @@
 // Leaf pages.
-ghost use Rattle.std.specs.Prelude.{◌≡◌, ◌<◌, length, [], None, IfOk};
+ghost use Rattle.std.specs.Prelude.{◌≡◌, ◌<◌, length, [], Some, None, IfOk, MatchOption, true, false};
 ghost use Rattle.std.specs.FinMap.{find};
 ghost use Rattle.std.specs.Option.{option_copied};
 ghost use Rattle.bw_key.specs.Order.{key_cmp};
+ghost use Rattle.bw_model.specs.Contents.{is_below_end};
 ghost use Rattle.bw_page.specs.Leaves.{joined_leaf, upper_leaf};
 ghost use Rattle.bw_page.specs.Pages.{BeginsAt, IsPage};
 
@@ -106,6 +107,16 @@ impl Leaf {
         ensures { option_copied result ≡ find key_cmp key.now self.now.pairs }
     {
         sorted::value_at(&self.pairs, key)
+    }
+
+    /// The right neighbour, where the key is past the end of the range: there a search goes on, as in a B-link tree.
+    pub fn past(&self, key: &Key) -> Option<PageId>
+        ensures { MatchOption result (is_below_end self.now.high key.now ≡ true) (λ next. (is_below_end self.now.high key.now ≡ false) × (self.now.side ≡ Some next)) }
+    {
+        match &self.high {
+            Some(high) if *key >= *high => self.side,
+            _ => None,
+        }
     }
 
     /// The pairs from place `keep` on, as a leaf that begins at the first of their keys and ends where this one does.

@@ -1,0 +1,95 @@
+-- What a tree holds at a key, from the page where the key is at home.
+use Rattle.std.proofs.Common.{◌≡◌, ℕ, ◌<◌, true, List, [], length, get_or, Option, refl, sym, ap, ◌∙◌, subst, arith}
+use Rattle.std.specs.Prelude.{Result, Ok, Err, IfOk}
+use Rattle.std.specs.FinMap.{find, from_entries, get, get-from_entries}
+use Rattle.std.proofs.lemmas.List.{length-map}
+use Rattle.bw_key.specs.Order.{KeyBytes, key_cmp, key_cmp_total, key_eq}
+use Rattle.bw_model.specs.Values.{ValueBytes}
+use Rattle.bw_delta.specs.Writes.{WriteView}
+use Rattle.bw_delta.specs.Batches.{writes_to}
+use Rattle.bw_delta.specs.History.{history, action_at, HasDistinctStamps}
+use Rattle.bw_delta.specs.ContentsAsOf.{contents_as_of}
+use Rattle.bw_delta.proofs.ContentsAsOf.{get_as_of}
+use Rattle.bw_delta.proofs.Filters.{distinct_filter}
+use Rattle.bw_tree.specs.Slots.{Slot, slot_at, is_leaf}
+use Rattle.bw_tree.specs.Levels.{AreLevels, IsHome, row}
+use Rattle.bw_tree.specs.Reading.{EndsAbove, base_of, pairs_under, writes_over, value_in}
+use Rattle.bw_tree.specs.Chains.{Bases, Records, Ends, slot_of_word}
+use Rattle.bw_tree.specs.View.{TreeView, IsTree, contents_at, levels_under, slots_of, row_pairs, row_writes}
+use Rattle.bw_tree.proofs.ReadingLemmas.{read_is, slot_of_head}
+use Rattle.bw_tree.proofs.RouteLemmas.{home_leaf}
+use Rattle.bw_tree.proofs.LeafRowLemmas.{HasAt, row_has}
+
+module _ (slots : List Slot) (root : ℕ) (levels : List (List ℕ)) (lawful : AreLevels slots root levels) where
+  -- the leaf level has at a key what the key's home has
+  pub home_has : (key : KeyBytes) (p : ℕ) → IsHome slots levels key p → HasAt (row_pairs slots (row levels 0)) (pairs_under (slot_at slots p)) (row_writes slots (row levels 0)) (writes_over (slot_at slots p)) key
+  home_has key p h = row_has slots 0 [] (row levels 0) p h.reached.state key (lawful.rows 0 h.reached.within) h.reached.in_level h.reached.is h.reached.from_low h.ends_above
+
+  module _ (distinct : HasDistinctStamps (row_writes slots (row levels 0))) where
+    pub home_distinct : (key : KeyBytes) (p : ℕ) → IsHome slots levels key p → HasDistinctStamps (writes_to key (writes_over (slot_at slots p)))
+    home_distinct key p h = subst HasDistinctStamps (home_has key p h).writes (distinct_filter (λ w. key_eq key w.key) (row_writes slots (row levels 0)) distinct)
+
+    pub home_value : (key : KeyBytes) (p stamp : ℕ) → IsHome slots levels key p → get (contents_as_of (from_entries (row_pairs slots (row levels 0))) (row_writes slots (row levels 0)) stamp) key ≡ value_in (slot_at slots p) key stamp
+    home_value key p stamp h =
+        let has = home_has key p h in
+        let pairs = row_pairs slots (row levels 0) in
+        let writes = row_writes slots (row levels 0) in
+        get_as_of (from_entries pairs) writes distinct stamp key
+        ∙ ap (λ o. history o (action_at (writes_to key writes)) stamp) (get-from_entries key_cmp_total pairs key ∙ has.pairs)
+        ∙ ap (λ (l : List WriteView). history (find key_cmp key (pairs_under (slot_at slots p))) (action_at l) stamp) has.writes
+
+-- what is known of the mapping word of a key's home
+pub record FoundAt (tree : TreeView) (bases : Bases) (records : Records) (key : KeyBytes) (p head : ℕ) : Type 0 where
+  pub slot : slot_at tree.slots p ≡ slot_of_word bases records head
+  pub ends : Ends bases records head
+  pub leaf : is_leaf (slot_of_word bases records head) ≡ true
+  pub above : EndsAbove (slot_of_word bases records head) key
+
+abbrev view_of : List ℕ → Bases → Records → ℕ → ℕ → TreeView
+view_of heads bases records root next =
+    let slots = slots_of heads bases records in
+    record { slots = slots; root = root; levels = levels_under slots root; heads = heads; records = length records; next = next }
+
+pub found_at : (heads : List ℕ) (bases : Bases) (records : Records) (root next : ℕ) (tree : TreeView) (key : KeyBytes) (p head : ℕ) → view_of heads bases records root next ≡ tree → IsTree heads bases records root next → IsHome tree.slots tree.levels key p → head ≡ get_or heads p head → FoundAt tree bases records key p head
+found_at heads bases records root next tree key p head is t home read =
+    subst (λ (v : TreeView). FoundAt v bases records key p head) is (at (subst (λ (v : TreeView). IsHome v.slots v.levels key p) (sym is) home))
+  where
+    at : IsHome (slots_of heads bases records) (levels_under (slots_of heads bases records) root) key p → FoundAt (view_of heads bases records root next) bases records key p head
+    at home =
+        let slots = slots_of heads bases records in
+        let h = home_leaf slots root (levels_under slots root) t.lawful key p home in
+        let there : p < length heads = omega (arith, h.0, length-map heads (slot_of_word bases records)) in
+        let slot : slot_at slots p ≡ slot_of_word bases records head = slot_of_head bases records heads p head there ∙ ap (slot_of_word bases records) (sym read) in
+        record {
+          slot = slot;
+          ends = t.ends p head (read_is heads p head there read);
+          leaf = sym (ap is_leaf slot) ∙ h.1;
+          above = subst (λ (o : Slot). EndsAbove o key) slot h.2;
+        }
+
+-- and so, what is read there
+pub found_distinct : (heads : List ℕ) (bases : Bases) (records : Records) (root next : ℕ) (tree : TreeView) (key : KeyBytes) (p head : ℕ) (found : List WriteView) → view_of heads bases records root next ≡ tree → IsTree heads bases records root next → IsHome tree.slots tree.levels key p → head ≡ get_or heads p head →
+    found ≡ writes_to key (writes_over (slot_of_word bases records head)) → HasDistinctStamps found
+found_distinct heads bases records root next tree key p head found is t home read all =
+    let slots = slots_of heads bases records in
+    let at = found_at heads bases records root next tree key p head is t home read in
+    let slot : slot_at slots p ≡ slot_of_word bases records head = ap (λ (v : TreeView). slot_at v.slots p) is ∙ at.slot in
+    subst HasDistinctStamps (ap (λ (o : Slot). writes_to key (writes_over o)) slot ∙ sym all)
+    (home_distinct slots root (levels_under slots root) t.lawful t.distinct key p (subst (λ (v : TreeView). IsHome v.slots v.levels key p) (sym is) home))
+
+pub found_value : (heads : List ℕ) (bases : Bases) (records : Records) (root next : ℕ) (tree : TreeView) (key : KeyBytes) (p head stamp : ℕ) (start : Option ValueBytes) (found : List WriteView) → view_of heads bases records root next ≡ tree → IsTree heads bases records root next → IsHome tree.slots tree.levels key p → head ≡ get_or heads p head →
+    found ≡ writes_to key (writes_over (slot_of_word bases records head)) → start ≡ base_of (slot_of_word bases records head) key → history start (action_at found) stamp ≡ get (contents_at tree stamp) key
+found_value heads bases records root next tree key p head stamp start found is t home read all base =
+    let slots = slots_of heads bases records in
+    let at = found_at heads bases records root next tree key p head is t home read in
+    let slot : slot_at slots p ≡ slot_of_word bases records head = ap (λ (v : TreeView). slot_at v.slots p) is ∙ at.slot in
+    ap (λ o. history o (action_at found) stamp) base
+    ∙ ap (λ (l : List WriteView). history (base_of (slot_of_word bases records head) key) (action_at l) stamp) all
+    ∙ ap (λ (o : Slot). value_in o key stamp) (sym slot)
+    ∙ sym (home_value slots root (levels_under slots root) t.lawful t.distinct key p stamp (subst (λ (v : TreeView). IsHome v.slots v.levels key p) (sym is) home))
+    ∙ ap (λ (v : TreeView). get (contents_at v stamp) key) is
+
+-- an answer that is there is this one, and so that one
+pub if_same : {X E : Type 0} (r : Result X E) (v w : X) → v ≡ w → IfOk r (λ x. x ≡ v) → IfOk r (λ x. x ≡ w)
+if_same (Ok x) v w e h = h ∙ e
+if_same (Err x) v w e h = h

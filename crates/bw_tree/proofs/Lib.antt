@@ -1,0 +1,9 @@
+pub mod WalkLemmas
+pub mod RowLemmas
+pub mod RouteLemmas
+pub mod LevelLemmas
+pub mod ChainLemmas
+pub mod TurnLemmas
+pub mod ReadingLemmas
+pub mod LeafRowLemmas
+pub mod ContentsLemmas

@@ -1,0 +1,138 @@
+// The tree.
+ghost use Rattle.std.specs.Prelude.{◌≡◌, ◌<◌, [], ◌∷◌, true, length, IfOk};
+ghost use Rattle.std.specs.FinMap.{empty, get};
+
+use crate::chains::{Chains, Turn};
+use bw_delta::{Arena, value_as_of};
+use bw_key::{Key, Memory};
+use bw_memory::Alloc;
+use bw_model::Value;
+use bw_page::{Leaf, Page, PageId};
+use std::marker::Model;
+
+/// Pages, named by identifiers, whose present states are chains of delta records over base pages.
+///
+/// The mapping table is a list of words, one for each identifier. A word below 2^32 names a base page, and one from
+/// there on the newest record of the page's chain.
+#[derive(Debug, Drop)]
+pub struct Tree {
+    heads: Vec<u64, Alloc>,
+    chains: Chains,
+    root: PageId,
+    // the stamp of the next operation
+    next: u64,
+}
+
+impl Model for Tree {
+    ghost use Rattle.std.specs.Prelude.{length};
+    ghost use Rattle.bw_tree.specs.View.{TreeView, slots_of, levels_under, IsTree};
+
+    ghost Value = { TreeView };
+
+    ghost view = { λ t. let slots = slots_of t.heads.items t.chains.bases t.chains.records in
+        record { slots = slots; root = t.root; levels = levels_under slots t.root; heads = t.heads.items; records = length t.chains.records; next = t.next } };
+
+    ghost invariant = { λ t. IsTree t.heads.items t.chains.bases t.chains.records t.root t.next };
+}
+
+impl Tree {
+    ghost use Rattle.bw_tree.specs.Slots.{slot_at, is_leaf};
+    ghost use Rattle.bw_tree.specs.Levels.{IsHome};
+    ghost use Rattle.bw_tree.specs.Turns.{IsTurn, StartsUpto};
+    ghost use Rattle.bw_tree.specs.View.{contents_at};
+
+    /// The tree of one empty leaf, page 0, which is the root.
+    pub fn new(alloc: Alloc) -> Result<Tree, Memory>
+        ensures contents { IfOk result (λ tree. contents_at tree 0 ≡ empty) }
+        ensures root { IfOk result (λ tree. tree.root ≡ 0) }
+        ensures heads { IfOk result (λ tree. tree.heads ≡ 0 ∷ []) }
+        ensures records { IfOk result (λ tree. tree.records ≡ 0) }
+        ensures next { IfOk result (λ tree. tree.next ≡ 0) }
+    {
+        let mut heads = Vec::new(alloc);
+        heads.push(0)?;
+        let mut bases = Vec::new(alloc);
+        bases.push(Some(Page::Leaf(Leaf::empty(alloc))))?;
+        Ok(Tree {
+            heads,
+            chains: Chains {
+                bases,
+                arena: Arena::new(alloc),
+            },
+            root: PageId(0),
+            next: 0,
+        })
+    }
+
+    /// The identifier of the root.
+    pub fn root(&self) -> PageId
+        ensures { result ≡ self.now.root }
+    {
+        self.root
+    }
+
+    /// The stamp of the next operation.
+    pub fn next_stamp(&self) -> u64
+        ensures { result ≡ self.now.next }
+    {
+        self.next
+    }
+
+    /// How many delta records there are.
+    pub fn records(&self) -> usize
+        ensures { result ≡ self.now.records }
+    {
+        self.chains.arena.len()
+    }
+
+    /// The mapping words, by the identifiers of their pages.
+    pub fn heads(&self) -> &[u64]
+        ensures { result.now ≡ self.now.heads }
+    {
+        &self.heads
+    }
+
+    /// The one leaf of the leaf level whose range has the key.
+    ///
+    /// A search goes down from the root by the greatest separator that isn't above the key, left from a removed page,
+    /// and right past the end of a page that was split (B-link trees): a binary search and a walk along a short chain
+    /// for each page. It takes no memory.
+    pub fn route(&self, key: &Key) -> PageId
+        ensures home { IsHome self.now.slots self.now.levels key.now result }
+        ensures leaf { is_leaf (slot_at self.now.slots result) ≡ true }
+    {
+        let mut page = self.root;
+        loop {
+            match self.turn(page, key) {
+                Turn::Here => return page,
+                Turn::Right(next) => page = next,
+                Turn::Down(next) => page = next,
+                Turn::Left(next) => page = next,
+            }
+        }
+    }
+
+    // Where a search for a key goes on from a page.
+    fn turn(&self, page: PageId, key: &Key) -> Turn
+        requires there { page < length self.now.slots }
+        requires upto { StartsUpto (slot_at self.now.slots page) key.now }
+        ensures { IsTurn (slot_at self.now.slots page) key.now result }
+    {
+        self.chains.turn_at(self.heads[page.0 as usize], key)
+    }
+
+    /// The value at a key as of a stamp: what the writes below the stamp leave of the value on the key's base page.
+    ///
+    /// Of the chain of the key's leaf it sorts the writes to the key, and copies the one value that it answers.
+    /// `Memory` is answered where the list or the copy finds none.
+    pub fn value_at(&self, key: &Key, stamp: u64) -> Result<Option<Value>, Memory>
+        ensures { IfOk result (λ value. value ≡ get (contents_at self.now stamp) key.now) }
+    {
+        let page = self.route(key);
+        let head = self.heads[page.0 as usize];
+        let alloc = *self.heads.allocator();
+        let found = self.chains.writes_at(alloc, head, key)?;
+        let start = self.chains.base_value_at(head, key);
+        value_as_of(alloc, start, &found, stamp)
+    }
+}
