@@ -7,3 +7,5 @@ pub mod TurnLemmas
 pub mod ReadingLemmas
 pub mod LeafRowLemmas
 pub mod ContentsLemmas
+pub mod MakingLemmas
+pub mod OverLemmas
