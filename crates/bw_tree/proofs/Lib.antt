@@ -9,3 +9,5 @@ pub mod LeafRowLemmas
 pub mod ContentsLemmas
 pub mod MakingLemmas
 pub mod OverLemmas
+pub mod GrowthLemmas
+pub mod StageLemmas

@@ -23,7 +23,7 @@ use Rattle.bw_tree.specs.Levels.{AreLevels, SideBySide, Stands, LeadsBelow, Begi
 use Rattle.bw_tree.specs.Chains.{Bases, Ends, based, plain, link_of, linked_word, slot_of_word}
 use Rattle.bw_tree.specs.Making.{AreAbutting, HasRules, IsOverLeaves, base_of_leaf, count_from, pages_over, pairs_in, terms_from, tree_over}
 use Rattle.bw_tree.specs.Reading.{pairs_under, writes_over}
-use Rattle.bw_tree.specs.View.{TreeView, IsTree, AllEnd, contents_at, levels_under, slots_of, row_pairs, row_writes}
+use Rattle.bw_tree.specs.View.{slots_of, row_pairs, row_writes}
 use Rattle.bw_tree.proofs.LevelLemmas.{levels_now}
 
 no_entry : {X : Type 0} {x : X} → None ≡ Some x → ⊥

@@ -5,4 +5,6 @@ pub mod Chains
 pub mod Turns
 pub mod Reading
 pub mod View
+pub mod Trees
+pub mod Stages
 pub mod Making

@@ -8,10 +8,11 @@ ghost use Rattle.bw_tree.specs.Reading.{EndsAbove, base_of, writes_over};
 ghost use Rattle.bw_tree.specs.Chains.{Bases, Ends, based, change, plain, record_at, slot_of_word};
 ghost use Rattle.bw_tree.specs.Turns.{IsTurn, IsNoWrite, IsOther, IsWithin, StartsUpto, bare, over, plain_at};
 
+use crate::staging::append_writes;
 use bw_delta::{Arena, Delta, Write};
 use bw_key::{Key, Memory};
 use bw_memory::Alloc;
-use bw_model::Value;
+use bw_model::{Op, Value};
 use bw_page::{Page, PageId};
 use std::marker::Model;
 
@@ -43,6 +44,29 @@ impl Model for Chains {
 }
 
 impl Chains {
+    ghost use Rattle.std.specs.Prelude.{◌+◌, ◌^◌, ◌≤◌, ◌++◌, length, OnOk, OnErr};
+    ghost use Rattle.bw_delta.specs.Batches.{writes_of};
+    ghost use Rattle.bw_tree.specs.Trees.{unlinked};
+
+    /// How many records there are.
+    pub(crate) fn len(&self) -> usize
+        ensures { result ≡ length self.now.records }
+    {
+        self.arena.len()
+    }
+
+    /// Appends the writes of a batch, each with its stamp and with no link yet. After `Memory` all is as before.
+    pub(crate) fn append_writes(&mut self, ops: &[Op], base: u64) -> Result<(), Memory>
+        requires fits { base + length ops.now ≤ 2 ^ 40 }
+        requires few { length self.old.records ≤ 2 ^ 32 }
+        ensures bases { self.new.bases ≡ self.old.bases }
+        ensures ok { OnOk result (self.new.records ≡ self.old.records ++ unlinked (writes_of base ops.now)) }
+        ensures err { OnErr result (self.new.records ≡ self.old.records) }
+        ensures few { length self.new.records ≤ 2 ^ 32 }
+    {
+        append_writes(&mut self.arena, ops, base)
+    }
+
     // The record that a word names, if it names one, with the word of what stands under it.
     fn record(&self, word: u64) -> Option<(&Delta, u64)>
         ensures { option_map (λ r. (r.0.now, r.1)) result ≡ record_at self.now.records word }

@@ -1,13 +1,14 @@
 // The tree.
-ghost use Rattle.std.specs.Prelude.{◌≡◌, ◌<◌, ◌-◌, [], ◌∷◌, true, length, IfOk};
+ghost use Rattle.std.specs.Prelude.{◌≡◌, ℕ, ◌<◌, ◌≤◌, ◌+◌, ◌-◌, ◌^◌, [], ◌∷◌, true, None, length, take, IfOk, OnOk, OnErr};
 ghost use Rattle.std.specs.FinMap.{empty, get};
 
 use crate::chains::{Chains, FLOOR, Turn};
 use crate::making::{base_pages, separators, words};
+use crate::staging::{Stage, Staged};
 use bw_delta::{Arena, value_as_of};
 use bw_key::{Key, Memory};
 use bw_memory::Alloc;
-use bw_model::Value;
+use bw_model::{Op, Value};
 use bw_page::{Inner, Leaf, Page, PageId};
 use std::marker::Model;
 
@@ -22,25 +23,30 @@ pub struct Tree {
     root: PageId,
     // the stamp of the next operation
     next: u64,
+    // the batch whose writes are the last records
+    staged: Option<Stage>,
 }
 
 impl Model for Tree {
-    ghost use Rattle.std.specs.Prelude.{length};
-    ghost use Rattle.bw_tree.specs.View.{TreeView, slots_of, levels_under, IsTree};
+    ghost use Rattle.bw_tree.specs.View.{TreeView};
+    ghost use Rattle.bw_tree.specs.Trees.{IsTree, view_of};
 
     ghost Value = { TreeView };
 
-    ghost view = { λ t. let slots = slots_of t.heads.items t.chains.bases t.chains.records in
-        record { slots = slots; root = t.root; levels = levels_under slots t.root; heads = t.heads.items; records = length t.chains.records; next = t.next } };
+    ghost view = { λ t. view_of t.heads.items t.chains.bases t.chains.records t.root t.next t.staged };
 
-    ghost invariant = { λ t. IsTree t.heads.items t.chains.bases t.chains.records t.root t.next };
+    ghost invariant = { λ t. IsTree t.heads.items t.chains.bases t.chains.records t.root t.next t.staged };
 }
 
 impl Tree {
     ghost use Rattle.bw_tree.specs.Slots.{slot_at, is_leaf};
     ghost use Rattle.bw_tree.specs.Levels.{IsHome};
     ghost use Rattle.bw_tree.specs.Turns.{IsTurn, StartsUpto};
-    ghost use Rattle.bw_tree.specs.View.{IsTree, contents_at};
+    ghost use Rattle.bw_tree.specs.Trees.{IsTree};
+    ghost use Rattle.bw_tree.specs.View.{contents_at, contents_with};
+    ghost use Rattle.bw_tree.specs.Stages.{IsPostedStage, accepted, is_adopted, staged_on, undone};
+    ghost use Rattle.bw_model.specs.Model.{contents_after};
+    ghost use Rattle.bw_delta.specs.Batches.{writes_of};
     ghost use Rattle.bw_tree.specs.Making.{AreAbutting, IsOverLeaves, count_from, tree_over};
 
     /// The tree of one empty leaf, page 0, which is the root.
@@ -50,6 +56,7 @@ impl Tree {
         ensures heads { IfOk result (λ tree. tree.heads ≡ 0 ∷ []) }
         ensures records { IfOk result (λ tree. tree.records ≡ 0) }
         ensures next { IfOk result (λ tree. tree.next ≡ 0) }
+        ensures staged { IfOk result (λ tree. tree.staged ≡ None) }
     {
         let mut leaves = Vec::new(alloc);
         leaves.push(Leaf::empty(alloc))?;
@@ -81,7 +88,7 @@ impl Tree {
 
     // The tree whose pages are base pages, each named by its place. The last one is the root.
     fn over(alloc: Alloc, bases: Vec<Option<Page>, Alloc>) -> Result<Tree, Memory>
-        requires { IsTree (count_from 0 (length bases.items)) bases.items [] (length bases.items - 1) 0 }
+        requires { IsTree (count_from 0 (length bases.items)) bases.items [] (length bases.items - 1) 0 None }
         ensures { IfOk result (λ tree. tree ≡ tree_over bases.entry.items) }
     {
         let count = bases.len();
@@ -93,6 +100,7 @@ impl Tree {
             },
             root: PageId((count - 1) as u32),
             next: 0,
+            staged: None,
         })
     }
 
@@ -114,7 +122,7 @@ impl Tree {
     pub fn records(&self) -> usize
         ensures { result ≡ self.now.records }
     {
-        self.chains.arena.len()
+        self.chains.len()
     }
 
     /// The mapping words, by the identifiers of their pages.
@@ -166,5 +174,58 @@ impl Tree {
         let found = self.chains.writes_at(alloc, head, key)?;
         let start = self.chains.base_value_at(head, key);
         value_as_of(alloc, start, &found, stamp)
+    }
+
+    /// Stages a batch: each of its writes becomes a record, in the order of the batch, and the operation at place i has
+    /// the stamp `base + i`. No batch is staged, and the stamps stay within 2^40.
+    ///
+    /// A write without an effect is a record too. It costs a copy of each key and value that is written. After `Memory`
+    /// the tree is as before, and nothing is staged.
+    pub fn stage(&mut self, ops: &[Op]) -> Result<Staged, Memory>
+        requires none { self.old.staged ≡ None }
+        requires fits { self.old.next + length ops.now ≤ 2 ^ 40 }
+        ensures ok { OnOk result (self.new ≡ staged_on self.old ops.now) }
+        ensures err { OnErr result (self.new ≡ self.old) }
+        ensures base { IfOk result (λ staged. staged.base ≡ self.old.next) }
+        ensures floor { IfOk result (λ staged. staged.floor ≡ 2 ^ 32 + self.old.records) }
+        ensures records { IfOk result (λ staged. staged.records ≡ length (writes_of self.old.next ops.now)) }
+
+        // With the staged writes among them, a read as of the stamp of an operation sees the map before it.
+        ensures reads { OnOk result ((i : ℕ) → contents_with self.new (self.old.next + i) ≡ contents_after (take i ops.now) (contents_at self.old self.old.next)) }
+    {
+        let records = self.chains.len();
+        self.chains.append_writes(ops, self.next)?;
+        self.staged.replace(Stage {
+            records,
+            ops: ops.len() as u64,
+            before: None,
+        });
+        Ok(Staged {
+            base: self.next,
+            floor: FLOOR + records as u64,
+            records: (self.chains.len() - records) as u64,
+        })
+    }
+
+    /// Ends the stage of a batch that was adopted: it stays, and the next stamp is the one behind its operations.
+    pub fn accept(&mut self)
+        requires { is_adopted self.old.staged ≡ true }
+        ensures { self.new ≡ accepted self.old self.old.staged }
+    {
+        if let Some(stage) = self.staged.take() {
+            self.next += stage.ops;
+        }
+    }
+
+    /// Ends the stage of a batch, adopted or not: the tree is as before it. It takes no memory.
+    pub fn undo(&mut self)
+        ensures { self.new ≡ undone self.old self.old.staged }
+    {
+        if let Some(stage) = self.staged.take() {
+            self.chains.arena.truncate(stage.records);
+            if let Some(before) = stage.before {
+                self.heads = before;
+            }
+        }
     }
 }
