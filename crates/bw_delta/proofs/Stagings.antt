@@ -67,6 +67,12 @@ apart_both : (s : ℕ) (xs ys : List WriteView) → AllByRecursion (λ y. nat_eq
 apart_both s [] ys a b = b
 apart_both s (x ∷ xs) ys a b = (a.0, apart_both s xs ys a.1 b)
 
+-- stamps that rise are distinct
+pub rising_distinct : (low : ℕ) (ws : List WriteView) → HasRisingStamps low ws → HasDistinctStamps ws
+unfolding IsDistinct
+rising_distinct low [] rising = tt
+rising_distinct low (w ∷ ws) rising = IsDistinct-cons nat_eq w.stamp (map (λ (v : WriteView). v.stamp) ws) (apart_above w.stamp (w.stamp + 1) ws (omega arith) rising.1) (rising_distinct (w.stamp + 1) ws rising.1)
+
 -- later writes before earlier ones have stamps of their own
 pub distinct_over : (n low : ℕ) (ws old : List WriteView) → n ≤ low → HasRisingStamps low ws → AreBelow n old → HasDistinctStamps old → HasDistinctStamps (ws ++ old)
 distinct_over n low [] old le rising below distinct = distinct

@@ -17,7 +17,7 @@ leads_on old new kept p (w ∷ ws) e below h =
     let there = linked old p h.1.0 h.1.1 in
     (h.0, (h.1.0, link_is new p there.0 (kept p there.0 there.1) ∙ ap Some there.2, leads_on old new kept h.1.0 ws e below h.1.2))
 
-deltas_on : (old new : Records) → Extends old new → (p : ℕ) (ws : List ℕ) (e : ℕ) → Leads (link_of old) p ws e → deltas_at new ws ≡ deltas_at old ws
+pub deltas_on : (old new : Records) → Extends old new → (p : ℕ) (ws : List ℕ) (e : ℕ) → Leads (link_of old) p ws e → deltas_at new ws ≡ deltas_at old ws
 deltas_on old new kept p [] e h = refl
 deltas_on old new kept p (w ∷ ws) e h =
     let there = linked old p h.1.0 h.1.1 in

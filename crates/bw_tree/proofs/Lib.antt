@@ -11,3 +11,5 @@ pub mod MakingLemmas
 pub mod OverLemmas
 pub mod GrowthLemmas
 pub mod StageLemmas
+pub mod PostedLemmas
+pub mod PlacedLemmas
