@@ -97,7 +97,7 @@ holds true t = refl
 holds false t = absurd t
 
 -- the low key is below the high one
-low_below : (slots : List Slot) (level : ℕ) (low high : KeyBytes) (side : Option ℕ) (p : ℕ) → Stands slots level low (Some high) side p → is_lt (key_cmp low high) ≡ true
+pub low_below : (slots : List Slot) (level : ℕ) (low high : KeyBytes) (side : Option ℕ) (p : ℕ) → Stands slots level low (Some high) side p → is_lt (key_cmp low high) ≡ true
 low_below slots level low high side p st =
     holds _ (subst (λ (k : KeyBytes). T (is_lt (key_cmp k high))) st.from_low (subst (λ (h : Option KeyBytes). T (is_below_end h st.state.low)) st.to_high (wide_of st.state.low st.state.high st.state.side st.state.body st.sound)))
 

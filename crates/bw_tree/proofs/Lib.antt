@@ -13,3 +13,5 @@ pub mod GrowthLemmas
 pub mod StageLemmas
 pub mod PostedLemmas
 pub mod PlacedLemmas
+pub mod AlikeLemmas
+pub mod RowWritesLemmas
