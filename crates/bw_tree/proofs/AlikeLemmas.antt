@@ -1,5 +1,5 @@
 -- Trees whose pages differ in writes alone have the same levels.
-use Rattle.std.proofs.Common.{◌≡◌, ℕ, zero, suc, ◌<◌, Bool, true, false, ◌&&◌, T, List, [], ◌∷◌, ◌++◌, Option, Some, None, refl, sym, ap, ◌∙◌, subst}
+use Rattle.std.proofs.Common.{◌≡◌, ℕ, Bool, true, false, ◌&&◌, T, List, [], ◌∷◌, ◌++◌, Option, Some, None, refl, sym, ap, ◌∙◌, subst}
 use Rattle.std.specs.List.{Contains, AllByRecursion, list_all}
 use Rattle.bw_key.specs.Order.{KeyBytes}
 use Rattle.bw_model.specs.Contents.{is_in_range}
@@ -63,7 +63,7 @@ alike_put bases (w ∷ ws) s inside =
       state = record a.state { body = body_written w a.state.body };
       is = ap (change bases (Put w)) a.is;
       sound = λ h. written_sound a.state.low a.state.high a.state.side w a.state.body
-        (subst (λ (k : KeyBytes). T (is_in_range k a.state.high w.key)) (sym a.low) (subst (λ (o : Option KeyBytes). T (is_in_range s.low o w.key)) (sym a.high) inside.0)) (a.sound h);
+          (subst (λ (k : KeyBytes). T (is_in_range k a.state.high w.key)) (sym a.low) (subst (λ (o : Option KeyBytes). T (is_in_range s.low o w.key)) (sym a.high) inside.0)) (a.sound h);
       level = written_level w a.state.body ∙ a.level;
       children = written_children w a.state.body ∙ a.children;
       low = a.low;
@@ -130,16 +130,16 @@ module _ (bases : Bases) (old new : List Slot) (over : (p : ℕ) → IsPutOver b
   -- the same levels stand over pages that differ in writes alone
   pub levels_alike : (root : ℕ) (levels : List (List ℕ)) → AreLevels old root levels → AreLevels new root levels
   levels_alike root levels h = record {
-      some = h.some;
-      top = h.top;
-      rows = λ n within. row_alike n [] (row levels n) (h.rows n within);
-      firsts = λ n p c within begins first.
+    some = h.some;
+    top = h.top;
+    rows = λ n within. row_alike n [] (row levels n) (h.rows n within);
+    firsts = λ n p c within begins first.
         let a = back_page p first.0 first.1 in
         h.firsts n p c within begins (a.0, a.1, (first.2.0, subst (λ cs. StartsWith cs first.2.0 c) a.2 first.2.1));
-      terms = λ n p s k c within has is named.
+    terms = λ n p s k c within has is named.
         let a = back_page p s is in
         below_alike (row levels n) k c (h.terms n p a.0 k c within has a.1 (subst (λ cs. Contains cs (k, c)) a.2 named));
-    }
+  }
 
   put_pairs : (ws : List WriteView) (slot : Slot) → pairs_under (put_over bases ws slot) ≡ pairs_under slot
   put_pairs [] slot = refl
@@ -148,6 +148,7 @@ module _ (bases : Bases) (old new : List Slot) (over : (p : ℕ) → IsPutOver b
       same : (b : Body) → body_pairs (body_written w b) ≡ body_pairs b
       same (Pairs pairs writes) = refl
       same (Children level children) = refl
+
       by : (slot : Slot) → pairs_under (change bases (Put w) slot) ≡ pairs_under slot
       by Free = refl
       by (Gone l) = refl

@@ -1,5 +1,5 @@
 -- Records that are added where no chain has come to leave each page as it is.
-use Rattle.std.proofs.Common.{◌≡◌, ℕ, zero, suc, ◌+◌, ◌-◌, ◌<◌, ◌≤◌, true, false, cond, List, [], ◌∷◌, ◌++◌, length, map, take, drop, Option, Some, None, nat_lt, refl, sym, ap, ◌∙◌, subst, arith}
+use Rattle.std.proofs.Common.{◌≡◌, ℕ, zero, suc, ◌-◌, ◌<◌, ◌≤◌, true, false, cond, List, [], ◌∷◌, ◌++◌, length, map, take, drop, Some, None, nat_lt, refl, sym, ap, ◌∙◌, subst, arith}
 use Rattle.std.specs.Prelude.{slice_get}
 use Rattle.bw_delta.specs.declared.deltas.Delta.{Delta}
 use Rattle.bw_tree.specs.Slots.{Slot}
@@ -32,9 +32,10 @@ still_ends bases old new word kept more ends = by ends.0 ends.1.0 ends.1.1
     by ws e h =
         let way = leads_on old new kept word ws e h.limit h.way in
         let same = deltas_on old new kept word ws e h.way in
-        let short : length ws ≤ length new = omega (arith, h.short, more) in
-        ((ws, (e, record { way = way; short = short; within = h.within; limit = h.limit; shaped = subst IsShaped (sym same) h.shaped })),
-         slot_of_way bases new word ws e way short ∙ ap (λ (l : List Delta). changed bases l (based (slice_get bases e))) same ∙ sym (slot_of_way bases old word ws e h.way h.short))
+        let short : length ws ≤ length new = omega (arith, h.short, more) in (
+          (ws, (e, record { way = way; short = short; within = h.within; limit = h.limit; shaped = subst IsShaped (sym same) h.shaped })),
+          slot_of_way bases new word ws e way short ∙ ap (λ (l : List Delta). changed bases l (based (slice_get bases e))) same ∙ sym (slot_of_way bases old word ws e h.way h.short),
+        )
 
 no_entry : {r : Delta × ℕ} → None ≡ Some r → ⊥
 no_entry e = cc

@@ -15,3 +15,5 @@ pub mod PostedLemmas
 pub mod PlacedLemmas
 pub mod AlikeLemmas
 pub mod RowWritesLemmas
+pub mod AdoptLemmas
+pub mod AdoptedLemmas

@@ -1,13 +1,13 @@
 -- The staged writes, page by page.
-use Rattle.std.proofs.Common.{◌≡◌, ◌≢◌, ℕ, zero, suc, ◌+◌, ◌<◌, ◌≤◌, Bool, true, false, cond, not, ◌&&◌, T, List, [], ◌∷◌, ◌++◌, length, map, get_or, nat_eq, eqb, Option, Some, None, inl, inr, refl, sym, ap, ◌∙◌, subst, arith}
+use Rattle.std.proofs.Common.{◌≡◌, ◌≢◌, ℕ, zero, suc, ◌+◌, ◌<◌, ◌≤◌, Bool, true, false, List, [], ◌∷◌, map, nat_eq, Option, Some, None, inl, inr, refl, sym, ap, ◌∙◌, subst, arith}
 use Rattle.std.specs.Prelude.{filter, slice_get}
 use Rattle.std.specs.List.{Contains, AllByRecursion, IsDistinct}
 use Rattle.std.specs.List.Sorted.{IsPermutation}
 use Rattle.std.proofs.lemmas.Bool.{cases_eq, cases_lt}
 use Rattle.std.proofs.lemmas.Bool.Decides.{nat_tests}
 use Rattle.std.proofs.lemmas.Map.Keys.{IsDistinct-cons}
-use Rattle.bw_core.specs.World.{one_if, times}
-use Rattle.bw_core.proofs.Lists.{one_same, one_other, one_small}
+use Rattle.bw_core.specs.World.{times}
+use Rattle.bw_core.proofs.Lists.{one_same, one_other}
 use Rattle.bw_delta.specs.Writes.{WriteView}
 use Rattle.bw_delta.specs.History.{HasDistinctStamps}
 use Rattle.bw_delta.specs.Rising.{HasRisingStamps}
@@ -62,6 +62,7 @@ module _ (low : ℕ) (ws : List WriteView) (rising : HasRisingStamps low ws) whe
     where
       other : r ≢ q
       other e = absurd (omega (arith, none, one_same q r (sym e)))
+
       by : (o : Option WriteView) → slice_get ws q ≡ o → AllByRecursion (λ y. nat_eq v.stamp y ≡ false) (map (λ (w : WriteView). w.stamp) (named ws rs)) → AllByRecursion (λ y. nat_eq v.stamp y ≡ false) (map (λ (w : WriteView). w.stamp) (write_before o (named ws rs)))
       by None e rest = rest
       by (Some w) e rest = (stamps_differ low ws r q v w rising at e other, rest)
@@ -73,6 +74,7 @@ module _ (low : ℕ) (ws : List WriteView) (rising : HasRisingStamps low ws) whe
     where
       none : times r rs ≡ 0
       none = omega (arith, once r, one_same r r refl)
+
       by : (o : Option WriteView) → slice_get ws r ≡ o → HasDistinctStamps (named ws rs) → HasDistinctStamps (write_before o (named ws rs))
       by None e rest = rest
       by (Some v) e rest = IsDistinct-cons nat_eq v.stamp (map (λ (w : WriteView). w.stamp) (named ws rs)) (apart r v rs e none) rest
@@ -83,6 +85,7 @@ module _ (low : ℕ) (ws : List WriteView) (rising : HasRisingStamps low ws) whe
     where
       further : (q : ℕ) × (0 < times q rs) × (slice_get ws q ≡ Some v) → (q : ℕ) × (0 < times q (r ∷ rs)) × (slice_get ws q ≡ Some v)
       further more = (more.0, omega (arith, more.1), more.2)
+
       by : (o : Option WriteView) → slice_get ws r ≡ o → Contains (write_before o (named ws rs)) v → (Contains (named ws rs) v → (q : ℕ) × (0 < times q rs) × (slice_get ws q ≡ Some v)) → (q : ℕ) × (0 < times q (r ∷ rs)) × (slice_get ws q ≡ Some v)
       by None e has rest = further (rest has)
       by (Some w) e (zero, lt, at) rest = (r, omega (arith, one_same r r refl), e ∙ ap Some at)
@@ -91,9 +94,9 @@ module _ (low : ℕ) (ws : List WriteView) (rising : HasRisingStamps low ws) whe
   is_named : (rs : List ℕ) (r : ℕ) (v : WriteView) → 0 < times r rs → slice_get ws r ≡ Some v → Contains (named ws rs) v
   is_named [] r v some at = absurd (omega (arith, some))
   is_named (q ∷ rs) r v some at = elim (cases_eq q r) [
-      | inl same ↦ subst (λ o. Contains (write_before o (named ws rs)) v) (sym (ap (slice_get ws) same ∙ at)) (0, omega arith, refl)
-      | inr other ↦ behind (slice_get ws q) (is_named rs r v (omega (arith, some, one_other q r other)) at)
-    ]
+    | inl same ↦ subst (λ o. Contains (write_before o (named ws rs)) v) (sym (ap (slice_get ws) same ∙ at)) (0, omega arith, refl)
+    | inr other ↦ behind (slice_get ws q) (is_named rs r v (omega (arith, some, one_other q r other)) at)
+  ]
     where
       behind : (o : Option WriteView) → Contains (named ws rs) v → Contains (write_before o (named ws rs)) v
       behind None has = has
@@ -104,9 +107,9 @@ module _ (low : ℕ) (ws : List WriteView) (rising : HasRisingStamps low ws) whe
   named_are f rs once here only =
       same_members (filter f ws) (named ws rs) (distinct_filter f ws (rising_distinct low ws rising)) (named_distinct rs once)
       (λ v has.
-        let was = was_there f ws v has in
-        let at : slice_get ws was.0.0 ≡ Some v = read_is ws was.0.0 v was.0.1 (sym was.0.2) in
-        is_named rs was.0.0 v (here was.0.0 v at was.1) at)
+      let was = was_there f ws v has in
+      let at : slice_get ws was.0.0 ≡ Some v = read_is ws was.0.0 v was.0.1 (sym was.0.2) in
+      is_named rs was.0.0 v (here was.0.0 v at was.1) at)
       (λ v has. let by = named_by rs v has in kept f ws v (there_is ws by.0 v by.2) (only by.0 v by.2 by.1))
 
   -- each of them passes

@@ -1,9 +1,9 @@
 -- The chain of a page once staged records were posted to it.
-use Rattle.std.proofs.Common.{◌≡◌, ℕ, zero, suc, ◌+◌, ◌-◌, ◌<◌, ◌≤◌, true, false, cond, List, [], ◌∷◌, ◌++◌, length, map, get_or, Option, Some, None, ltb, nat_lt, refl, sym, ap, ◌∙◌, subst, arith, length-append}
+use Rattle.std.proofs.Common.{◌≡◌, ℕ, zero, suc, ◌+◌, ◌-◌, ◌<◌, ◌≤◌, false, cond, List, [], ◌∷◌, ◌++◌, length, map, Option, Some, None, ltb, refl, sym, ap, ◌∙◌, subst, arith, length-append}
 use Rattle.std.specs.Prelude.{slice_get, slice_index}
 use Rattle.std.proofs.lemmas.Bool.Decides.{nat_tests}
 use Rattle.std.proofs.lemmas.List.{length-map}
-use Rattle.bw_core.specs.World.{Each, Meets, times}
+use Rattle.bw_core.specs.World.{Meets, times}
 use Rattle.bw_core.proofs.Lists.{few, meets_low}
 use Rattle.bw_delta.specs.Writes.{WriteView}
 use Rattle.bw_delta.specs.declared.deltas.Delta.{Delta}
@@ -57,9 +57,12 @@ record_there old ws links r lt same =
     let both = read_both ws links r lt same in
     let word = 4294967296 + length old + r in
     let test : ltb word 4294967296 ≡ false = grind (arith, nat_tests) in
-    let place : word - 4294967296 ≡ length old + r = omega arith in
-    (both.0, both.1, ap (λ b. cond b None (slice_get (old ++ put_records ws links) (word - 4294967296))) test
-     ∙ ap (slice_get (old ++ put_records ws links)) place ∙ read_behind old (put_records ws links) r ∙ both.2)
+    let place : word - 4294967296 ≡ length old + r = omega arith in (
+      both.0,
+      both.1,
+      ap (λ b. cond b None (slice_get (old ++ put_records ws links) (word - 4294967296))) test
+          ∙ ap (slice_get (old ++ put_records ws links)) place ∙ read_behind old (put_records ws links) r ∙ both.2,
+    )
 
 module _ (bases : Bases) (old : Records) (ws : List WriteView) (links : List ℕ) (same : length links ≡ length ws) where
   abbrev pub posted : Records
@@ -113,7 +116,8 @@ module _ (bases : Bases) (old : Records) (ws : List WriteView) (links : List ℕ
           let kept = append_extends old (put_records ws links) in
           let way = posted_way rs head before xs e met (leads_on old posted kept before xs e h.limit h.way) in
           let listed : deltas_at posted (words rs ++ xs) ≡ puts (named ws rs) (deltas_at old xs) = posted_deltas rs head before xs met ∙ ap (puts (named ws rs)) (deltas_on old posted kept before xs e h.way) in
-          let short : length (words rs ++ xs) ≤ length posted = omega (arith, h.short, posted_length, same, length-append (words rs) xs, length-map rs (λ r. 4294967296 + length old + r), few (length links) rs (meets_low (4294967296 + length old) links head rs before met) once) in
-          ((words rs ++ xs, (e, record { way = way; short = short; within = h.within; limit = h.limit; shaped = subst IsShaped (sym listed) (puts_shaped (named ws rs) (deltas_at old xs) h.shaped) })),
-           slot_of_way bases posted head (words rs ++ xs) e way short ∙ ap (λ (l : List Delta). changed bases l (based (slice_get bases e))) listed
-           ∙ puts_changed (named ws rs) (deltas_at old xs) (based (slice_get bases e)) ∙ ap (put_over bases (named ws rs)) (sym (slot_of_way bases old before xs e h.way h.short)))
+          let short : length (words rs ++ xs) ≤ length posted = omega (arith, h.short, posted_length, same, length-append (words rs) xs, length-map rs (λ r. 4294967296 + length old + r), few (length links) rs (meets_low (4294967296 + length old) links head rs before met) once) in (
+            (words rs ++ xs, (e, record { way = way; short = short; within = h.within; limit = h.limit; shaped = subst IsShaped (sym listed) (puts_shaped (named ws rs) (deltas_at old xs) h.shaped) })),
+            slot_of_way bases posted head (words rs ++ xs) e way short ∙ ap (λ (l : List Delta). changed bases l (based (slice_get bases e))) listed
+                ∙ puts_changed (named ws rs) (deltas_at old xs) (based (slice_get bases e)) ∙ ap (put_over bases (named ws rs)) (sym (slot_of_way bases old before xs e h.way h.short)),
+          )

@@ -1,15 +1,15 @@
 -- The writes over the leaves, once a batch's were put over them.
-use Rattle.std.proofs.Common.{◌≡◌, ℕ, zero, suc, ◌<◌, Bool, true, false, cond, not, ◌&&◌, T, List, [], ◌∷◌, ◌++◌, length, get_or, Option, Some, None, refl, sym, ap, ◌∙◌, subst, arith}
+use Rattle.std.proofs.Common.{◌≡◌, ℕ, suc, Bool, true, false, cond, not, ◌&&◌, List, [], ◌∷◌, ◌++◌, Option, Some, None, refl, sym, ap, ◌∙◌, subst, arith}
 use Rattle.std.specs.Prelude.{filter}
 use Rattle.std.specs.List.{Contains}
 use Rattle.std.specs.List.Sorted.{IsPermutation}
 use Rattle.std.specs.Ordering.{is_lt}
-use Rattle.std.proofs.lemmas.List.Sorted.{IsPermutation-append, IsPermutation-append_comm, IsPermutation-filter_both, IsPermutation-refl, IsPermutation-sym, IsPermutation-trans}
+use Rattle.std.proofs.lemmas.List.Sorted.{IsPermutation-append, IsPermutation-append_comm, IsPermutation-filter_both, IsPermutation-refl, IsPermutation-trans}
 use Rattle.bw_key.specs.Order.{KeyBytes, key_cmp}
-use Rattle.bw_model.specs.Contents.{is_in_range, is_below_end}
-use Rattle.bw_page.proofs.KeyOrder.{below_trans, below_back}
+use Rattle.bw_model.specs.Contents.{is_in_range}
+use Rattle.bw_page.proofs.KeyOrder.{below_trans}
 use Rattle.bw_delta.specs.Writes.{WriteView}
-use Rattle.bw_tree.specs.Slots.{Slot, PageState, Body, Pairs, Children, Live, Free, Gone, slot_at, level_of, is_leaf, body_is_leaf, IsSoundBody}
+use Rattle.bw_tree.specs.Slots.{Slot, PageState, Body, Pairs, Children, Live, slot_at, level_of, is_leaf, body_is_leaf, IsSoundBody}
 use Rattle.bw_tree.specs.Levels.{Stands, SideBySide}
 use Rattle.bw_tree.specs.Chains.{Bases}
 use Rattle.bw_tree.specs.Reading.{writes_over}
@@ -27,7 +27,7 @@ exchanged : (a b c d : List WriteView) → IsPermutation ((a ++ b) ++ (c ++ d)) 
 exchanged a b c d =
     subst (λ l. IsPermutation l ((a ++ c) ++ (b ++ d))) (sym (assoc a b (c ++ d) ∙ ap (λ l. a ++ l) (sym (assoc b c d))))
     (subst (λ l. IsPermutation (a ++ ((b ++ c) ++ d)) l) (sym (assoc a c (b ++ d) ∙ ap (λ l. a ++ l) (sym (assoc c b d))))
-     (IsPermutation-append a a ((b ++ c) ++ d) ((c ++ b) ++ d) (IsPermutation-refl a) (IsPermutation-append (b ++ c) (c ++ b) d d (IsPermutation-append_comm b c) (IsPermutation-refl d))))
+    (IsPermutation-append a a ((b ++ c) ++ d) ((c ++ b) ++ d) (IsPermutation-refl a) (IsPermutation-append (b ++ c) (c ++ b) d d (IsPermutation-append_comm b c) (IsPermutation-refl d))))
 
 -- from a key on
 abbrev pub is_from : KeyBytes → WriteView → Bool
@@ -50,7 +50,7 @@ parted_at low high ws rises =
     let below : WriteView → Bool = λ w. is_lt (key_cmp w.key high) in
     subst (λ l. IsPermutation (filter (is_from low) ws) (l ++ filter (is_from high) ws)) (filter_filter (is_from low) below ws)
     (subst (λ l. IsPermutation (filter (is_from low) ws) (filter below (filter (is_from low) ws) ++ l)) (filter_filter (is_from low) (is_from high) ws ∙ filter_same (λ w. is_from low w && is_from high w) (is_from high) both ws)
-     (IsPermutation-filter_both below (is_from high) (λ w. refl) (filter (is_from low) ws)))
+    (IsPermutation-filter_both below (is_from high) (λ w. refl) (filter (is_from low) ws)))
   where
     both : (w : WriteView) → (is_from low w && is_from high w) ≡ is_from high w
     both w = elim (is_lt (key_cmp w.key low)) as (λ b. is_lt (key_cmp w.key low) ≡ b → (not b && is_from high w) ≡ is_from high w) [
@@ -79,10 +79,11 @@ pub record HasItsWrites (bases : Bases) (ws : List WriteView) (old new : Slot) :
 module _ (bases : Bases) (ws : List WriteView) (old new : List Slot) where
   here : (low : KeyBytes) (high : Option KeyBytes) (side : Option ℕ) (p : ℕ) → Stands old 0 low high side p → (h : HasItsWrites bases ws (slot_at old p) (slot_at new p)) →
       (writes_over (slot_at new p) ≡ h.writes ++ writes_over (slot_at old p)) × IsPermutation (filter (λ w. is_in_range low high w.key) ws) h.writes
-  here low high side p st h =
-      (ap writes_over h.is ∙ puts_writes bases h.writes (slot_at old p) (ap is_leaf st.is ∙ leaf_of st.state.low st.state.high st.state.side st.state.body st.sound st.at_level),
-       subst (λ (o : Option KeyBytes). IsPermutation (filter (λ w. is_in_range low o w.key) ws) h.writes) st.to_high
-       (subst (λ (k : KeyBytes). IsPermutation (filter (λ w. is_in_range k st.state.high w.key) ws) h.writes) st.from_low (h.are st.state st.is)))
+  here low high side p st h = (
+    ap writes_over h.is ∙ puts_writes bases h.writes (slot_at old p) (ap is_leaf st.is ∙ leaf_of st.state.low st.state.high st.state.side st.state.body st.sound st.at_level),
+    subst (λ (o : Option KeyBytes). IsPermutation (filter (λ w. is_in_range low o w.key) ws) h.writes) st.to_high
+        (subst (λ (k : KeyBytes). IsPermutation (filter (λ w. is_in_range k st.state.high w.key) ws) h.writes) st.from_low (h.are st.state st.is)),
+  )
 
   -- so the row has its writes, and those from its low key on
   pub row_has_writes : (low : KeyBytes) (ps : List ℕ) → SideBySide old 0 low ps → ((p : ℕ) → Contains ps p → HasItsWrites bases ws (slot_at old p) (slot_at new p)) → IsPermutation (filter (is_from low) ws ++ row_writes old ps) (row_writes new ps)
@@ -93,8 +94,8 @@ module _ (bases : Bases) (ws : List WriteView) (old new : List Slot) where
       let was = writes_over (slot_at old p) in
       subst (λ l. IsPermutation (filter (is_from low) ws ++ (was ++ [])) (l ++ [])) (sym at.0)
       (subst (λ l. IsPermutation (filter (is_from low) ws ++ (was ++ [])) l) (sym (assoc h.writes was []))
-       (IsPermutation-append (filter (is_from low) ws) h.writes (was ++ []) (was ++ [])
-        (subst (λ l. IsPermutation l h.writes) (filter_same (λ w. is_in_range low None w.key) (is_from low) (λ w. whole (is_from low w)) ws) at.1) (IsPermutation-refl (was ++ []))))
+      (IsPermutation-append (filter (is_from low) ws) h.writes (was ++ []) (was ++ [])
+      (subst (λ l. IsPermutation l h.writes) (filter_same (λ w. is_in_range low None w.key) (is_from low) (λ w. whole (is_from low w)) ws) at.1) (IsPermutation-refl (was ++ []))))
     where
       whole : (b : Bool) → (b && true) ≡ b
       whole true = refl
@@ -109,11 +110,11 @@ module _ (bases : Bases) (ws : List WriteView) (old new : List Slot) where
       let rises = low_below old 0 low row.0 (Some q) p row.1 in
       let later = row_has_writes row.0 (q ∷ ps) row.2 (λ r has. each r (suc has.0, omega (arith, has.1), has.2)) in
       let first = IsPermutation-append (filter (is_from low) ws) (h.writes ++ behind) (was ++ rest) (was ++ rest)
-        (IsPermutation-trans (filter (is_from low) ws) (inside ++ behind) (h.writes ++ behind) (parted_at low row.0 ws rises) (IsPermutation-append inside h.writes behind behind at.1 (IsPermutation-refl behind))) (IsPermutation-refl (was ++ rest)) in
+      (IsPermutation-trans (filter (is_from low) ws) (inside ++ behind) (h.writes ++ behind) (parted_at low row.0 ws rises) (IsPermutation-append inside h.writes behind behind at.1 (IsPermutation-refl behind))) (IsPermutation-refl (was ++ rest)) in
       subst (λ l. IsPermutation (filter (is_from low) ws ++ (was ++ rest)) (l ++ row_writes new (q ∷ ps))) (sym at.0)
       (IsPermutation-trans (filter (is_from low) ws ++ (was ++ rest)) ((h.writes ++ behind) ++ (was ++ rest)) ((h.writes ++ was) ++ row_writes new (q ∷ ps)) first
-       (IsPermutation-trans ((h.writes ++ behind) ++ (was ++ rest)) ((h.writes ++ was) ++ (behind ++ rest)) ((h.writes ++ was) ++ row_writes new (q ∷ ps)) (exchanged h.writes behind was rest)
-        (IsPermutation-append (h.writes ++ was) (h.writes ++ was) (behind ++ rest) (row_writes new (q ∷ ps)) (IsPermutation-refl (h.writes ++ was)) later)))
+      (IsPermutation-trans ((h.writes ++ behind) ++ (was ++ rest)) ((h.writes ++ was) ++ (behind ++ rest)) ((h.writes ++ was) ++ row_writes new (q ∷ ps)) (exchanged h.writes behind was rest)
+      (IsPermutation-append (h.writes ++ was) (h.writes ++ was) (behind ++ rest) (row_writes new (q ∷ ps)) (IsPermutation-refl (h.writes ++ was)) later)))
 
 all_from : (ws : List WriteView) → filter (is_from []) ws ≡ ws
 all_from [] = refl

@@ -43,7 +43,9 @@ writes_unlinked (w ∷ ws) = ap (λ (l : List WriteView). w ∷ l) (writes_unlin
 -- the same pages, with room for later stamps
 pub stands_on : (heads : List ℕ) (bases : Bases) (old new : Records) (root bound later : ℕ) → IsStanding heads bases old root bound → Extends old new → length old ≤ length new → bound ≤ later → later ≤ 2 ^ 40 → length new ≤ 2 ^ 32 →
     (slots_of heads bases new ≡ slots_of heads bases old) × IsStanding heads bases new root later
-stands_on heads bases old new root bound later t kept more le fits few = (same, record {
+stands_on heads bases old new root bound later t kept more le fits few = (
+  same,
+  record {
     ends = λ p word e. (still_ends bases old new word kept more (t.ends p word e)).0;
     lawful = subst (λ (s : List Slot). AreLevels s root (levels_under s root)) (sym same) t.lawful;
     distinct = subst (λ (s : List Slot). HasDistinctStamps (row_writes s (row (levels_under s root) 0))) (sym same) t.distinct;
@@ -52,7 +54,8 @@ stands_on heads bases old new root bound later t kept more le fits few = (same, 
     few_records = few;
     few_pages = t.few_pages;
     few_bases = t.few_bases;
-  })
+  },
+)
   where
     same : slots_of heads bases new ≡ slots_of heads bases old
     same = same_map (slot_of_word bases old) (slot_of_word bases new) heads (λ p word e. (still_ends bases old new word kept more (t.ends p word e)).1)
@@ -101,8 +104,15 @@ module _ (heads : List ℕ) (bases : Bases) (records : Records) (root next : ℕ
   abbrev viewed : List Slot → ℕ → Records → List WriteView → TreeView
   viewed slots count before writes =
       let was = slots_of heads bases before in
-      record { slots = slots; root = root; levels = levels_under slots root; heads = heads; records = count; next = next;
-        staged = Some (record { slots = was; levels = levels_under was root; heads = heads; records = length records; ops = length ops; writes = writes; adopted = false }) }
+      record {
+        slots = slots;
+        root = root;
+        levels = levels_under slots root;
+        heads = heads;
+        records = count;
+        next = next;
+        staged = Some (record { slots = was; levels = levels_under was root; heads = heads; records = length records; ops = length ops; writes = writes; adopted = false });
+      }
 
   staged_view : view_of heads bases more root next (Some words) ≡ staged_on (view_of heads bases records root next None) ops
   staged_view =
@@ -130,9 +140,9 @@ stage_on heads bases records root next None tree ops t is none fits bases' recor
     let all = stage_all heads bases records root next ops t.now fits_here few_here in
     subst (λ (v : TreeView). IsStagedOn heads bases' records' root next staged' v ops) is
     (subst (λ (b : Bases). IsStagedOn heads b records' root next staged' (view_of heads bases records root next None) ops) (sym same_bases)
-     (subst (λ (r : Records). IsStagedOn heads bases r root next staged' (view_of heads bases records root next None) ops) (sym grown)
-      (subst (λ (s : Option StageWords). IsStagedOn heads bases (records ++ unlinked (writes_of next ops)) root next s (view_of heads bases records root next None) ops)
-       (sym (replaced ∙ ap (λ k. Some (record { records = k; ops = m; before = None })) count ∙ ap (λ k. Some (record { records = length records; ops = k; before = None })) length_is)) all)))
+    (subst (λ (r : Records). IsStagedOn heads bases r root next staged' (view_of heads bases records root next None) ops) (sym grown)
+    (subst (λ (s : Option StageWords). IsStagedOn heads bases (records ++ unlinked (writes_of next ops)) root next s (view_of heads bases records root next None) ops)
+    (sym (replaced ∙ ap (λ k. Some (record { records = k; ops = m; before = None })) count ∙ ap (λ k. Some (record { records = length records; ops = k; before = None })) length_is)) all)))
 stage_on heads bases records root next (Some s) tree ops t is none fits bases' records' staged' n m same_bases grown few replaced count length_is = absurd (different (ap (λ (v : TreeView). v.staged) is ∙ none))
   where
     different : {x : StageView} → Some x ≡ None → ⊥

@@ -20,6 +20,11 @@ abbrev pub is_adopted : Option StageView → Bool
 is_adopted None = false
 is_adopted (Some stage) = stage.adopted
 
+-- the stage once its writes stand in the chains
+abbrev pub adopted : Option StageView → Option StageView
+adopted None = None
+adopted (Some stage) = Some (record stage { adopted = true })
+
 -- the tree as it was before the batch
 abbrev pub undone : TreeView → Option StageView → TreeView
 undone tree None = tree

@@ -7,7 +7,6 @@ use Rattle.bw_delta.specs.History.{HasDistinctStamps}
 use Rattle.bw_delta.specs.Rising.{HasRisingStamps}
 use Rattle.bw_delta.specs.declared.deltas.Delta.{Delta}
 use Rattle.bw_delta.specs.declared.deltas.Delta.TheVariants.{Put, Split, Absorb, Removed, AddChild, DropChild}
-use Rattle.bw_tree.specs.Slots.{Slot}
 use Rattle.bw_tree.specs.Levels.{AreLevels, row}
 use Rattle.bw_tree.specs.Chains.{Bases, Records, Ends}
 use Rattle.bw_tree.specs.View.{TreeView, StageView, levels_under, slots_of, row_writes}

@@ -44,7 +44,8 @@ impl Model for Chains {
 }
 
 impl Chains {
-    ghost use Rattle.std.specs.Prelude.{◌+◌, ◌^◌, ◌≤◌, ◌++◌, length, OnOk, OnErr};
+    ghost use Rattle.std.specs.Prelude.{◌+◌, ◌^◌, ◌≤◌, ◌++◌, length, take, drop, OnOk, OnErr};
+    ghost use Rattle.bw_delta.specs.Arenas.{deltas_of, links_of};
     ghost use Rattle.bw_delta.specs.Batches.{writes_of};
     ghost use Rattle.bw_tree.specs.Trees.{unlinked};
 
@@ -65,6 +66,17 @@ impl Chains {
         ensures few { length self.new.records ≤ 2 ^ 32 }
     {
         append_writes(&mut self.arena, ops, base)
+    }
+
+    /// Gives the records from place `start` on these link words. It takes no memory.
+    pub(crate) fn set_links(&mut self, start: usize, links: &[u64])
+        requires { start + length links.now ≤ length self.old.records }
+        ensures bases { self.new.bases ≡ self.old.bases }
+        ensures deltas { deltas_of self.new.records ≡ deltas_of self.old.records }
+        ensures links { let old = links_of self.old.records in
+            links_of self.new.records ≡ take start old ++ links.now ++ drop (start + length links.now) old }
+    {
+        self.arena.set_links(start, links);
     }
 
     // The record that a word names, if it names one, with the word of what stands under it.
@@ -114,7 +126,12 @@ impl Chains {
     }
 
     /// The writes to a key in a leaf's chain, the newest first.
-    pub(crate) fn writes_at(&self, alloc: Alloc, head: u64, key: &Key) -> Result<Vec<&Write, Alloc>, Memory>
+    pub(crate) fn writes_at(
+        &self,
+        alloc: Alloc,
+        head: u64,
+        key: &Key,
+    ) -> Result<Vec<&Write, Alloc>, Memory>
         requires ends { Ends self.now.bases self.now.records head }
         requires leaf { is_leaf (slot_of_word self.now.bases self.now.records head) ≡ true }
         ensures { IfOk result (λ found. pointed_to found.items ≡ writes_to key.now (writes_over (slot_of_word self.now.bases self.now.records head))) }

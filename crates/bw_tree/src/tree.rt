@@ -5,12 +5,14 @@ ghost use Rattle.std.specs.FinMap.{empty, get};
 use crate::chains::{Chains, FLOOR, Turn};
 use crate::making::{base_pages, separators, words};
 use crate::staging::{Stage, Staged};
+use bw_board::Closed;
 use bw_delta::{Arena, value_as_of};
 use bw_key::{Key, Memory};
 use bw_memory::Alloc;
 use bw_model::{Op, Value};
 use bw_page::{Inner, Leaf, Page, PageId};
 use std::marker::Model;
+use std::mem;
 
 /// Pages, named by identifiers, whose present states are chains of delta records over base pages.
 ///
@@ -44,7 +46,7 @@ impl Tree {
     ghost use Rattle.bw_tree.specs.Turns.{IsTurn, StartsUpto};
     ghost use Rattle.bw_tree.specs.Trees.{IsTree};
     ghost use Rattle.bw_tree.specs.View.{contents_at, contents_with};
-    ghost use Rattle.bw_tree.specs.Stages.{IsPostedStage, accepted, is_adopted, staged_on, undone};
+    ghost use Rattle.bw_tree.specs.Stages.{IsPostedStage, accepted, adopted, is_adopted, staged_on, undone};
     ghost use Rattle.bw_model.specs.Model.{contents_after};
     ghost use Rattle.bw_delta.specs.Batches.{writes_of};
     ghost use Rattle.bw_tree.specs.Making.{AreAbutting, IsOverLeaves, count_from, tree_over};
@@ -205,6 +207,31 @@ impl Tree {
             floor: FLOOR + records as u64,
             records: (self.chains.len() - records) as u64,
         })
+    }
+
+    /// Takes the words that a board was closed with, on which each staged record was posted to the page of its key: its
+    /// `route`. From now on the staged writes stand in the chains, in whatever order each page got them. It takes no
+    /// memory.
+    pub fn adopt(&mut self, closed: Closed)
+        requires { IsPostedStage self.old self.old.staged closed.heads closed.links }
+        ensures contents { (stamp : ℕ) → contents_at self.new stamp ≡ contents_with self.old stamp }
+        ensures root { self.new.root ≡ self.old.root }
+        ensures levels { self.new.levels ≡ self.old.levels }
+        ensures heads { self.new.heads ≡ closed.heads }
+        ensures records { self.new.records ≡ self.old.records }
+        ensures next { self.new.next ≡ self.old.next }
+        ensures staged { self.new.staged ≡ adopted self.old.staged }
+    {
+        let (heads, links, _) = closed.into_parts();
+        if let Some(stage) = self.staged.take() {
+            self.chains.set_links(stage.records, &links);
+            let before = mem::replace(&mut self.heads, heads);
+            self.staged.replace(Stage {
+                records: stage.records,
+                ops: stage.ops,
+                before: Some(before),
+            });
+        }
     }
 
     /// Ends the stage of a batch that was adopted: it stays, and the next stamp is the one behind its operations.

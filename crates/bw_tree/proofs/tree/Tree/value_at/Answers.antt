@@ -23,5 +23,5 @@ pub returns : goal.returns
 returns c =
     if_same c.value_as_of.result _ _
     (found_value c.self.inside.heads.items c.self.inside.chains.bases c.self.inside.chains.records c.self.inside.root c.self.inside.next _ c.self.inside.staged _ c.args.key.now c.route-page.result c.index-head.result.now c.args.stamp _ _ c.self.view_is c.self.invariant.now c.route-page.ensures.home (c.index-head.ensures ∙ ap (λ n. get_or c.self.inside.heads.items n c.index-head.result.now) c.page.view_is)
-     (ap pointed_to c.deref.ensures.value ∙ c.in_ok-found.ensures) c.base_value_at-start.ensures)
+    (ap pointed_to c.deref.ensures.value ∙ c.in_ok-found.ensures) c.base_value_at-start.ensures)
     c.value_as_of.ensures
