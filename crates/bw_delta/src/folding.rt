@@ -1,5 +1,5 @@
 // The pairs of a page as of a stamp.
-ghost use Rattle.std.specs.Prelude.{◌≡◌, T, true, map, filter, IfOk, OnOk, Some, None, if◌then◌else◌};
+ghost use Rattle.std.specs.Prelude.{◌≡◌, T, true, false, map, filter, IfOk, OnOk, Some, None, if◌then◌else◌};
 ghost use Rattle.std.specs.Option.{option_copied, option_or};
 ghost use Rattle.std.specs.FinMap.{find, is_sorted};
 ghost use Rattle.std.specs.BTreeMap as tree;
@@ -51,8 +51,10 @@ fn put_parts(
     low: &Key,
     high: Option<&Key>,
 ) -> Result<(), Memory>
-    ensures { OnOk result ((q : KeyBytes) → is_in_range low.now (option_copied high.entry) q ≡ true →
+    ensures inside { OnOk result ((q : KeyBytes) → is_in_range low.now (option_copied high.entry) q ≡ true →
         tree.get key_cmp values.new q ≡ option_or (value_in (parts_of parts.now) q) (tree.get key_cmp values.old q)) }
+    ensures outside { OnOk result ((q : KeyBytes) → is_in_range low.now (option_copied high.entry) q ≡ false →
+        tree.get key_cmp values.new q ≡ tree.get key_cmp values.old q) }
 {
     for part in parts.iter().rev() {
         put_pairs(values, part.pairs(), low, high)?;
@@ -67,8 +69,10 @@ fn put_pairs(
     low: &Key,
     high: Option<&Key>,
 ) -> Result<(), Memory>
-    ensures { OnOk result ((q : KeyBytes) → is_in_range low.now (option_copied high.entry) q ≡ true →
+    ensures inside { OnOk result ((q : KeyBytes) → is_in_range low.now (option_copied high.entry) q ≡ true →
         tree.get key_cmp values.new q ≡ option_or (find key_cmp q pairs.now) (tree.get key_cmp values.old q)) }
+    ensures outside { OnOk result ((q : KeyBytes) → is_in_range low.now (option_copied high.entry) q ≡ false →
+        tree.get key_cmp values.new q ≡ tree.get key_cmp values.old q) }
 {
     for pair in pairs.iter().rev() {
         put_pair(values, pair, low, high)?;
@@ -83,8 +87,10 @@ fn put_pair(
     low: &Key,
     high: Option<&Key>,
 ) -> Result<(), Memory>
-    ensures { OnOk result ((q : KeyBytes) → is_in_range low.now (option_copied high.entry) q ≡ true →
+    ensures inside { OnOk result ((q : KeyBytes) → is_in_range low.now (option_copied high.entry) q ≡ true →
         tree.get key_cmp values.new q ≡ (if key_eq q pair.now.0 then Some pair.now.1 else tree.get key_cmp values.old q)) }
+    ensures outside { OnOk result ((q : KeyBytes) → is_in_range low.now (option_copied high.entry) q ≡ false →
+        tree.get key_cmp values.new q ≡ tree.get key_cmp values.old q) }
 {
     if !is_within(&pair.0, low, high) {
         return Ok(());
