@@ -1,8 +1,10 @@
 -- A chain with one record more, or fewer.
-use Rattle.std.proofs.Common.{◌≡◌, ℕ, zero, suc, ◌+◌, ◌-◌, ◌^◌, ◌<◌, ◌≤◌, List, [], ◌∷◌, ◌++◌, length, take, drop, get_or, slice_get, Option, Some, None, refl, sym, ap, ◌∙◌, subst, arith, length-append, length-take-le, add-one}
+use Rattle.std.proofs.Common.{◌≡◌, ℕ, zero, suc, ◌+◌, ◌-◌, ◌^◌, ◌<◌, ◌≤◌, Bool, cond, List, [], ◌∷◌, ◌++◌, length, take, drop, get_or, slice_get, Option, Some, None, refl, sym, ap, ◌∙◌, subst, arith, length-append, length-take-le, add-one}
 use Rattle.std.specs.Option.{option_map}
-use Rattle.std.specs.Prelude.{reverse}
+use Rattle.std.specs.Prelude.{reverse, is_some}
 use Rattle.std.proofs.lemmas.List.{map-append, drop_all, length-map, reverse-append}
+use Rattle.bw_key.specs.Order.{KeyBytes}
+use Rattle.bw_model.specs.declared.operations.Action.{Action}
 use Rattle.bw_model.specs.declared.operations.Op.{Op}
 use Rattle.bw_delta.specs.Batches.{stamped, write_of, writes_of}
 use Rattle.bw_delta.specs.Writes.{WriteView}
@@ -229,6 +231,18 @@ writes_more n ops i op lt is = rw add-one (go n ops i lt is)
         ap (λ l. stamped n (write_of o) ++ l) (go (n + 1) ops i (omega arith) is)
         ∙ parted (stamped n (write_of o)) (writes_of (n + 1) (take i ops)) (stamped (n + 1 + i) (write_of op))
         ∙ ap (λ (m : ℕ). (stamped n (write_of o) ++ writes_of (n + 1) (take i ops)) ++ stamped m (write_of op)) (next n i)
+
+-- so many more writes
+pub count_more : (ops : List Op) (i : ℕ) (op : Op) (count count' : ℕ) (b : Bool) → i < length ops → op ≡ get_or ops i op → b ≡ is_some (write_of op) → count' ≡ count + cond b 1 0 →
+    count ≡ length (writes_of 0 (take i ops)) → count' ≡ length (writes_of 0 (take (i + 1) ops))
+count_more ops i op count count' b lt is writes more so =
+    let step : length (writes_of 0 (take (i + 1) ops)) ≡ length (writes_of 0 (take i ops)) + length (stamped (0 + i) (write_of op)) =
+    ap length (writes_more 0 ops i op lt is) ∙ length-append (writes_of 0 (take i ops)) (stamped (0 + i) (write_of op)) in
+    omega (arith, step, so, more ∙ ap (λ t. count + cond t 1 0) writes, one (write_of op))
+  where
+    one : (w : Option (KeyBytes × Action)) → length (stamped (0 + i) w) ≡ cond (is_some w) 1 0
+    one None = refl
+    one (Some w) = refl
 
 pub newest_found : (es : List Entry) (head word at : ℕ) (e : Entry) (v : WriteView) (ws : List WriteView) → IsChain es head → writes_in es ≡ ws → Some e ≡ slice_get es at → at ≡ word - 2 ^ 32 → 2 ^ 32 ≤ word → v ≡ write_in e.0 →
     (n : ℕ) → word ≡ word_of n → Some (v, e.1) ≡ newest_of n ws
