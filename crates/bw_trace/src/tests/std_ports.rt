@@ -69,7 +69,10 @@ fn each_text_is_flushed(rt: HostRuntime) {
     };
     for (flushes, taken) in [(1, 5), (2, 10)] {
         assert!(rt; FromWrite::new(&mut writer).put(b"none\n").is_ok());
-        assert_eq!(rt; (writer.flushes, writer.taken, writer.held), (flushes, taken, 0));
+        assert_eq!(rt;
+            (writer.flushes, writer.taken, writer.held),
+            (flushes, taken, 0)
+        );
     }
     assert!(rt; FromWrite::new(&mut writer).put(b"none\n") == Err(Failed));
 }
