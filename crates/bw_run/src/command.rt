@@ -1,5 +1,5 @@
 // The command line: what its words ask for is done, and the message and the status at the end.
-ghost use Rattle.std.specs.Prelude.{◌≡◌, ◌≢◌, ◌⊎◌, ◌≤◌, IfOk, IfErr, IfSome, IfNone, IsErrOf, map};
+ghost use Rattle.std.specs.Prelude.{◌≡◌, ◌⊎◌, ◌≤◌, IfOk, IfErr, IfSome, IfNone, IsErrOf, map};
 ghost use Rattle.bw_batch.specs.SettingFaults.{first_fault};
 ghost use Rattle.bw_run.specs.Answers.{Answers};
 ghost use Rattle.bw_run.specs.CommandLine.{JobWords, status_for};
@@ -16,8 +16,8 @@ use bw_memory::Alloc;
 use bw_trace::{FromRead, Inlet, Job, Outlet, Source, Summary, TraceFault, run_trace, status};
 use clap::error::{Error, ErrorKind};
 use std::alloc::Global;
+use std::fs;
 use std::rt::Files;
-use std::{fs, io};
 
 /// Does what the words of a command line ask for, the name of the program left out: `run` and `dump` with their
 /// options and the path of a trace, `--help` and `--version`. The path `-`, and none, is `input`. Texts go to `output`,
