@@ -110,6 +110,56 @@ fn other_words_are_no_command(rt: HostRuntime) {
 }
 
 #[test]
+fn what_is_wrong_with_words_is_told(rt: HostRuntime) {
+    let runner = Runner::new(&rt, rt.alloc());
+    let cases: [(&[&'static str], &str); 3] = [
+        (
+            &["bogus"],
+            "error: invalid value 'bogus' for '<JOB>'
+  [possible values: run, dump]
+
+For more information, try '--help'.
+",
+        ),
+        (
+            &[],
+            "error: the following required arguments were not provided:
+  <JOB>
+
+Usage: bw_run run [OPTIONS] [FILE]
+       bw_run dump [OPTIONS] [FILE]
+
+For more information, try '--help'.
+",
+        ),
+        (
+            &["run", "--workers", "x"],
+            "error: invalid value 'x' for '--workers <N>': invalid digit found in string
+
+For more information, try '--help'.
+",
+        ),
+    ];
+    for (words, text) in cases {
+        let mut out = runner.sink();
+        let mut errors = runner.sink();
+        let input = runner.pieces(TWO_BATCHES);
+        let status = run_words(
+            &rt,
+            runner.alloc,
+            words,
+            input,
+            &mut out,
+            &mut errors,
+            TURNS,
+        );
+        assert_eq!(rt; status, 2);
+        runner.expect_text(&out, "");
+        runner.expect_text(&errors, text);
+    }
+}
+
+#[test]
 fn a_message_that_is_not_taken_leaves_the_status(rt: HostRuntime) {
     let runner = Runner::new(&rt, rt.alloc());
     let commands: [(&[&'static str], &str, u8); 4] = [
