@@ -3,7 +3,7 @@ ghost use Rattle.std.specs.Prelude.{◌≡◌, ℕ, ◌≤◌, ◌+◌, ◌^◌,
 ghost use Rattle.std.specs.Option.{option_map};
 ghost use Rattle.bw_delta.specs.History.{pointed_to};
 ghost use Rattle.bw_delta.specs.Batches.{stamped, write_of, writes_of};
-ghost use Rattle.bw_batch.specs.Chains.{write_in, word_of, newest_of};
+ghost use Rattle.bw_batch.specs.Chains.{IsPut, write_in, word_of, newest_of};
 
 use bw_delta::{Arena, Delta, Write};
 use bw_key::Memory;
@@ -193,9 +193,11 @@ fn word_of_first(len: usize) -> u64
 
 // The write that a record is.
 fn put_write(delta: &Delta) -> &Write
+    requires { IsPut delta.now }
     ensures { result.now ≡ write_in delta.now }
 {
     match delta {
         Delta::Put(write) => write,
+        _ => unreachable!(),
     }
 }
