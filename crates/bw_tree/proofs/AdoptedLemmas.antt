@@ -16,7 +16,7 @@ use Rattle.bw_tree.proofs.AdoptLemmas.{ChainOf, contents_after_it, levels_after,
 use Rattle.bw_tree.proofs.GrowthLemmas.{append_extends, drop_front, same_map, still_ends, take_front}
 use Rattle.bw_tree.proofs.PostedLemmas.{posted_length}
 
-take_length : (n : ℕ) (xs : Records) → n ≤ length xs → length (take n xs) ≡ n
+pub take_length : (n : ℕ) (xs : Records) → n ≤ length xs → length (take n xs) ≡ n
 take_length zero [] le = refl
 take_length zero (x ∷ xs) le = refl
 take_length (suc n) [] le = absurd (omega arith)

@@ -17,3 +17,4 @@ pub mod AlikeLemmas
 pub mod RowWritesLemmas
 pub mod AdoptLemmas
 pub mod AdoptedLemmas
+pub mod StagedLemmas

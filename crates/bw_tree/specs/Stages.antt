@@ -6,6 +6,7 @@ use Rattle.bw_delta.specs.Writes.{WriteView}
 use Rattle.bw_delta.specs.Batches.{writes_of}
 use Rattle.bw_tree.specs.Levels.{IsHome}
 use Rattle.bw_tree.specs.View.{TreeView, StageView}
+use Rattle.bw_tree.specs.declared.staging.Staged.{Staged}
 
 -- the tree with a batch staged: its writes are records, and nothing else is another
 abbrev pub staged_on : TreeView → List Op → TreeView
@@ -19,6 +20,16 @@ staged_on tree ops =
 abbrev pub is_adopted : Option StageView → Bool
 is_adopted None = false
 is_adopted (Some stage) = stage.adopted
+
+-- what a tree tells of the batch that is staged; until it is adopted each mapping word is below those of its records
+pub record IsStagedAs (tree : TreeView) (batch : Staged) : Type 0 where
+  pub stage : StageView
+  pub is : tree.staged ≡ Some stage
+  pub base : batch.base ≡ tree.next
+  pub floor : batch.floor ≡ 2 ^ 32 + stage.records
+  pub records : batch.records ≡ length stage.writes
+  pub fits : batch.floor + batch.records ≤ 2 ^ 33
+  pub low : stage.adopted ≡ false → (p : ℕ) → p < length tree.heads → slice_index tree.heads p < batch.floor
 
 -- the stage once its writes stand in the chains
 abbrev pub adopted : Option StageView → Option StageView

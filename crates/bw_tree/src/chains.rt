@@ -1,11 +1,13 @@
 // Base pages and the chains of delta records over them.
-ghost use Rattle.std.specs.Prelude.{◌≡◌, true, slice_get, IfOk};
+ghost use Rattle.std.specs.Prelude.{◌≡◌, ℕ, true, slice_get, Some, IfOk};
 ghost use Rattle.std.specs.Option.{option_copied, option_map};
 ghost use Rattle.bw_delta.specs.Batches.{writes_to};
 ghost use Rattle.bw_delta.specs.History.{pointed_to};
+ghost use Rattle.bw_delta.specs.Writes.{WriteView};
+ghost use Rattle.bw_delta.specs.declared.deltas.Delta.TheVariants.{Put};
 ghost use Rattle.bw_tree.specs.Slots.{is_leaf};
 ghost use Rattle.bw_tree.specs.Reading.{EndsAbove, base_of, writes_over};
-ghost use Rattle.bw_tree.specs.Chains.{Bases, Ends, based, change, plain, record_at, slot_of_word};
+ghost use Rattle.bw_tree.specs.Chains.{Bases, Ends, IsPut, IsWrite, based, change, plain, record_at, slot_of_word};
 ghost use Rattle.bw_tree.specs.Turns.{IsTurn, IsNoWrite, IsOther, IsWithin, StartsUpto, bare, over, plain_at};
 
 use crate::staging::append_writes;
@@ -77,6 +79,17 @@ impl Chains {
             links_of self.new.records ≡ take start old ++ links.now ++ drop (start + length links.now) old }
     {
         self.arena.set_links(start, links);
+    }
+
+    /// The key of the write that a record is.
+    pub(crate) fn key_at(&self, place: usize) -> &Key
+        requires { IsWrite self.now.records place }
+        ensures { (w : WriteView) → (link : ℕ) → slice_get self.now.records place ≡ Some (Put w, link) → result.now ≡ w.key }
+    {
+        match self.arena.get(place) {
+            Some((delta, _)) => written_key(delta),
+            None => unreachable!(),
+        }
     }
 
     // The record that a word names, if it names one, with the word of what stands under it.
@@ -162,6 +175,17 @@ impl Chains {
             Page::Leaf(leaf) => leaf.find(key),
             _ => None,
         }
+    }
+}
+
+// The key of a write.
+fn written_key(delta: &Delta) -> &Key
+    requires { IsPut delta.now }
+    ensures { (w : WriteView) → delta.now ≡ Put w → result.now ≡ w.key }
+{
+    match delta {
+        Delta::Put(write) => &write.key,
+        _ => unreachable!(),
     }
 }
 

@@ -1,5 +1,6 @@
 // The tree.
-ghost use Rattle.std.specs.Prelude.{◌≡◌, ℕ, ◌<◌, ◌≤◌, ◌+◌, ◌-◌, ◌^◌, [], ◌∷◌, true, None, length, take, IfOk, OnOk, OnErr};
+ghost use Rattle.std.specs.Prelude.{◌≡◌, ℕ, ◌<◌, ◌≤◌, ◌+◌, ◌-◌, ◌^◌, [], ◌∷◌, true, Some, None, length, slice_get, take, IfOk, OnOk, OnErr, MatchOption};
+ghost use Rattle.std.specs.Option.{option_map};
 ghost use Rattle.std.specs.FinMap.{empty, get};
 
 use crate::chains::{Chains, FLOOR, Turn};
@@ -45,8 +46,8 @@ impl Tree {
     ghost use Rattle.bw_tree.specs.Levels.{IsHome};
     ghost use Rattle.bw_tree.specs.Turns.{IsTurn, StartsUpto};
     ghost use Rattle.bw_tree.specs.Trees.{IsTree};
-    ghost use Rattle.bw_tree.specs.View.{contents_at, contents_with};
-    ghost use Rattle.bw_tree.specs.Stages.{IsPostedStage, accepted, adopted, is_adopted, staged_on, undone};
+    ghost use Rattle.bw_tree.specs.View.{contents_at, contents_with, staged_writes};
+    ghost use Rattle.bw_tree.specs.Stages.{IsPostedStage, IsStagedAs, accepted, adopted, is_adopted, staged_on, undone};
     ghost use Rattle.bw_model.specs.Model.{contents_after};
     ghost use Rattle.bw_delta.specs.Batches.{writes_of};
     ghost use Rattle.bw_tree.specs.Making.{AreAbutting, IsOverLeaves, count_from, tree_over};
@@ -207,6 +208,29 @@ impl Tree {
             floor: FLOOR + records as u64,
             records: (self.chains.len() - records) as u64,
         })
+    }
+
+    /// The batch that is staged, if one is.
+    pub fn staged(&self) -> Option<Staged>
+        ensures { MatchOption result (self.now.staged ≡ None) (IsStagedAs self.now) }
+    {
+        let stage = self.staged.as_ref()?;
+        Some(Staged {
+            base: self.next,
+            floor: FLOOR + stage.records as u64,
+            records: (self.chains.len() - stage.records) as u64,
+        })
+    }
+
+    /// The key of a staged record, by its place among them. A worker routes it and posts the record there.
+    pub fn staged_key(&self, place: u64) -> &Key
+        requires { place < length (staged_writes self.now.staged) }
+        ensures { option_map (λ w. w.key) (slice_get (staged_writes self.now.staged) place) ≡ Some result.now }
+    {
+        match &self.staged {
+            Some(stage) => self.chains.key_at(stage.records + place as usize),
+            None => unreachable!(),
+        }
     }
 
     /// Takes the words that a board was closed with, on which each staged record was posted to the page of its key: its
