@@ -142,6 +142,8 @@ impl Tree {
     /// for each page. It takes no memory.
     pub fn route(&self, key: &Key) -> PageId
         ensures home { IsHome self.now.slots self.now.levels key.now result }
+        ensures only { (page : ℕ) → IsHome self.now.slots self.now.levels key.now page → page ≡ result }
+        ensures there { result < length self.now.heads }
         ensures leaf { is_leaf (slot_at self.now.slots result) ≡ true }
     {
         let mut page = self.root;
