@@ -1,5 +1,7 @@
 // The tree.
 ghost use Rattle.std.specs.Prelude.{◌≡◌, ℕ, ◌<◌, ◌≤◌, ◌+◌, ◌-◌, ◌^◌, [], ◌∷◌, true, Some, None, length, slice_get, take, IfOk, OnOk, OnErr, MatchOption};
+ghost use Rattle.std.specs.List.{Contains};
+ghost use Rattle.std.specs.List.Sorted.{IsPermutation};
 ghost use Rattle.std.specs.Option.{option_map};
 ghost use Rattle.std.specs.FinMap.{empty, get};
 
@@ -43,11 +45,12 @@ impl Model for Tree {
 
 impl Tree {
     ghost use Rattle.bw_tree.specs.Slots.{slot_at, is_leaf};
-    ghost use Rattle.bw_tree.specs.Levels.{IsHome};
-    ghost use Rattle.bw_tree.specs.Turns.{IsTurn, StartsUpto};
+    ghost use Rattle.bw_tree.specs.Levels.{IsHome, row};
+    ghost use Rattle.bw_tree.specs.Reading.{writes_over};
+    ghost use Rattle.bw_tree.specs.Turns.{IsTurn, StartsUpto, bare};
     ghost use Rattle.bw_tree.specs.Trees.{IsTree};
     ghost use Rattle.bw_tree.specs.View.{contents_at, contents_with, staged_writes};
-    ghost use Rattle.bw_tree.specs.Stages.{IsPostedStage, IsStagedAs, accepted, adopted, is_adopted, staged_on, undone};
+    ghost use Rattle.bw_tree.specs.Stages.{IsPostedStage, IsStagedAs, accepted, adopted, is_adopted, staged_on, undone, writes_with};
     ghost use Rattle.bw_model.specs.Model.{contents_after};
     ghost use Rattle.bw_delta.specs.Batches.{writes_of};
     ghost use Rattle.bw_tree.specs.Making.{AreAbutting, IsOverLeaves, count_from, tree_over};
@@ -241,6 +244,8 @@ impl Tree {
     pub fn adopt(&mut self, closed: Closed)
         requires { IsPostedStage self.old self.old.staged closed.heads closed.links }
         ensures contents { (stamp : ℕ) → contents_at self.new stamp ≡ contents_with self.old stamp }
+        ensures pages { (p : ℕ) → bare (slot_at self.new.slots p) ≡ bare (slot_at self.old.slots p) }
+        ensures writes { (p : ℕ) → Contains (row self.old.levels 0) p → IsPermutation (writes_with self.old p) (writes_over (slot_at self.new.slots p)) }
         ensures root { self.new.root ≡ self.old.root }
         ensures levels { self.new.levels ≡ self.old.levels }
         ensures heads { self.new.heads ≡ closed.heads }
