@@ -47,5 +47,5 @@ pub held_more : (piece n start : ℕ) (b d : BookView) → start < n → start <
 held_more piece n start b d less some e one =
     let x : BookView = takes_piece piece n start b in
     let a = held_lt n start b x less (λ r. (let e = owns_piece piece n start r b in omega arith))
-      (let e = owns_piece piece n start start b in let f = first_left start (min (start + piece) n) start some in let s : one_if (eqb start start) ≡ 1 = ap one_if (eq-eqb start start refl) in omega arith) in
+    (let e = owns_piece piece n start start b in let f = first_left start (min (start + piece) n) start some in let s : one_if (eqb start start) ≡ 1 = ap one_if (eq-eqb start start refl) in omega arith) in
     let same = held_same n d x e in let few = held_few n d one in omega arith

@@ -35,24 +35,29 @@ same_home tree v w same h p r x some at = h p r x (omega (arith, some, ap (posts
 pub home_more : (tree : TreeView) (v w : SeatView) (r page lost : ℕ) (s : List ℕ) (x : ℕ) (key : KeyBytes) → w ≡ posted_over v r page lost s x → option_map (λ (u : WriteView). u.key) (slice_get (staged_writes tree.staged) r) ≡ Some key →
     IsHome tree.slots tree.levels key page → ((q : ℕ) → IsHome tree.slots tree.levels key q → q ≡ page) → ArePostedHome tree v → ArePostedHome tree w
 home_more tree v w r page lost s x key posted has home only h p q u some at = elim (cases_eq q r) [
-    | inr other ↦ h p q u (omega (arith, before, less (eqb page p) (eqb r q) (other_test q r other), some)) at
-    | inl same ↦ elim (cases_eq p page) [
-      | inl here ↦ subst (λ (z : ℕ). IsOneHome tree u z) (sym here) (at_home (one_key (sym (ap (option_map (λ (u : WriteView). u.key)) (sym (ap (slice_get (staged_writes tree.staged)) same) ∙ at)) ∙ has)))
-      | inr away ↦ h p q u (omega (arith, before, elsewhere (eqb page p) (eqb r q) (other_test p page away), some)) at
-    ]
+  | inr other ↦ h p q u (omega (arith, before, less (eqb page p) (eqb r q) (other_test q r other), some)) at
+  | inl same ↦ elim (cases_eq p page) [
+    | inl here ↦ subst (λ (z : ℕ). IsOneHome tree u z) (sym here) (at_home (one_key (sym (ap (option_map (λ (u : WriteView). u.key)) (sym (ap (slice_get (staged_writes tree.staged)) same) ∙ at)) ∙ has)))
+    | inr away ↦ h p q u (omega (arith, before, elsewhere (eqb page p) (eqb r q) (other_test p page away), some)) at
   ]
+]
   where
     before : posts_at p q w.book.posted ≡ posts_at p q v.book.posted + (one_if (eqb page p && eqb r q) + 0)
     before = ap (λ (z : SeatView). posts_at p q z.book.posted) posted ∙ total-append (λ (y : Post). one_if (eqb y.page p && eqb y.rec q)) v.book.posted (post r page lost ∷ [])
+
     other_test : (m n : ℕ) → (m ≡ n → ⊥) → eqb n m ≡ false
     other_test m n e = grind (arith, nat_tests)
+
     less : (a b : Bool) → b ≡ false → one_if (a && b) ≡ 0
     less true b e = ap one_if e
     less false b e = refl
+
     elsewhere : (a b : Bool) → a ≡ false → one_if (a && b) ≡ 0
     elsewhere a b e = ap (λ c. one_if (c && b)) e
+
     one_key : {j k : KeyBytes} → Some j ≡ Some k → j ≡ k
     one_key e = cc
+
     at_home : u.key ≡ key → IsOneHome tree u page
     at_home e = (subst (λ (k : KeyBytes). IsHome tree.slots tree.levels k page) (sym e) home, λ z there. only z (subst (λ (k : KeyBytes). IsHome tree.slots tree.levels k z) e there))
 
@@ -60,16 +65,19 @@ home_more tree v w r page lost s x key posted has home only h p q u some at = el
 posted_somewhere : (r : ℕ) (ps : List Post) → 0 < posts_in r ps → (p : ℕ) × (0 < posts_at p r ps)
 posted_somewhere r [] some = absurd (omega (arith, some))
 posted_somewhere r (x ∷ ps) some = elim (cases_eq x.rec r) [
-    | inl same ↦ (x.page, omega (arith, both (eqb x.page x.page) (eqb x.rec r) (itself x.page) (test x.rec r same)))
-    | inr other ↦ let more = posted_somewhere r ps (omega (arith, some, ap one_if (no_test x.rec r other))) in (more.0, omega (arith, more.1))
-  ]
+  | inl same ↦ (x.page, omega (arith, both (eqb x.page x.page) (eqb x.rec r) (itself x.page) (test x.rec r same)))
+  | inr other ↦ let more = posted_somewhere r ps (omega (arith, some, ap one_if (no_test x.rec r other))) in (more.0, omega (arith, more.1))
+]
   where
     itself : (n : ℕ) → eqb n n ≡ true
     itself n = grind (arith, nat_tests)
+
     test : (m n : ℕ) → m ≡ n → eqb m n ≡ true
     test m n e = grind (arith, nat_tests)
+
     no_test : (m n : ℕ) → (m ≡ n → ⊥) → eqb m n ≡ false
     no_test m n e = grind (arith, nat_tests)
+
     both : (a b : Bool) → a ≡ true → b ≡ true → one_if (a && b) ≡ 1
     both a b e f = ap (λ c. one_if (c && b)) e ∙ ap one_if f
 
@@ -97,8 +105,10 @@ posted_at tree stage v hs ls sw over staged floor homes each closed =
   where
     in_stage : (r : ℕ) (w : WriteView) → slice_get stage.writes r ≡ Some w → slice_get (staged_writes tree.staged) r ≡ Some w
     in_stage r w at = ap (λ (l : List WriteView). slice_get l r) (ap staged_writes staged) ∙ at
+
     within : (r : ℕ) (w : WriteView) → slice_get stage.writes r ≡ Some w → r < v.board.records
     within r w at = omega (arith, over.records, read_within (staged_writes tree.staged) r w (in_stage r w at))
+
     chain : (p : ℕ) → p < length v.board.first → IsPostedTo tree stage ls (slice_index hs p) p
     chain p lt =
         let t = closed.5 p lt in
@@ -108,10 +118,10 @@ posted_at tree stage v hs ls sw over staged floor homes each closed =
           way = subst (λ x. Meets (2 ^ 32 + stage.records) ls (slice_index hs p) t.0 x) last (subst (λ f. Meets f ls (slice_index hs p) t.0 t.1) floor t.2);
           once = t.7;
           here = λ r w at home.
-            let somewhere = posted_somewhere r v.book.posted (omega (arith, closed.4 r (within r w at))) in
-            let one = homes somewhere.0 r w somewhere.1 (in_stage r w at) in
-            let same : p ≡ somewhere.0 = one.1 p home in
-            omega (arith, t.6 r, subst (λ q. 0 < posts_at q r v.book.posted) (sym same) somewhere.1);
+              let somewhere = posted_somewhere r v.book.posted (omega (arith, closed.4 r (within r w at))) in
+              let one = homes somewhere.0 r w somewhere.1 (in_stage r w at) in
+              let same : p ≡ somewhere.0 = one.1 p home in
+              omega (arith, t.6 r, subst (λ q. 0 < posts_at q r v.book.posted) (sym same) somewhere.1);
           only = λ r w at some. (homes p r w (omega (arith, some, t.6 r)) (in_stage r w at)).0;
         }
 

@@ -18,5 +18,5 @@ loop-record-preserved c =
       once = c.post.ensures.sound.0;
       left = left_over c.loop-record.seat c.post.new.seat c.loop-record.record c.args.to _ c.post.result.lost t.0 t.1 i.left (omega (arith, c.loop-record-test.true)) t.2;
       homes = home_more c.args.tree.now c.loop-record.seat c.post.new.seat c.loop-record.record c.route-page.result c.post.result.lost t.0 t.1 c.staged_key.result.now
-        (t.2 ∙ ap (λ p. posted_over c.loop-record.seat c.loop-record.record p c.post.result.lost t.0 t.1) c.page.view_is) c.staged_key.ensures c.route-page.ensures.home c.route-page.ensures.only i.homes;
+          (t.2 ∙ ap (λ p. posted_over c.loop-record.seat c.loop-record.record p c.post.result.lost t.0 t.1) c.page.view_is) c.staged_key.ensures c.route-page.ensures.home c.route-page.ensures.only i.homes;
     }
