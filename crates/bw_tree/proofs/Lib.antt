@@ -7,3 +7,4 @@ pub mod TurnLemmas
 pub mod ReadingLemmas
 pub mod LeafRowLemmas
 pub mod ContentsLemmas
+pub mod PageScanLemmas

@@ -5,3 +5,4 @@ pub mod Chains
 pub mod Turns
 pub mod Reading
 pub mod View
+pub mod Scans
