@@ -75,7 +75,8 @@ impl Leaf {
 
     /// The lower end of the range, which belongs to it.
     pub fn low(&self) -> &Key
-        ensures { result.now ≡ self.now.low }
+        ensures value { result.now ≡ self.now.low }
+        ensures rules { IsPage self.now.low self.now.high self.now.side self.now.pairs }
     {
         &self.low
     }

@@ -4,7 +4,7 @@ use Rattle.bw_key.specs.Order.{KeyBytes}
 use Rattle.bw_tree.specs.Walk.{Leads, walked, ended}
 use Rattle.bw_tree.specs.Slots.{Slot, PageState, Body, Pairs, Children, Free, Gone, Live, slot_at, slot_level, side_of, level_of, children_of, IsSoundBody}
 use Rattle.bw_tree.specs.Levels.{Stands, SideBySide, AreLevels, BeginsWith, FirstChild, StartsWith, row}
-use Rattle.bw_tree.specs.View.{row_from, first_child, first_of, levels_down}
+use Rattle.bw_tree.specs.View.{row_from, first_child, first_of, levels_down, levels_under}
 use Rattle.bw_tree.proofs.WalkLemmas.{walked_is, ended_is, way_short}
 use Rattle.bw_tree.proofs.RowLemmas.{row_way}
 use Rattle.bw_tree.proofs.RouteLemmas.{side_bounded, row_first}
@@ -46,3 +46,19 @@ levels_are slots root levels h (suc n) p within begins =
     ap (λ (l : List ℕ). levels_down slots n c (l ∷ drop (suc (suc n)) levels)) (row_is slots (suc n) [] (row levels (suc n)) p (h.rows (suc n) within) begins)
     ∙ ap (levels_down slots n c) (sym (drop-cons levels (suc n) [] within))
     ∙ levels_are slots root levels h n c lower below
+
+drop_whole : (n : ℕ) (l : List (List ℕ)) → length l ≤ n → drop n l ≡ []
+drop_whole zero [] le = refl
+drop_whole (suc n) [] le = refl
+drop_whole zero (x ∷ l) le = absurd (omega arith)
+drop_whole (suc n) (x ∷ l) le = drop_whole n l (omega arith)
+
+-- the levels that the view computes are those that the pages form
+pub levels_now : (slots : List Slot) (root : ℕ) (levels : List (List ℕ)) → AreLevels slots root levels → levels_under slots root ≡ levels
+levels_now slots root levels h =
+    let n = length levels - 1 in
+    let within : n < length levels = omega (arith, h.some) in
+    let first = row_first slots n [] (row levels n) root (h.rows n within) h.top in
+    let level : slot_level (slot_at slots root) ≡ n = ap slot_level first.1.1.is ∙ first.1.1.at_level in
+    let none_above : drop (suc n) levels ≡ [] = drop_whole (suc n) levels (omega (arith, h.some)) in
+    ap (λ m. levels_down slots m root []) level ∙ ap (λ (l : List (List ℕ)). levels_down slots n root l) (sym none_above) ∙ levels_are slots root levels h n root within h.top

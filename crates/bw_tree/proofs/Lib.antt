@@ -8,3 +8,5 @@ pub mod ReadingLemmas
 pub mod LeafRowLemmas
 pub mod ContentsLemmas
 pub mod PageScanLemmas
+pub mod MakingLemmas
+pub mod OverLemmas

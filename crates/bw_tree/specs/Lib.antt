@@ -6,3 +6,4 @@ pub mod Turns
 pub mod Reading
 pub mod View
 pub mod Scans
+pub mod Making

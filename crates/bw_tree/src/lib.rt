@@ -6,6 +6,7 @@
 #![tactic(auto)]
 
 mod chains;
+mod making;
 mod tree;
 
 pub use tree::Tree;

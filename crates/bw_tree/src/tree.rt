@@ -1,13 +1,14 @@
 // The tree.
-ghost use Rattle.std.specs.Prelude.{◌≡◌, ◌<◌, [], ◌∷◌, true, length, IfOk};
+ghost use Rattle.std.specs.Prelude.{◌≡◌, ◌<◌, ◌-◌, [], ◌∷◌, true, length, IfOk};
 ghost use Rattle.std.specs.FinMap.{empty, get};
 
-use crate::chains::{Chains, Turn};
+use crate::chains::{Chains, FLOOR, Turn};
+use crate::making::{base_pages, separators, words};
 use bw_delta::{Arena, value_as_of};
 use bw_key::{Key, Memory};
 use bw_memory::Alloc;
 use bw_model::Value;
-use bw_page::{Leaf, Page, PageId};
+use bw_page::{Inner, Leaf, Page, PageId};
 use std::marker::Model;
 
 /// Pages, named by identifiers, whose present states are chains of delta records over base pages.
@@ -39,7 +40,8 @@ impl Tree {
     ghost use Rattle.bw_tree.specs.Slots.{slot_at, is_leaf};
     ghost use Rattle.bw_tree.specs.Levels.{IsHome};
     ghost use Rattle.bw_tree.specs.Turns.{IsTurn, StartsUpto};
-    ghost use Rattle.bw_tree.specs.View.{contents_at};
+    ghost use Rattle.bw_tree.specs.View.{IsTree, contents_at};
+    ghost use Rattle.bw_tree.specs.Making.{AreAbutting, IsOverLeaves, count_from, tree_over};
 
     /// The tree of one empty leaf, page 0, which is the root.
     pub fn new(alloc: Alloc) -> Result<Tree, Memory>
@@ -49,17 +51,47 @@ impl Tree {
         ensures records { IfOk result (λ tree. tree.records ≡ 0) }
         ensures next { IfOk result (λ tree. tree.next ≡ 0) }
     {
-        let mut heads = Vec::new(alloc);
-        heads.push(0)?;
-        let mut bases = Vec::new(alloc);
-        bases.push(Some(Page::Leaf(Leaf::empty(alloc))))?;
+        let mut leaves = Vec::new(alloc);
+        leaves.push(Leaf::empty(alloc))?;
+        Tree::from_level(alloc, leaves)
+    }
+
+    /// The tree over these leaves, of which there is at least one: each ends where the next begins, and names it by its
+    /// place as its right neighbour.
+    ///
+    /// The leaf at place i is page i. Where there are more than one, the root is the page behind them, which has all
+    /// of them as its children. After `Memory` the leaves are gone.
+    pub fn from_level(alloc: Alloc, leaves: Vec<Leaf, Alloc>) -> Result<Tree, Memory>
+        requires { AreAbutting 0 [] leaves.items }
+        ensures { IfOk result (λ tree. IsOverLeaves tree leaves.entry.items) }
+    {
+        if leaves.len() as u64 >= FLOOR {
+            return Err(Memory);
+        }
+        let children = separators(alloc, &leaves)?;
+        let mut bases = base_pages(alloc, leaves)?;
+        if bases.len() > 1 {
+            let low = Key::new(alloc, &[]).unwrap();
+            let root = Inner::from_children(1, low, None, None, children);
+            bases.push(Some(Page::Inner(root)))?;
+            return Tree::over(alloc, bases);
+        }
+        Tree::over(alloc, bases)
+    }
+
+    // The tree whose pages are base pages, each named by its place. The last one is the root.
+    fn over(alloc: Alloc, bases: Vec<Option<Page>, Alloc>) -> Result<Tree, Memory>
+        requires { IsTree (count_from 0 (length bases.items)) bases.items [] (length bases.items - 1) 0 }
+        ensures { IfOk result (λ tree. tree ≡ tree_over bases.entry.items) }
+    {
+        let count = bases.len();
         Ok(Tree {
-            heads,
+            heads: words(alloc, count as u64)?,
             chains: Chains {
                 bases,
                 arena: Arena::new(alloc),
             },
-            root: PageId(0),
+            root: PageId((count - 1) as u32),
             next: 0,
         })
     }

@@ -1,0 +1,212 @@
+-- The tree over leaves is lawful.
+use Rattle.std.proofs.Common.{◌≡◌, ℕ, zero, suc, ◌+◌, ◌-◌, ◌<◌, ◌≤◌, ◌^◌, true, false, cond, not, T, List, [], ◌∷◌, ◌++◌, length, map, Option, Some, None, Result, Ok, Err, IfOk, refl, sym, ap, ◌∙◌, subst, arith, nat_lt, length-append}
+use Rattle.std.specs.Prelude.{slice_get}
+use Rattle.std.specs.List.{Contains, AllByRecursion, IsDistinct}
+use Rattle.std.specs.FinMap.{from_entries}
+use Rattle.std.proofs.lemmas.List.{length-map}
+use Rattle.bw_key.specs.Order.{KeyBytes, key_cmp}
+use Rattle.bw_model.specs.Values.{ValueBytes}
+use Rattle.bw_page.specs.Leaves.{LeafView}
+use Rattle.bw_page.specs.Inners.{InnerView, IsInner, IsUpto}
+use Rattle.bw_page.specs.declared.pages.Page.TheVariants.{Leaf as LeafPage, Inner as InnerPage}
+use Rattle.bw_page.proofs.KeyOrder.{below_self}
+use Rattle.bw_delta.specs.Writes.{WriteView}
+use Rattle.bw_delta.specs.History.{HasDistinctStamps}
+use Rattle.bw_delta.specs.ContentsAsOf.{contents_as_of}
+use Rattle.bw_tree.specs.Slots.{Slot, PageState, Children, Live, slot_at, left_of, left_of_slot, children_of, IsSoundPage}
+use Rattle.bw_tree.specs.Levels.{AreLevels, SideBySide, Stands, StartsWith, LeadsBelow, BeginsWith, FirstChild, row}
+use Rattle.bw_tree.specs.Chains.{Bases, Ends, link_of, linked_word}
+use Rattle.bw_tree.specs.Making.{AreAbutting, HasRules, IsOverLeaves, base_of_leaf, count_from, pages_over, pairs_in, terms_from, tree_over}
+use Rattle.bw_tree.specs.View.{TreeView, IsTree, AllEnd, contents_at, levels_under, row_pairs, row_writes}
+use Rattle.bw_tree.proofs.LevelLemmas.{levels_now}
+use Rattle.bw_tree.proofs.MakingLemmas.{StandAt, over_slots, from_none, there_is, counted_word, counted_length, counted_has, slot_there, leaf_there, root_there, leaf_state, leaf_row, leaf_pairs, leaf_writes, term_named, root_rules}
+
+one_state : {s t : PageState} → Live s ≡ Live t → s ≡ t
+one_state e = cc
+
+no_link : (w : ℕ) → link_of [] w ≡ None
+no_link w = elim (nat_lt w 4294967296) as (λ b. linked_word (cond b None None) ≡ None) [ true ↦ refl | false ↦ refl ]
+
+over_ends : (bases : Bases) → length bases ≤ 2 ^ 32 → AllEnd bases [] (count_from 0 (length bases))
+over_ends bases few p word e =
+    let at = counted_word 0 (length bases) p word e in
+    let there : word < length bases = omega (arith, at.0, at.1) in
+    ([], (word, record { way = (refl, no_link word); short = omega arith; within = there; limit = omega (arith, there, few); shaped = tt }))
+
+none_distinct : HasDistinctStamps []
+unfolding IsDistinct
+none_distinct = tt
+
+over_tree : (bases : Bases) (levels : List (List ℕ)) → AreLevels (over_slots bases) (length bases - 1) levels → row_writes (over_slots bases) (row levels 0) ≡ [] → length bases ≤ 2 ^ 32 → IsTree (count_from 0 (length bases)) bases [] (length bases - 1) 0
+over_tree bases levels lawful none few =
+    let now = levels_now (over_slots bases) (length bases - 1) levels lawful in
+    record {
+      ends = over_ends bases few;
+      lawful = subst (AreLevels (over_slots bases) (length bases - 1)) (sym now) lawful;
+      distinct = subst (λ (l : List (List ℕ)). HasDistinctStamps (row_writes (over_slots bases) (row l 0))) (sym now) (subst HasDistinctStamps (sym none) none_distinct);
+      few_records = omega arith;
+      few_pages = omega (arith, few, counted_length 0 (length bases));
+      few_bases = few;
+    }
+
+over_contents : (bases : Bases) (levels : List (List ℕ)) (leaves : List (LeafView ValueBytes)) → AreLevels (over_slots bases) (length bases - 1) levels → row levels 0 ≡ count_from 0 (length leaves) → StandAt (over_slots bases) 0 leaves → contents_at (tree_over bases) 0 ≡ from_entries (pairs_in leaves)
+unfolding contents_as_of
+over_contents bases levels leaves lawful at stand =
+    let now = levels_now (over_slots bases) (length bases - 1) levels lawful in
+    ap (λ (l : List (List ℕ)). from_entries {R = key_cmp} (row_pairs (over_slots bases) (row l 0))) now
+    ∙ ap (λ (ps : List ℕ). from_entries {R = key_cmp} (row_pairs (over_slots bases) ps)) at
+    ∙ ap (from_entries {R = key_cmp}) (leaf_pairs (over_slots bases) 0 leaves stand)
+
+-- what a tree is over: it is lawful, and is the one that was asked for
+pub record StandsOver (bases : Bases) (given : List (LeafView ValueBytes)) : Type 0 where
+  pub tree : IsTree (count_from 0 (length bases)) bases [] (length bases - 1) 0
+  pub over : IsOverLeaves (tree_over bases) given
+
+stand_over : (leaves : List (LeafView ValueBytes)) (more : Bases) → StandAt (over_slots (map base_of_leaf leaves ++ more)) 0 leaves
+stand_over leaves more i l e =
+    let bases = map base_of_leaf leaves ++ more in
+    ap (slot_at (over_slots bases)) (from_none i) ∙ slot_there bases i (base_of_leaf l) (leaf_there leaves more i l e)
+
+alone_over : (l : LeafView ValueBytes) → AreAbutting 0 [] (l ∷ []) → AllByRecursion HasRules (l ∷ []) → StandsOver (map base_of_leaf (l ∷ [])) (l ∷ [])
+alone_over l abut rules =
+    let bases = map base_of_leaf (l ∷ []) in
+    let slots = over_slots bases in
+    let stand : StandAt slots 0 (l ∷ []) = stand_over (l ∷ []) [] in
+    let levels : List (List ℕ) = (0 ∷ []) ∷ [] in
+    let lawful : AreLevels slots 0 levels = record {
+      some = omega arith;
+      top = refl;
+      rows = rows slots (leaf_row slots 0 [] (l ∷ []) stand abut rules);
+      firsts = λ n p c within. absurd (omega (arith, within));
+      terms = λ n p s k c within. absurd (omega (arith, within));
+    } in
+    record {
+      tree = over_tree bases levels lawful (leaf_writes slots 0 (l ∷ []) stand) (omega arith);
+      over = record {
+        contents = over_contents bases levels (l ∷ []) lawful refl stand;
+        leaves = ap (λ (ls : List (List ℕ)). row ls 0) (levels_now slots 0 levels lawful);
+        root = refl;
+        heads = refl;
+        records = refl;
+        next = refl;
+      };
+    }
+  where
+    rows : (slots : List Slot) → SideBySide slots 0 [] (0 ∷ []) → (n : ℕ) → n < 1 → SideBySide slots n [] (row ((0 ∷ []) ∷ []) n)
+    rows slots h zero within = h
+    rows slots h (suc n) within = absurd (omega arith)
+
+pub one_over : (bases : Bases) (leaves : List (LeafView ValueBytes)) → AreAbutting 0 [] leaves → AllByRecursion HasRules leaves → bases ≡ map base_of_leaf leaves → length bases ≤ 1 → StandsOver bases leaves
+one_over bases [] abut rules is few = absurd abut
+one_over bases (l ∷ []) abut rules is few = subst (λ (b : Bases). StandsOver b (l ∷ [])) (sym is) (alone_over l abut rules)
+one_over bases (l ∷ k ∷ leaves) abut rules is few = absurd (omega (arith, few, ap length is, length-map (l ∷ k ∷ leaves) base_of_leaf))
+
+abbrev root_of : List (LeafView ValueBytes) → InnerView
+root_of leaves = record { level = 1; low = []; high = None; side = None; children = terms_from 0 leaves }
+
+abbrev root_state : List (LeafView ValueBytes) → PageState
+root_state leaves = record { low = []; high = None; side = None; body = Children 1 (terms_from 0 leaves) }
+
+module _ (l k : LeafView ValueBytes) (rest : List (LeafView ValueBytes)) (abut : AreAbutting 0 [] (l ∷ k ∷ rest)) (rules : AllByRecursion HasRules (l ∷ k ∷ rest)) where
+  abbrev given : List (LeafView ValueBytes)
+  given = l ∷ k ∷ rest
+
+  abbrev rooted : Bases
+  rooted = map base_of_leaf given ++ Some (InnerPage (root_of given)) ∷ []
+
+  abbrev rooted_slots : List Slot
+  rooted_slots = over_slots rooted
+
+  abbrev two_levels : List (List ℕ)
+  two_levels = count_from 0 (length given) ∷ (length given ∷ []) ∷ []
+
+  rooted_length : length rooted ≡ length given + 1
+  rooted_length = length-append (map base_of_leaf given) (Some (InnerPage (root_of given)) ∷ []) ∙ ap (λ n. n + 1) (length-map given base_of_leaf)
+
+  root_at : slot_at rooted_slots (length given) ≡ Live (root_state given)
+  root_at = slot_there rooted (length given) (Some (InnerPage (root_of given))) (root_there given (InnerPage (root_of given)))
+
+  stand : StandAt rooted_slots 0 given
+  stand = stand_over given (Some (InnerPage (root_of given)) ∷ [])
+
+  root_stands : Stands rooted_slots 1 [] None None (length given)
+  root_stands = record { state = root_state given; is = root_at; sound = root_rules given abut rules; at_level = refl; from_low = refl; to_high = refl; linked = refl }
+
+  rows : (n : ℕ) → n < 2 → SideBySide rooted_slots n [] (row two_levels n)
+  rows zero within = leaf_row rooted_slots 0 [] given stand abut rules
+  rows (suc zero) within = root_stands
+  rows (suc (suc n)) within = absurd (omega arith)
+
+  is_root : (p : ℕ) → Contains (length given ∷ []) p → length given ≡ p
+  is_root p (zero, lt, at) = at
+  is_root p (suc n, lt, at) = absurd (omega (arith, lt))
+
+  root_is : (p : ℕ) (s : PageState) → length given ≡ p → slot_at rooted_slots p ≡ Live s → root_state given ≡ s
+  root_is p s at is = one_state (sym root_at ∙ ap (slot_at rooted_slots) at ∙ is)
+
+  firsts : (n p c : ℕ) → suc n < 2 → BeginsWith (row two_levels (suc n)) p → FirstChild rooted_slots p c → BeginsWith (row two_levels n) c
+  firsts zero p c within begins first =
+      let same = root_is p first.0 begins first.1 in
+      let starts : StartsWith (terms_from 0 given) first.2.0 c = subst (λ (s : PageState). StartsWith (children_of s.body) first.2.0 c) (sym same) first.2.1 in
+      ap (λ (e : KeyBytes × ℕ). e.1) starts
+  firsts (suc n) p c within begins first = absurd (omega arith)
+
+  upto_self : (key : KeyBytes) → IsUpto key key
+  upto_self key = subst (λ b. T (not b)) (sym (below_self key)) tt
+
+  terms : (n p : ℕ) (s : PageState) (key : KeyBytes) (c : ℕ) → suc n < 2 → Contains (row two_levels (suc n)) p → slot_at rooted_slots p ≡ Live s → Contains (children_of s.body) (key, c) → LeadsBelow rooted_slots (row two_levels n) key c
+  terms zero p s key c within has is named =
+      let same = root_is p s (is_root p has) is in
+      let term = term_named 0 given key c (subst (λ (t : PageState). Contains (children_of t.body) (key, c)) (sym same) named) in
+      let leaf : LeafView ValueBytes = term.1 in
+      let at : slot_at rooted_slots c ≡ Live (leaf_state leaf) = ap (slot_at rooted_slots) (sym term.4) ∙ stand term.0 leaf term.2 in
+      record {
+        removed = [];
+        page = c;
+        way = (refl, ap left_of_slot at);
+        in_level = subst (Contains (count_from 0 (length given))) term.4 (counted_has 0 (length given) term.0 (there_is given term.0 leaf term.2));
+        state = leaf_state leaf;
+        is = at;
+        from_low = subst (λ (q : KeyBytes). IsUpto leaf.low q) term.3 (upto_self leaf.low);
+      }
+  terms (suc n) p s key c within has is named = absurd (omega arith)
+
+  rooted_lawful : AreLevels rooted_slots (length rooted - 1) two_levels
+  rooted_lawful = record { some = omega arith; top = omega (arith, rooted_length); rows = rows; firsts = firsts; terms = terms }
+
+  counted : length rooted ≡ length given + 1 → length rooted ≡ pages_over given
+  counted e = omega (arith, e)
+
+  rooted_over : length rooted ≤ 2 ^ 32 → StandsOver rooted given
+  rooted_over few = record {
+    tree = over_tree rooted two_levels rooted_lawful (leaf_writes rooted_slots 0 given stand) few;
+    over = record {
+      contents = over_contents rooted two_levels given rooted_lawful refl stand;
+      leaves = ap (λ (ls : List (List ℕ)). row ls 0) (levels_now rooted_slots (length rooted - 1) two_levels rooted_lawful);
+      root = omega (arith, rooted_length);
+      heads = ap (count_from 0) (counted rooted_length);
+      records = refl;
+      next = refl;
+    };
+  }
+
+inner_is : (r : InnerView) (leaves : List (LeafView ValueBytes)) → r.level ≡ 1 → r.low ≡ [] → r.high ≡ None → r.side ≡ None → r.children ≡ terms_from 0 leaves → r ≡ root_of leaves
+inner_is r leaves level low high side children =
+    ap (λ n. record r { level = n }) level
+    ∙ ap (λ (q : KeyBytes). record { level = 1; low = q; high = r.high; side = r.side; children = r.children }) low
+    ∙ ap (λ (o : Option KeyBytes). record { level = 1; low = []; high = o; side = r.side; children = r.children }) high
+    ∙ ap (λ (o : Option ℕ). record { level = 1; low = []; high = None; side = o; children = r.children }) side
+    ∙ ap (λ (cs : List (KeyBytes × ℕ)). record { level = 1; low = []; high = None; side = None; children = cs }) children
+
+pub more_over : (old bases : Bases) (leaves : List (LeafView ValueBytes)) (r : InnerView) → AreAbutting 0 [] leaves → AllByRecursion HasRules leaves → old ≡ map base_of_leaf leaves → 1 < length old → length leaves < 2 ^ 32 →
+    r.level ≡ 1 → r.low ≡ [] → r.high ≡ None → r.side ≡ None → r.children ≡ terms_from 0 leaves → bases ≡ old ++ Some (InnerPage r) ∷ [] → StandsOver bases leaves
+more_over old bases [] r abut rules is more few level low high side children pushed = absurd abut
+more_over old bases (l ∷ []) r abut rules is more few level low high side children pushed = absurd (omega (arith, more, ap length is, length-map (l ∷ []) base_of_leaf))
+more_over old bases (l ∷ k ∷ rest) r abut rules is more few level low high side children pushed =
+    let all : bases ≡ rooted l k rest abut rules = pushed ∙ ap (λ (b : Bases). b ++ Some (InnerPage r) ∷ []) is ∙ ap (λ q. map base_of_leaf (l ∷ k ∷ rest) ++ Some (InnerPage q) ∷ []) (inner_is r (l ∷ k ∷ rest) level low high side children) in
+    subst (λ (b : Bases). StandsOver b (l ∷ k ∷ rest)) (sym all) (rooted_over l k rest abut rules (omega (arith, few, rooted_length l k rest abut rules)))
+
+-- so, where a call answers that tree
+pub over_ok : {E : Type 0} (r : Result TreeView E) (bases : Bases) (leaves : List (LeafView ValueBytes)) → StandsOver bases leaves → IfOk r (λ tree. tree ≡ tree_over bases) → IfOk r (λ tree. IsOverLeaves tree leaves)
+over_ok (Ok tree) bases leaves so h = subst (λ (t : TreeView). IsOverLeaves t leaves) (sym h) so.over
+over_ok (Err e) bases leaves so h = h

@@ -1,0 +1,43 @@
+// The parts of a tree that is made of leaves.
+ghost use Rattle.std.specs.Prelude.{◌≡◌, ◌≤◌, ◌^◌, length, map, IfOk, OnOk};
+ghost use Rattle.std.specs.List.{AllByRecursion};
+ghost use Rattle.bw_tree.specs.Making.{HasRules, base_of_leaf, count_from, terms_from};
+
+use bw_key::{Key, Memory};
+use bw_memory::Alloc;
+use bw_page::{Leaf, Page, PageId};
+
+/// The separators of a root over leaves: their low keys, each with the place of its leaf.
+pub(crate) fn separators(alloc: Alloc, leaves: &[Leaf]) -> Result<Vec<(Key, PageId), Alloc>, Memory>
+    requires { length leaves.now ≤ 2 ^ 32 }
+    ensures items { IfOk result (λ children. children.items ≡ terms_from 0 leaves.now) }
+    ensures rules { OnOk result (AllByRecursion HasRules leaves.now) }
+{
+    let mut children = Vec::with_capacity(alloc, leaves.len())?;
+    for (place, leaf) in leaves.iter().enumerate() {
+        children.push((leaf.low().copy()?, PageId(place as u32)))?;
+    }
+    Ok(children)
+}
+
+/// Leaves as base pages.
+pub(crate) fn base_pages(alloc: Alloc, leaves: Vec<Leaf, Alloc>) -> Result<Vec<Option<Page>, Alloc>, Memory>
+    ensures { IfOk result (λ bases. bases.items ≡ map base_of_leaf leaves.entry.items) }
+{
+    let mut bases = Vec::with_capacity(alloc, leaves.len())?;
+    for leaf in leaves {
+        bases.push(Some(Page::Leaf(leaf)))?;
+    }
+    Ok(bases)
+}
+
+/// The words of so many base pages.
+pub(crate) fn words(alloc: Alloc, count: u64) -> Result<Vec<u64, Alloc>, Memory>
+    ensures { IfOk result (λ words. words.items ≡ count_from 0 count) }
+{
+    let mut words = Vec::new(alloc);
+    for word in 0..count {
+        words.push(word)?;
+    }
+    Ok(words)
+}
