@@ -8,5 +8,7 @@ pub mod ReadingLemmas
 pub mod LeafRowLemmas
 pub mod ContentsLemmas
 pub mod PageScanLemmas
+pub mod RangeLemmas
+pub mod ScanLemmas
 pub mod MakingLemmas
 pub mod OverLemmas
