@@ -10,5 +10,6 @@ pub mod ContentsLemmas
 pub mod PageScanLemmas
 pub mod RangeLemmas
 pub mod ScanLemmas
+pub mod LeafScanLemmas
 pub mod MakingLemmas
 pub mod OverLemmas

@@ -1,13 +1,19 @@
 // The tree.
-ghost use Rattle.std.specs.Prelude.{◌≡◌, ◌<◌, ◌-◌, [], ◌∷◌, true, length, IfOk};
+ghost use Rattle.std.specs.Prelude.{◌≡◌, ◌<◌, ◌-◌, [], ◌∷◌, ◌++◌, false, true, not, length, min, nat_lt, Some, IfOk, OnOk, MatchOption};
+ghost use Rattle.std.specs.List.{Contains};
+ghost use Rattle.std.specs.Option.{option_copied};
 ghost use Rattle.std.specs.FinMap.{empty, get};
+ghost use Rattle.std.specs.FinMap.Entries.{where_key};
+ghost use Rattle.bw_key.specs.Order.{key_cmp};
+ghost use Rattle.bw_model.specs.Contents.{first_of_range, last_of_range, pairs_of_range};
+ghost use Rattle.bw_tree.specs.Scans.{Reaches};
 
 use crate::chains::{Chains, FLOOR, Turn};
 use crate::making::{base_pages, separators, words};
 use bw_delta::{Arena, value_as_of};
 use bw_key::{Key, Memory};
 use bw_memory::Alloc;
-use bw_model::Value;
+use bw_model::{Pairs, Value};
 use bw_page::{Inner, Leaf, Page, PageId};
 use std::marker::Model;
 
@@ -37,10 +43,11 @@ impl Model for Tree {
 }
 
 impl Tree {
-    ghost use Rattle.bw_tree.specs.Slots.{slot_at, is_leaf};
-    ghost use Rattle.bw_tree.specs.Levels.{IsHome};
+    ghost use Rattle.bw_tree.specs.Slots.{slot_at, is_leaf, side_of_slot};
+    ghost use Rattle.bw_tree.specs.Levels.{IsHome, row};
     ghost use Rattle.bw_tree.specs.Turns.{IsTurn, StartsUpto};
     ghost use Rattle.bw_tree.specs.View.{IsTree, contents_at};
+    ghost use Rattle.bw_tree.specs.Scans.{IsRead, high_of, is_on};
     ghost use Rattle.bw_tree.specs.Making.{AreAbutting, IsOverLeaves, count_from, tree_over};
 
     /// The tree of one empty leaf, page 0, which is the root.
@@ -167,4 +174,125 @@ impl Tree {
         let start = self.chains.base_value_at(head, key);
         value_as_of(alloc, start, &found, stamp)
     }
+    /// The first pairs of a range of keys as of a stamp, in the order of their keys: those from `from` on and below
+    /// `to`, and no more than `most` of them.
+    ///
+    /// From the leaf of `from` on it reads leaf after leaf along the side links, until there are enough pairs or a leaf
+    /// ends the range. Each leaf costs what its pairs and its chain cost, sorted, also where one pair of it is
+    /// answered. Memory is taken for the pairs that are read and for one leaf more, and none by `most`. `Memory` is
+    /// answered where a list, a map or a copy finds none.
+    pub fn scan_at(
+        &self,
+        from: &Key,
+        to: Option<&Key>,
+        most: u64,
+        stamp: u64,
+    ) -> Result<Pairs, Memory>
+        ensures { IfOk result (λ pairs. pairs ≡ first_of_range (contents_at self.now stamp) from.now (option_copied to.entry) most) }
+    {
+        let mut pairs = self.read_range(from, to, Some(most), stamp)?;
+        pairs.truncate(first(pairs.len(), most));
+        Ok(Pairs::from_vec(pairs))
+    }
+
+    /// The last pairs of a range of keys as of a stamp, the greatest key first: those from `from` on and below `to`,
+    /// and no more than `most` of them.
+    ///
+    /// It reads the whole range from its first key on, whatever `most` is, and keeps the end: so it costs as much, in
+    /// time and in memory, as a scan of the range. `Memory` is answered where a list, a map or a copy finds none.
+    pub fn rscan_at(
+        &self,
+        from: &Key,
+        to: Option<&Key>,
+        most: u64,
+        stamp: u64,
+    ) -> Result<Pairs, Memory>
+        ensures { IfOk result (λ pairs. pairs ≡ last_of_range (contents_at self.now stamp) from.now (option_copied to.entry) most) }
+    {
+        let mut pairs = self.read_range(from, to, None, stamp)?;
+        pairs.reverse();
+        pairs.truncate(first(pairs.len(), most));
+        Ok(Pairs::from_vec(pairs))
+    }
+
+    // The pairs of a range as of a stamp, in the order of their keys, those of whole leaves: all, or the first ones, at
+    // least so many.
+    fn read_range(
+        &self,
+        from: &Key,
+        to: Option<&Key>,
+        enough: Option<u64>,
+        stamp: u64,
+    ) -> Result<Vec<(Key, Value), Alloc>, Memory>
+        ensures { IfOk result (λ read. IsRead enough (pairs_of_range (contents_at self.now stamp) from.now (option_copied to.entry)) read.items) }
+    {
+        let mut read = Vec::new(*self.heads.allocator());
+        let mut page = self.route(from);
+        loop {
+            self.read_leaf(page, from, to, stamp, &mut read)?;
+            let Some(next) = self.leaf_after(page, to) else {
+                return Ok(read);
+            };
+            if is_enough(read.len(), enough) {
+                return Ok(read);
+            }
+            page = next;
+        }
+    }
+
+    // Adds the pairs of a range that lie on a leaf, as of a stamp.
+    fn read_leaf(
+        &self,
+        page: PageId,
+        from: &Key,
+        to: Option<&Key>,
+        stamp: u64,
+        read: &mut Vec<(Key, Value), Alloc>,
+    ) -> Result<(), Memory>
+        requires { Contains (row self.now.levels 0) page }
+        ensures { OnOk result (read.new.items ≡ read.old.items ++ where_key key_cmp (is_on (slot_at self.now.slots page)) (pairs_of_range (contents_at self.now stamp) from.now (option_copied to.entry))) }
+    {
+        let head = self.heads[page.0 as usize];
+        let alloc = *self.heads.allocator();
+        let mut pairs = self.chains.pairs_as_of(alloc, head, from, to, stamp)?.into_vec();
+        read.append(&mut pairs)?;
+        Ok(())
+    }
+
+    // The right neighbour of a leaf, where the leaf doesn't reach the end of a range.
+    fn leaf_after(&self, page: PageId, to: Option<&Key>) -> Option<PageId>
+        requires { Contains (row self.now.levels 0) page }
+        ensures { MatchOption result (Reaches (high_of (slot_at self.now.slots page)) (option_copied to.entry)) (λ next. side_of_slot (slot_at self.now.slots page) ≡ Some next) }
+    {
+        let (high, side) = self.chains.end(self.heads[page.0 as usize]);
+        if reaches(high, to) {
+            return None;
+        }
+        side
+    }
+}
+
+// Whether the first range doesn't end before the second.
+fn reaches(high: Option<&Key>, to: Option<&Key>) -> bool
+    ensures { result ≡ true → Reaches (option_copied high.entry) (option_copied to.entry) }
+{
+    match (high, to) {
+        (Some(high), Some(to)) => *to <= *high,
+        (Some(_), None) => false,
+        (None, _) => true,
+    }
+}
+
+// Whether there are as many pairs as are asked for.
+fn is_enough(read: usize, enough: Option<u64>) -> bool
+    ensures { MatchOption enough (result ≡ false) (λ most. result ≡ not (nat_lt read most)) }
+{
+    enough.is_some_and(|most| read as u64 >= most)
+}
+
+// How many of so many pairs a scan answers.
+fn first(pairs: usize, most: u64) -> usize
+    ensures { result ≡ min pairs most }
+{
+    (pairs as u64).min(most) as usize
 }
