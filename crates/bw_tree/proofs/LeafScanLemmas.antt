@@ -1,5 +1,5 @@
 -- A leaf of a tree, from its mapping word, and what a scan makes of it.
-use Rattle.std.proofs.Common.{◌≡◌, ℕ, ◌<◌, ◌≤◌, Bool, true, false, not, T, List, [], ◌∷◌, ◌++◌, length, take, get_or, ltb, Option, Some, None, MatchOption, Result, Ok, Err, IfOk, OnOk, refl, sym, ap, ◌∙◌, subst, arith, Ordering}
+use Rattle.std.proofs.Common.{◌≡◌, ℕ, ◌<◌, ◌≤◌, Bool, true, false, not, T, List, [], ◌++◌, length, take, get_or, ltb, Option, Some, None, MatchOption, refl, sym, ap, ◌∙◌, subst, arith, Ordering}
 use Rattle.std.proofs.lemmas.Bool.Decides.{nat_tests}
 use Rattle.std.proofs.lemmas.List.{length-map}
 use Rattle.std.specs.List.{Contains}
@@ -13,7 +13,7 @@ use Rattle.bw_model.specs.Values.{ValueBytes}
 use Rattle.bw_page.proofs.KeyOrder.{below_upto}
 use Rattle.bw_delta.specs.History.{HasDistinctStamps}
 use Rattle.bw_delta.proofs.Maps.{sorted_in_range}
-use Rattle.bw_tree.specs.Slots.{Slot, Free, Gone, Live, slot_at, is_leaf, side_of_slot}
+use Rattle.bw_tree.specs.Slots.{Slot, slot_at, is_leaf, side_of_slot}
 use Rattle.bw_tree.specs.Levels.{AreLevels, IsHome, row}
 use Rattle.bw_tree.specs.Reading.{writes_over}
 use Rattle.bw_tree.specs.Scans.{ArePairsOn, IsRead, Reaches, high_of, is_on}

@@ -5,9 +5,9 @@ use Rattle.std.specs.Option.{option_or}
 use Rattle.std.specs.Ordering.{is_lt}
 use Rattle.std.specs.FinMap.{find}
 use Rattle.bw_key.specs.Order.{KeyBytes, key_cmp}
-use Rattle.bw_model.specs.Contents.{is_below_end, is_in_range}
+use Rattle.bw_model.specs.Contents.{is_below_end}
 use Rattle.bw_model.specs.Values.{ValueBytes}
-use Rattle.bw_page.proofs.KeyOrder.{below_trans, upto_below, upto_trans}
+use Rattle.bw_page.proofs.KeyOrder.{below_trans, upto_trans}
 use Rattle.bw_page.specs.Leaves.{LeafView}
 use Rattle.bw_page.specs.declared.pages.Page.{Page}
 use Rattle.bw_page.specs.declared.pages.Page.TheVariants.{Leaf as LeafPage}

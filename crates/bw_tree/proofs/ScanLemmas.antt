@@ -1,16 +1,13 @@
 -- The pairs of a range over the leaves of a tree, one leaf after another.
 use Rattle.std.proofs.Common.{◌≡◌, ℕ, zero, suc, ◌<◌, ◌≤◌, Bool, true, false, cond, not, ◌&&◌, ◌||◌, T, List, [], ◌∷◌, ◌++◌, length, get_or, map, take, nat_eq, Option, Some, None, refl, sym, ap, ◌∙◌, subst, arith}
-use Rattle.std.specs.Prelude.{filter, flat_map}
 use Rattle.std.specs.List.{Contains, AllByRecursion, IsDistinct}
 use Rattle.std.specs.Ordering.{is_lt}
-use Rattle.std.specs.FinMap.{find, from_entries, get, entries, entries_sorted, get-entries, is_sorted}
+use Rattle.std.specs.FinMap.{from_entries, get, entries, entries_sorted, get-entries, is_sorted}
 use Rattle.std.specs.FinMap.Entries.{find-where_key, is_sorted-where_key, same_entries, where_key}
-use Rattle.std.proofs.lemmas.Map.Keys.{IsDistinct-head, IsDistinct-tail, IsDistinct-cons}
 use Rattle.bw_key.specs.Order.{KeyBytes, key_cmp, key_cmp_total}
 use Rattle.bw_model.specs.Contents.{Contents, is_below_end, is_in_range, pairs_of_range}
 use Rattle.bw_model.specs.Values.{ValueBytes}
-use Rattle.bw_page.specs.Inners.{IsUpto}
-use Rattle.bw_page.proofs.KeyOrder.{keys_tie, below_back, below_self, below_trans, below_upto, upto_trans}
+use Rattle.bw_page.proofs.KeyOrder.{keys_tie, below_back, below_self, below_trans, upto_trans}
 use Rattle.bw_delta.specs.Writes.{WriteView}
 use Rattle.bw_delta.specs.Batches.{writes_to}
 use Rattle.bw_delta.specs.History.{history, action_at, HasDistinctStamps}
@@ -18,15 +15,15 @@ use Rattle.bw_delta.specs.ContentsAsOf.{contents_as_of}
 use Rattle.bw_delta.proofs.ContentsAsOf.{only_equal_tie}
 use Rattle.bw_delta.proofs.Maps.{find_in_range, sorted_in_range}
 use Rattle.bw_tree.specs.Walk.{walked}
-use Rattle.bw_tree.specs.Slots.{Slot, PageState, Free, Gone, Live, slot_at, side_of, side_of_slot}
+use Rattle.bw_tree.specs.Slots.{Slot, PageState, Live, slot_at, side_of, side_of_slot}
 use Rattle.bw_tree.specs.Levels.{Stands, AreLevels, IsHome, row}
-use Rattle.bw_tree.specs.Reading.{base_of, value_in, writes_over}
+use Rattle.bw_tree.specs.Reading.{value_in, writes_over}
 use Rattle.bw_tree.specs.Scans.{ArePairsOn, Reaches, high_of, is_on}
 use Rattle.bw_tree.specs.View.{row_pairs, row_writes}
 use Rattle.bw_tree.proofs.WalkLemmas.{way_falls}
 use Rattle.bw_tree.proofs.RowLemmas.{InRow, in_row}
 use Rattle.bw_tree.proofs.RouteLemmas.{side_bounded}
-use Rattle.bw_tree.proofs.LeafRowLemmas.{HasNothing, page_outside, wide_of}
+use Rattle.bw_tree.proofs.LeafRowLemmas.{page_outside, wide_of}
 use Rattle.bw_tree.proofs.ContentsLemmas.{home_value}
 use Rattle.bw_tree.proofs.RangeLemmas.{one_then_other, all_of_those, none_of_those, first_of_front}
 
@@ -111,7 +108,7 @@ enough_read slots all found p most passed sorted enough =
     let back = where_key key_cmp (λ k. not (is_below_end high k)) all in
     first_of_front most found back all
     (ap (λ (l : List (KeyBytes × ValueBytes)). l ++ back) passed.so_far
-     ∙ one_then_other (is_below_end high) (λ k. not (is_below_end high k)) (λ k. true) (λ k e. ap not e) (rises high) (λ k. either (is_below_end high k)) all sorted ∙ whole all)
+    ∙ one_then_other (is_below_end high) (λ k. not (is_below_end high k)) (λ k. true) (λ k e. ap not e) (rises high) (λ k. either (is_below_end high k)) all sorted ∙ whole all)
     enough
   where
     either : (b : Bool) → true ≡ (b || not b)
@@ -174,12 +171,12 @@ module _ (slots : List Slot) (root : ℕ) (levels : List (List ℕ)) (lawful : A
             same_entries key_cmp key_cmp_total only_equal_tie pairs (where_key key_cmp (is_on (slot_at slots p)) (pairs_of_range contents from to)) so.sorted
             (is_sorted-where_key key_cmp (is_on (slot_at slots p)) (pairs_of_range contents from to) (sorted_in_range from to (entries contents) (entries_sorted contents)))
             (λ key. so.values key ∙ ap (λ (o : Slot). cond (is_in_range from to key && is_below_end (high_of o) key) (value_in (slot_at slots p) key stamp) None) is
-             ∙ at (is_in_range from to key) (is_lt (key_cmp key s.low)) (is_below_end s.high key) (value_in (slot_at slots p) key stamp) (get contents key)
-               (λ upto below. sym (home_value slots root levels lawful distinct key p stamp (home_of key p s has is upto below))) (none_below key p s has is)
-             ∙ sym (ap (λ (o : Slot). cond (is_on o key) (cond (is_in_range from to key) (get contents key) None) None) is)
-             ∙ ap (λ (v : Option ValueBytes). cond (is_on (slot_at slots p) key) (cond (is_in_range from to key) v None) None) (get-entries contents key)
-             ∙ ap (λ (v : Option ValueBytes). cond (is_on (slot_at slots p) key) v None) (sym (find_in_range from to key (entries contents)))
-             ∙ sym (find-where_key key_cmp (is_on (slot_at slots p)) key (λ x tie. ap (is_on (slot_at slots p)) (sym (keys_tie key x tie))) (pairs_of_range contents from to)))
+            ∙ at (is_in_range from to key) (is_lt (key_cmp key s.low)) (is_below_end s.high key) (value_in (slot_at slots p) key stamp) (get contents key)
+            (λ upto below. sym (home_value slots root levels lawful distinct key p stamp (home_of key p s has is upto below))) (none_below key p s has is)
+            ∙ sym (ap (λ (o : Slot). cond (is_on o key) (cond (is_in_range from to key) (get contents key) None) None) is)
+            ∙ ap (λ (v : Option ValueBytes). cond (is_on (slot_at slots p) key) (cond (is_in_range from to key) v None) None) (get-entries contents key)
+            ∙ ap (λ (v : Option ValueBytes). cond (is_on (slot_at slots p) key) v None) (sym (find_in_range from to key (entries contents)))
+            ∙ sym (find-where_key key_cmp (is_on (slot_at slots p)) key (λ x tie. ap (is_on (slot_at slots p)) (sym (keys_tie key x tie))) (pairs_of_range contents from to)))
           where
             at : (a l h : Bool) (v g : Option ValueBytes) → (l ≡ false → h ≡ true → v ≡ g) → (l ≡ true → v ≡ None) → cond (a && h) v None ≡ cond (not l && h) (cond a g None) None
             at true true true v g same none = none refl
@@ -206,7 +203,7 @@ module _ (slots : List Slot) (root : ℕ) (levels : List (List ℕ)) (lawful : A
     ends_scan from to p found passed reaches =
         passed.so_far
         ∙ all_of_those (is_below_end passed.state.high) (is_in_range from to)
-          (λ k inside. holds _ (subst (λ (o : Slot). T (is_below_end (high_of o) k)) passed.is (reaches k (right_of _ _ (true_holds _ inside))))) (entries contents)
+        (λ k inside. holds _ (subst (λ (o : Slot). T (is_below_end (high_of o) k)) passed.is (reaches k (right_of _ _ (true_holds _ inside))))) (entries contents)
 
   -- with the pairs of a leaf, what is below its end has been read
   pub passes : (all found new : List (KeyBytes × ValueBytes)) (p : ℕ) → T (is_sorted key_cmp all) → Scanning slots levels all found p → new ≡ found ++ where_key key_cmp (is_on (slot_at slots p)) all → HasPassed slots all new p
@@ -216,9 +213,9 @@ module _ (slots : List Slot) (root : ℕ) (levels : List (List ℕ)) (lawful : A
         state = s;
         is = h.is;
         so_far =
-          more ∙ ap (λ (l : List (KeyBytes × ValueBytes)). l ++ where_key key_cmp (is_on (slot_at slots p)) all) h.so_far
-          ∙ ap (λ (o : Slot). where_key key_cmp (λ k. is_lt (key_cmp k s.low)) all ++ where_key key_cmp (is_on o) all) h.is
-          ∙ one_then_other (λ k. is_lt (key_cmp k s.low)) (is_in_range s.low s.high) (is_below_end s.high)
+            more ∙ ap (λ (l : List (KeyBytes × ValueBytes)). l ++ where_key key_cmp (is_on (slot_at slots p)) all) h.so_far
+            ∙ ap (λ (o : Slot). where_key key_cmp (λ k. is_lt (key_cmp k s.low)) all ++ where_key key_cmp (is_on o) all) h.is
+            ∙ one_then_other (λ k. is_lt (key_cmp k s.low)) (is_in_range s.low s.high) (is_below_end s.high)
             (λ k below. ap (λ b. not b && is_below_end s.high k) below)
             (λ a b on above. upto_trans s.low a b (holds_not _ (left_of _ _ (true_holds _ on))) (below_back a b above))
             (λ k. whole k (is_lt (key_cmp k s.low)) refl) all sorted;
@@ -262,8 +259,8 @@ module _ (slots : List Slot) (root : ℕ) (levels : List (List ℕ)) (lawful : A
                   state = st.state;
                   is = st.is;
                   so_far =
-                    passed.so_far ∙ ap (λ (o : Option KeyBytes). where_key key_cmp (is_below_end o) all) (high ∙ e)
-                    ∙ sym (ap (λ (l : KeyBytes). where_key key_cmp (λ x. is_lt (key_cmp x l)) all) st.from_low);
+                      passed.so_far ∙ ap (λ (o : Option KeyBytes). where_key key_cmp (is_below_end o) all) (high ∙ e)
+                      ∙ sym (ap (λ (l : KeyBytes). where_key key_cmp (λ x. is_lt (key_cmp x l)) all) st.from_low);
                 };
                 less = way_falls (side_of slots) (length slots) (side_bounded slots) p q at.way.0 at.way.1.0 at.way.1.1 step;
               }

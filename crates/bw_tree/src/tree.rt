@@ -254,7 +254,10 @@ impl Tree {
     {
         let head = self.heads[page.0 as usize];
         let alloc = *self.heads.allocator();
-        let mut pairs = self.chains.pairs_as_of(alloc, head, from, to, stamp)?.into_vec();
+        let mut pairs = self
+            .chains
+            .pairs_as_of(alloc, head, from, to, stamp)?
+            .into_vec();
         read.append(&mut pairs)?;
         Ok(())
     }

@@ -1,4 +1,4 @@
-use Rattle.std.proofs.Common.{sym, ap}
+use Rattle.std.proofs.Common.{sym}
 use Rattle.bw_tree.proofs.ReadingLemmas.{none_at_other, none_at_base}
 use Rattle.bw_tree.proofs.PageScanLemmas.{passed_write, write_found, writes_found}
 use Rattle.bw_tree.proofs.chains.Chains.writes.Goals as goal

@@ -1,4 +1,4 @@
-use Rattle.std.proofs.Common.{◌≡◌, ◌∙◌, sym, ap, get_or, arith}
+use Rattle.std.proofs.Common.{◌∙◌, sym, ap, get_or, arith}
 use Rattle.std.specs.Option.{option_copied}
 use Rattle.bw_tree.specs.Scans.{high_of}
 use Rattle.bw_tree.specs.Slots.{side_of_slot}
@@ -13,12 +13,12 @@ index-requires c =
 pub end-side-requires-clause-ends : goal.end-side-requires-clause-ends
 end-side-requires-clause-ends c =
     (leaf_at c.self.inside.heads.items c.self.inside.chains.bases c.self.inside.chains.records c.self.inside.root c.self.inside.next _ c.self.view_is c.self.invariant c.args.page c.index.result.now c.requires
-     (c.index.ensures ∙ ap (λ n. get_or c.self.inside.heads.items n c.index.result.now) c.page.view_is)).ends
+    (c.index.ensures ∙ ap (λ n. get_or c.self.inside.heads.items n c.index.result.now) c.page.view_is)).ends
 
 pub end-side-requires-clause-leaf : goal.end-side-requires-clause-leaf
 end-side-requires-clause-leaf c =
     (leaf_at c.self.inside.heads.items c.self.inside.chains.bases c.self.inside.chains.records c.self.inside.root c.self.inside.next _ c.self.view_is c.self.invariant c.args.page c.index.result.now c.requires
-     (c.index.ensures ∙ ap (λ n. get_or c.self.inside.heads.items n c.index.result.now) c.page.view_is)).leaf
+    (c.index.ensures ∙ ap (λ n. get_or c.self.inside.heads.items n c.index.result.now) c.page.view_is)).leaf
 
 pub returns-then-reaches : goal.returns-then-reaches
 returns-then-reaches c =

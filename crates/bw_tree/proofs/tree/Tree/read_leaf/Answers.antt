@@ -1,4 +1,4 @@
-use Rattle.std.proofs.Common.{◌≡◌, ◌∙◌, ap, List, ◌++◌, get_or, arith}
+use Rattle.std.proofs.Common.{◌∙◌, ap, List, ◌++◌, get_or, arith}
 use Rattle.std.specs.Option.{option_copied}
 use Rattle.bw_key.specs.Order.{KeyBytes}
 use Rattle.bw_model.specs.Values.{ValueBytes}
@@ -13,17 +13,17 @@ index-head-requires c =
 pub pairs_as_of-requires-clause-ends : goal.pairs_as_of-requires-clause-ends
 pairs_as_of-requires-clause-ends c =
     (leaf_at c.self.inside.heads.items c.self.inside.chains.bases c.self.inside.chains.records c.self.inside.root c.self.inside.next _ c.self.view_is c.self.invariant c.args.page c.index-head.result.now c.requires
-     (c.index-head.ensures ∙ ap (λ n. get_or c.self.inside.heads.items n c.index-head.result.now) c.page.view_is)).ends
+    (c.index-head.ensures ∙ ap (λ n. get_or c.self.inside.heads.items n c.index-head.result.now) c.page.view_is)).ends
 
 pub pairs_as_of-requires-clause-leaf : goal.pairs_as_of-requires-clause-leaf
 pairs_as_of-requires-clause-leaf c =
     (leaf_at c.self.inside.heads.items c.self.inside.chains.bases c.self.inside.chains.records c.self.inside.root c.self.inside.next _ c.self.view_is c.self.invariant c.args.page c.index-head.result.now c.requires
-     (c.index-head.ensures ∙ ap (λ n. get_or c.self.inside.heads.items n c.index-head.result.now) c.page.view_is)).leaf
+    (c.index-head.ensures ∙ ap (λ n. get_or c.self.inside.heads.items n c.index-head.result.now) c.page.view_is)).leaf
 
 pub pairs_as_of-requires-clause-distinct : goal.pairs_as_of-requires-clause-distinct
 pairs_as_of-requires-clause-distinct c =
     (leaf_at c.self.inside.heads.items c.self.inside.chains.bases c.self.inside.chains.records c.self.inside.root c.self.inside.next _ c.self.view_is c.self.invariant c.args.page c.index-head.result.now c.requires
-     (c.index-head.ensures ∙ ap (λ n. get_or c.self.inside.heads.items n c.index-head.result.now) c.page.view_is)).distinct
+    (c.index-head.ensures ∙ ap (λ n. get_or c.self.inside.heads.items n c.index-head.result.now) c.page.view_is)).distinct
 
 pub returns : goal.returns
 returns c =

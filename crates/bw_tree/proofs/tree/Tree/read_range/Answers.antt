@@ -28,9 +28,9 @@ returns-then-is_enough c =
 pub loop-read-smaller : goal.loop-read-smaller
 loop-read-smaller c =
     (next_read c.self.inside.heads.items c.self.inside.chains.bases c.self.inside.chains.records c.self.inside.root c.self.inside.next _ c.self.view_is c.self.invariant c.args.stamp c.args.from.now (option_copied c.args.to)
-     c.loop-read.page c.in-Some.next c.loop-read.read.items c.read_leaf.new.read.items c.loop-read.invariant c.in_ok-read_leaf.ensures c.in-Some.ensures).less
+    c.loop-read.page c.in-Some.next c.loop-read.read.items c.read_leaf.new.read.items c.loop-read.invariant c.in_ok-read_leaf.ensures c.in-Some.ensures).less
 
 pub loop-read-preserved : goal.loop-read-preserved
 loop-read-preserved c =
     (next_read c.self.inside.heads.items c.self.inside.chains.bases c.self.inside.chains.records c.self.inside.root c.self.inside.next _ c.self.view_is c.self.invariant c.args.stamp c.args.from.now (option_copied c.args.to)
-     c.loop-read.page c.in-Some.next c.loop-read.read.items c.read_leaf.new.read.items c.loop-read.invariant c.in_ok-read_leaf.ensures c.in-Some.ensures).scanning
+    c.loop-read.page c.in-Some.next c.loop-read.read.items c.read_leaf.new.read.items c.loop-read.invariant c.in_ok-read_leaf.ensures c.in-Some.ensures).scanning
