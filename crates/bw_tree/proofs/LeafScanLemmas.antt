@@ -34,23 +34,6 @@ true_holds a e = subst T (sym e) tt
 different : false ≡ true → ⊥
 different e = cc
 
-not_below : (h t : KeyBytes) → is_le (key_cmp t h) ≡ true → is_lt (key_cmp h t) ≡ false
-not_below h t e = by (key_cmp h t) (sym (ap is_le (key_cmp_total.antisymm t h)) ∙ e)
-  where
-    by : (o : Ordering) → is_le (ordering_reverse o) ≡ true → is_lt o ≡ false
-    by Less e = absurd (different e)
-    by Equal e = refl
-    by Greater e = refl
-
--- an end that isn't below the end of a range
-pub reaches_end : (high to : Option KeyBytes) (h t : KeyBytes) → high ≡ Some h → to ≡ Some t → is_le (key_cmp t h) ≡ true → Reaches high to
-reaches_end high to h t is is' upto = λ key below.
-    subst (λ (o : Option KeyBytes). T (is_below_end o key)) (sym is)
-    (true_holds _ (below_upto key t h (holds _ (subst (λ (o : Option KeyBytes). T (is_below_end o key)) is' below)) (not_below h t upto)))
-
-pub reaches_same : (high high' to : Option KeyBytes) → high ≡ high' → Reaches high' to → Reaches high to
-reaches_same high high' to same reaches = subst (λ (o : Option KeyBytes). Reaches o to) (sym same) reaches
-
 -- all of a list has been read, or enough
 pub read_all : (enough : Option ℕ) (all read : List (KeyBytes × ValueBytes)) → read ≡ all → IsRead enough all read
 read_all None all read is = is

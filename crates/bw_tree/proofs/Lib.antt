@@ -7,6 +7,9 @@ pub mod TurnLemmas
 pub mod ReadingLemmas
 pub mod LeafRowLemmas
 pub mod ContentsLemmas
+pub mod EndLemmas
+pub mod BeforeLemmas
+pub mod BeforeTurns
 pub mod PageScanLemmas
 pub mod RangeLemmas
 pub mod ScanLemmas

@@ -6,4 +6,5 @@ pub mod Turns
 pub mod Reading
 pub mod View
 pub mod Scans
+pub mod Before
 pub mod Making

@@ -28,6 +28,11 @@ pub record ArePairsOn (slot : Slot) (low : KeyBytes) (high : Option KeyBytes) (s
 abbrev pub Reaches : Option KeyBytes → Option KeyBytes → Type 0
 Reaches high to = (key : KeyBytes) → T (is_below_end to key) → T (is_below_end high key)
 
+-- a range that ends at all, and below the second end
+abbrev pub EndsBelow : Option KeyBytes → Option KeyBytes → Type 0
+EndsBelow None to = ⊥
+EndsBelow (Some k) to = T (is_below_end to k)
+
 -- what was read of a list: all of it, or where no more than so many count, a list with the same first ones
 abbrev pub IsRead : Option ℕ → List (KeyBytes × ValueBytes) → List (KeyBytes × ValueBytes) → Type 0
 IsRead None all read = read ≡ all

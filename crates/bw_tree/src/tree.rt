@@ -6,9 +6,8 @@ ghost use Rattle.std.specs.FinMap.{empty, get};
 ghost use Rattle.std.specs.FinMap.Entries.{where_key};
 ghost use Rattle.bw_key.specs.Order.{key_cmp};
 ghost use Rattle.bw_model.specs.Contents.{first_of_range, last_of_range, pairs_of_range};
-ghost use Rattle.bw_tree.specs.Scans.{Reaches};
 
-use crate::chains::{Chains, FLOOR, Turn};
+use crate::chains::{Chains, FLOOR, Turn, reaches};
 use crate::making::{base_pages, separators, words};
 use bw_delta::{Arena, value_as_of};
 use bw_key::{Key, Memory};
@@ -47,7 +46,7 @@ impl Tree {
     ghost use Rattle.bw_tree.specs.Levels.{IsHome, row};
     ghost use Rattle.bw_tree.specs.Turns.{IsTurn, StartsUpto};
     ghost use Rattle.bw_tree.specs.View.{IsTree, contents_at};
-    ghost use Rattle.bw_tree.specs.Scans.{IsRead, high_of, is_on};
+    ghost use Rattle.bw_tree.specs.Scans.{IsRead, Reaches, high_of, is_on};
     ghost use Rattle.bw_tree.specs.Making.{AreAbutting, IsOverLeaves, count_from, tree_over};
 
     /// The tree of one empty leaf, page 0, which is the root.
@@ -272,17 +271,6 @@ impl Tree {
             return None;
         }
         side
-    }
-}
-
-// Whether the first range doesn't end before the second.
-fn reaches(high: Option<&Key>, to: Option<&Key>) -> bool
-    ensures { result ≡ true → Reaches (option_copied high.entry) (option_copied to.entry) }
-{
-    match (high, to) {
-        (Some(high), Some(to)) => *to <= *high,
-        (Some(_), None) => false,
-        (None, _) => true,
     }
 }
 

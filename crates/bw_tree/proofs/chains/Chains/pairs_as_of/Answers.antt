@@ -13,5 +13,5 @@ returns c =
     pairs_on_ok slot c.base_leaf.result.now _ c.args.low.now (option_copied c.args.high) (option_copied c.lower_end-end.result) c.args.stamp c.leaf_as_of.result
     (ap pointed_to c.deref.ensures.value ∙ c.in_ok-writes.ensures)
     (λ key. c.lower_end-end.ensures key ∙ ap (λ (o : Option KeyBytes). is_below_end o key && is_below_end (option_copied c.args.high) key) c.end.ensures.high)
-    c.base_leaf.ensures
+    c.base_leaf.ensures.values
     c.leaf_as_of.ensures
