@@ -10,6 +10,8 @@ pub mod ContentsLemmas
 pub mod EndLemmas
 pub mod BeforeLemmas
 pub mod BeforeTurns
+pub mod MarkLemmas
+pub mod BeforeRoutes
 pub mod PageScanLemmas
 pub mod RangeLemmas
 pub mod ScanLemmas

@@ -1,11 +1,11 @@
 // The tree.
-ghost use Rattle.std.specs.Prelude.{◌≡◌, ◌<◌, ◌-◌, [], ◌∷◌, ◌++◌, false, true, not, length, min, nat_lt, Some, IfOk, OnOk, MatchOption};
+ghost use Rattle.std.specs.Prelude.{◌≡◌, ◌<◌, ◌-◌, [], ◌∷◌, ◌++◌, false, true, not, length, min, nat_lt, reverse, take, Some, T, IfOk, OnOk, MatchOption};
 ghost use Rattle.std.specs.List.{Contains};
 ghost use Rattle.std.specs.Option.{option_copied};
 ghost use Rattle.std.specs.FinMap.{empty, get};
 ghost use Rattle.std.specs.FinMap.Entries.{where_key};
-ghost use Rattle.bw_key.specs.Order.{key_cmp};
-ghost use Rattle.bw_model.specs.Contents.{first_of_range, last_of_range, pairs_of_range};
+ghost use Rattle.bw_key.specs.Order.{KeyBytes, key_cmp};
+ghost use Rattle.bw_model.specs.Contents.{first_of_range, is_below_end, last_of_range, pairs_of_range};
 
 use crate::chains::{Chains, FLOOR, Turn, reaches};
 use crate::making::{base_pages, separators, words};
@@ -47,6 +47,7 @@ impl Tree {
     ghost use Rattle.bw_tree.specs.Turns.{IsTurn, StartsUpto};
     ghost use Rattle.bw_tree.specs.View.{IsTree, contents_at};
     ghost use Rattle.bw_tree.specs.Scans.{IsRead, Reaches, high_of, is_on};
+    ghost use Rattle.bw_tree.specs.Before.{IsBefore, IsLinked, StandsForAt, StartsBelow, low_of};
     ghost use Rattle.bw_tree.specs.Making.{AreAbutting, IsOverLeaves, count_from, tree_over};
 
     /// The tree of one empty leaf, page 0, which is the root.
@@ -197,8 +198,9 @@ impl Tree {
     /// The last pairs of a range of keys as of a stamp, the greatest key first: those from `from` on and below `to`,
     /// and no more than `most` of them.
     ///
-    /// It reads the whole range from its first key on, whatever `most` is, and keeps the end: so it costs as much, in
-    /// time and in memory, as a scan of the range. `Memory` is answered where a list, a map or a copy finds none.
+    /// From the leaf that has the last of the range on it reads leaf after leaf back, until there are enough pairs or a
+    /// leaf begins the range. Side links lead to the right alone, so it searches for each leaf from the root. Else the
+    /// costs are those of `scan_at`. `Memory` is answered where a list, a map or a copy finds none.
     pub fn rscan_at(
         &self,
         from: &Key,
@@ -208,8 +210,10 @@ impl Tree {
     ) -> Result<Pairs, Memory>
         ensures { IfOk result (λ pairs. pairs ≡ last_of_range (contents_at self.now stamp) from.now (option_copied to.entry) most) }
     {
-        let mut pairs = self.read_range(from, to, None, stamp)?;
-        pairs.reverse();
+        if !is_below(from, to) {
+            return Ok(Pairs::from_vec(Vec::new(*self.heads.allocator())));
+        }
+        let mut pairs = self.read_back(from, to, most, stamp)?;
         pairs.truncate(first(pairs.len(), most));
         Ok(Pairs::from_vec(pairs))
     }
@@ -272,6 +276,94 @@ impl Tree {
         }
         side
     }
+    // The pairs of a range as of a stamp, the greatest key first, those of whole leaves: all, or at least so many.
+    fn read_back(
+        &self,
+        from: &Key,
+        to: Option<&Key>,
+        most: u64,
+        stamp: u64,
+    ) -> Result<Vec<(Key, Value), Alloc>, Memory>
+        requires { T (is_below_end (option_copied to) from.now) }
+        ensures { IfOk result (λ read. take most read.items ≡ last_of_range (contents_at self.now stamp) from.now (option_copied to.entry) most) }
+    {
+        let mut read = Vec::new(*self.heads.allocator());
+        let mut end = to;
+        loop {
+            let page = self.route_before(end);
+            self.read_leaf_back(page, from, end, stamp, &mut read)?;
+            let low = self.low(page);
+            if *low <= *from {
+                return Ok(read);
+            }
+            if read.len() as u64 >= most {
+                return Ok(read);
+            }
+            end = Some(low);
+        }
+    }
+
+    // Adds the pairs of a range that lie on a leaf, as of a stamp, the greatest key first.
+    fn read_leaf_back(
+        &self,
+        page: PageId,
+        from: &Key,
+        to: Option<&Key>,
+        stamp: u64,
+        read: &mut Vec<(Key, Value), Alloc>,
+    ) -> Result<(), Memory>
+        requires { Contains (row self.now.levels 0) page }
+        ensures { OnOk result (read.new.items ≡ read.old.items ++ reverse (where_key key_cmp (is_on (slot_at self.now.slots page)) (pairs_of_range (contents_at self.now stamp) from.now (option_copied to.entry)))) }
+    {
+        let mut pairs = Vec::new(*self.heads.allocator());
+        self.read_leaf(page, from, to, stamp, &mut pairs)?;
+        pairs.reverse();
+        read.append(&mut pairs)?;
+        Ok(())
+    }
+
+    // Where a leaf's range begins.
+    fn low(&self, page: PageId) -> &Key
+        requires { Contains (row self.now.levels 0) page }
+        ensures { result.now ≡ low_of (slot_at self.now.slots page) }
+    {
+        self.chains.low(self.heads[page.0 as usize])
+    }
+
+    // The leaf whose range has the keys right below an end: the search is that of `route`, by the greatest separator
+    // below the end.
+    fn route_before(&self, end: Option<&Key>) -> PageId
+        requires { T (is_below_end (option_copied end) []) }
+        ensures { IsBefore self.now.slots self.now.levels (option_copied end.entry) result }
+    {
+        let mut page = self.root;
+        loop {
+            match self.turn_before(page, end) {
+                Turn::Here => return page,
+                Turn::Right(next) => page = next,
+                Turn::Down(next) => page = next,
+                Turn::Left(next) => page = next,
+            }
+        }
+    }
+
+    // Where a search for the leaf before an end goes on from a page.
+    fn turn_before(&self, page: PageId, end: Option<&Key>) -> Turn
+        requires there { page < length self.now.slots }
+        requires starts { StartsBelow (slot_at self.now.slots page) (option_copied end) }
+        requires linked { IsLinked (slot_at self.now.slots page) }
+        ensures { (key : KeyBytes) → StandsForAt (option_copied end.entry) key (slot_at self.now.slots page) → IsTurn (slot_at self.now.slots page) key result }
+    {
+        self.chains
+            .turn_before(self.heads[page.0 as usize], end)
+    }
+}
+
+// Whether a key is below the end of a range.
+fn is_below(key: &Key, end: Option<&Key>) -> bool
+    ensures { result ≡ is_below_end (option_copied end.entry) key.now }
+{
+    end.is_none_or(|end| *key < *end)
 }
 
 // Whether there are as many pairs as are asked for.
