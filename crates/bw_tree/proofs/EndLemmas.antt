@@ -17,7 +17,7 @@ true_holds a e = subst T (sym e) tt
 different : false ≡ true → ⊥
 different e = cc
 
-not_below : (h t : KeyBytes) → is_le (key_cmp t h) ≡ true → is_lt (key_cmp h t) ≡ false
+pub not_below : (h t : KeyBytes) → is_le (key_cmp t h) ≡ true → is_lt (key_cmp h t) ≡ false
 not_below h t e = by (key_cmp h t) (sym (ap is_le (key_cmp_total.antisymm t h)) ∙ e)
   where
     by : (o : Ordering) → is_le (ordering_reverse o) ≡ true → is_lt o ≡ false
@@ -34,7 +34,7 @@ reaches_end high to h t is is' upto = λ key below.
 pub reaches_same : (high high' to : Option KeyBytes) → high ≡ high' → Reaches high' to → Reaches high to
 reaches_same high high' to same reaches = subst (λ (o : Option KeyBytes). Reaches o to) (sym same) reaches
 
-no_le : (h t : KeyBytes) → is_le (key_cmp t h) ≡ false → is_lt (key_cmp h t) ≡ true
+pub no_le : (h t : KeyBytes) → is_le (key_cmp t h) ≡ false → is_lt (key_cmp h t) ≡ true
 no_le h t e = by (key_cmp h t) (sym (ap is_le (key_cmp_total.antisymm t h)) ∙ e)
   where
     by : (o : Ordering) → is_le (ordering_reverse o) ≡ false → is_lt o ≡ true

@@ -12,6 +12,7 @@ pub mod BeforeLemmas
 pub mod BeforeTurns
 pub mod MarkLemmas
 pub mod BeforeRoutes
+pub mod BackLemmas
 pub mod PageScanLemmas
 pub mod RangeLemmas
 pub mod ScanLemmas
