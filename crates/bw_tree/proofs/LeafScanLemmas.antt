@@ -16,7 +16,7 @@ use Rattle.bw_delta.proofs.Maps.{sorted_in_range}
 use Rattle.bw_tree.specs.Slots.{Slot, slot_at, is_leaf, side_of_slot}
 use Rattle.bw_tree.specs.Levels.{AreLevels, IsHome, row}
 use Rattle.bw_tree.specs.Reading.{writes_over}
-use Rattle.bw_tree.specs.Scans.{ArePairsOn, IsRead, Reaches, high_of, is_on}
+use Rattle.bw_tree.specs.Scans.{ArePairsOn, Reaches, high_of, is_on}
 use Rattle.bw_tree.specs.Chains.{Bases, Records, Ends, slot_of_word}
 use Rattle.bw_tree.specs.View.{TreeView, IsTree, contents_at, levels_under, slots_of, row_writes}
 use Rattle.bw_tree.proofs.RowLemmas.{InRow}
@@ -33,19 +33,6 @@ true_holds a e = subst T (sym e) tt
 
 different : false ≡ true → ⊥
 different e = cc
-
--- all of a list has been read, or enough
-pub read_all : (enough : Option ℕ) (all read : List (KeyBytes × ValueBytes)) → read ≡ all → IsRead enough all read
-read_all None all read is = is
-read_all (Some most) all read is = ap (take most) is
-
-pub read_enough : (slots : List Slot) (enough : Option ℕ) (all read : List (KeyBytes × ValueBytes)) (p n : ℕ) (r : Bool) → MatchOption enough (r ≡ false) (λ most. r ≡ not (ltb n most)) → r ≡ true → n ≡ length read →
-    HasPassed slots all read p → T (is_sorted key_cmp all) → IsRead enough all read
-read_enough slots None all read p n r answers is len passed sorted = absurd (different (sym answers ∙ is))
-read_enough slots (Some most) all read p n r answers is len passed sorted = enough_read slots all read p most passed sorted (at_least (sym answers ∙ is))
-  where
-    at_least : not (ltb n most) ≡ true → most ≤ length read
-    at_least e = let no_less : most ≤ n = grind (arith, nat_tests) in omega (arith, no_less, len)
 
 -- what is known of a leaf's mapping word
 pub record LeafAt (tree : TreeView) (bases : Bases) (records : Records) (p head : ℕ) : Type 0 where
@@ -129,13 +116,12 @@ module _ (heads : List ℕ) (bases : Bases) (records : Records) (root next : ℕ
     has_passed : (p : ℕ) (found new : List (KeyBytes × ValueBytes)) → Scanning tree.slots tree.levels all_pairs found p → new ≡ found ++ where_key key_cmp (is_on (slot_at tree.slots p)) all_pairs → HasPassed tree.slots all_pairs new p
     has_passed p found new h more = passes tree.slots root tree.levels lawful_here all_pairs found new p range_sorted h more
 
-    pub ends_read : (p : ℕ) (enough : Option ℕ) (found new : List (KeyBytes × ValueBytes)) → Scanning tree.slots tree.levels all_pairs found p → new ≡ found ++ where_key key_cmp (is_on (slot_at tree.slots p)) all_pairs →
-        Reaches (high_of (slot_at tree.slots p)) to → IsRead enough all_pairs new
-    ends_read p enough found new h more reaches = read_all enough all_pairs new (ends_scan tree.slots root tree.levels lawful_here distinct_here stamp from to p new (has_passed p found new h more) reaches)
+    pub ends_read : (p most : ℕ) (found new : List (KeyBytes × ValueBytes)) → Scanning tree.slots tree.levels all_pairs found p → new ≡ found ++ where_key key_cmp (is_on (slot_at tree.slots p)) all_pairs → Reaches (high_of (slot_at tree.slots p)) to →
+        take most new ≡ take most all_pairs
+    ends_read p most found new h more reaches = ap (take most) (ends_scan tree.slots root tree.levels lawful_here distinct_here stamp from to p new (has_passed p found new h more) reaches)
 
-    pub is_enough_read : (p n : ℕ) (enough : Option ℕ) (r : Bool) (found new : List (KeyBytes × ValueBytes)) → Scanning tree.slots tree.levels all_pairs found p → new ≡ found ++ where_key key_cmp (is_on (slot_at tree.slots p)) all_pairs →
-        MatchOption enough (r ≡ false) (λ most. r ≡ not (ltb n most)) → r ≡ true → n ≡ length new → IsRead enough all_pairs new
-    is_enough_read p n enough r found new h more answers full len = read_enough tree.slots enough all_pairs new p n r answers full len (has_passed p found new h more) range_sorted
+    pub is_enough_read : (p most : ℕ) (found new : List (KeyBytes × ValueBytes)) → Scanning tree.slots tree.levels all_pairs found p → new ≡ found ++ where_key key_cmp (is_on (slot_at tree.slots p)) all_pairs → most ≤ length new → take most new ≡ take most all_pairs
+    is_enough_read p most found new h more enough = enough_read tree.slots all_pairs new p most (has_passed p found new h more) range_sorted enough
 
     pub next_read : (p q : ℕ) (found new : List (KeyBytes × ValueBytes)) → Scanning tree.slots tree.levels all_pairs found p → new ≡ found ++ where_key key_cmp (is_on (slot_at tree.slots p)) all_pairs →
         side_of_slot (slot_at tree.slots p) ≡ Some q → NextLeaf tree.slots tree.levels all_pairs new p q

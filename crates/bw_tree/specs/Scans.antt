@@ -1,5 +1,5 @@
 -- The pairs of a range of keys that lie on a page.
-use Rattle.std.specs.Prelude.{◌≡◌, ℕ, Bool, false, ◌&&◌, T, List, take, Option, Some, None, if◌then◌else◌}
+use Rattle.std.specs.Prelude.{◌≡◌, ℕ, Bool, false, ◌&&◌, T, List, Option, Some, None, if◌then◌else◌}
 use Rattle.std.specs.FinMap.{find, is_sorted}
 use Rattle.bw_key.specs.Order.{KeyBytes, key_cmp}
 use Rattle.bw_model.specs.Contents.{is_below_end, is_in_range}
@@ -32,8 +32,3 @@ Reaches high to = (key : KeyBytes) → T (is_below_end to key) → T (is_below_e
 abbrev pub EndsBelow : Option KeyBytes → Option KeyBytes → Type 0
 EndsBelow None to = ⊥
 EndsBelow (Some k) to = T (is_below_end to k)
-
--- what was read of a list: all of it, or where no more than so many count, a list with the same first ones
-abbrev pub IsRead : Option ℕ → List (KeyBytes × ValueBytes) → List (KeyBytes × ValueBytes) → Type 0
-IsRead None all read = read ≡ all
-IsRead (Some most) all read = take most read ≡ take most all

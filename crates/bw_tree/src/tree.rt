@@ -1,5 +1,5 @@
 // The tree.
-ghost use Rattle.std.specs.Prelude.{◌≡◌, ◌<◌, ◌-◌, [], ◌∷◌, ◌++◌, false, true, not, length, min, nat_lt, reverse, take, Some, T, IfOk, OnOk, MatchOption};
+ghost use Rattle.std.specs.Prelude.{◌≡◌, ◌<◌, ◌-◌, [], ◌∷◌, ◌++◌, true, length, min, reverse, take, Some, T, IfOk, OnOk, MatchOption};
 ghost use Rattle.std.specs.List.{Contains};
 ghost use Rattle.std.specs.Option.{option_copied};
 ghost use Rattle.std.specs.FinMap.{empty, get};
@@ -46,7 +46,7 @@ impl Tree {
     ghost use Rattle.bw_tree.specs.Levels.{IsHome, row};
     ghost use Rattle.bw_tree.specs.Turns.{IsTurn, StartsUpto};
     ghost use Rattle.bw_tree.specs.View.{IsTree, contents_at};
-    ghost use Rattle.bw_tree.specs.Scans.{IsRead, Reaches, high_of, is_on};
+    ghost use Rattle.bw_tree.specs.Scans.{Reaches, high_of, is_on};
     ghost use Rattle.bw_tree.specs.Before.{IsBefore, IsLinked, StandsForAt, StartsBelow, low_of};
     ghost use Rattle.bw_tree.specs.Making.{AreAbutting, IsOverLeaves, count_from, tree_over};
 
@@ -190,7 +190,7 @@ impl Tree {
     ) -> Result<Pairs, Memory>
         ensures { IfOk result (λ pairs. pairs ≡ first_of_range (contents_at self.now stamp) from.now (option_copied to.entry) most) }
     {
-        let mut pairs = self.read_range(from, to, Some(most), stamp)?;
+        let mut pairs = self.read_range(from, to, most, stamp)?;
         pairs.truncate(first(pairs.len(), most));
         Ok(Pairs::from_vec(pairs))
     }
@@ -218,16 +218,15 @@ impl Tree {
         Ok(Pairs::from_vec(pairs))
     }
 
-    // The pairs of a range as of a stamp, in the order of their keys, those of whole leaves: all, or the first ones, at
-    // least so many.
+    // The pairs of a range as of a stamp, in the order of their keys, those of whole leaves: all, or at least so many.
     fn read_range(
         &self,
         from: &Key,
         to: Option<&Key>,
-        enough: Option<u64>,
+        most: u64,
         stamp: u64,
     ) -> Result<Vec<(Key, Value), Alloc>, Memory>
-        ensures { IfOk result (λ read. IsRead enough (pairs_of_range (contents_at self.now stamp) from.now (option_copied to.entry)) read.items) }
+        ensures { IfOk result (λ read. take most read.items ≡ first_of_range (contents_at self.now stamp) from.now (option_copied to.entry) most) }
     {
         let mut read = Vec::new(*self.heads.allocator());
         let mut page = self.route(from);
@@ -236,7 +235,7 @@ impl Tree {
             let Some(next) = self.leaf_after(page, to) else {
                 return Ok(read);
             };
-            if is_enough(read.len(), enough) {
+            if read.len() as u64 >= most {
                 return Ok(read);
             }
             page = next;
@@ -364,13 +363,6 @@ fn is_below(key: &Key, end: Option<&Key>) -> bool
     ensures { result ≡ is_below_end (option_copied end.entry) key.now }
 {
     end.is_none_or(|end| *key < *end)
-}
-
-// Whether there are as many pairs as are asked for.
-fn is_enough(read: usize, enough: Option<u64>) -> bool
-    ensures { MatchOption enough (result ≡ false) (λ most. result ≡ not (nat_lt read most)) }
-{
-    enough.is_some_and(|most| read as u64 >= most)
 }
 
 // How many of so many pairs a scan answers.

@@ -17,13 +17,12 @@ leaf_after-requires c = c.loop-read.invariant.has
 pub returns-in_default : goal.returns-in_default
 returns-in_default c =
     ends_read c.self.inside.heads.items c.self.inside.chains.bases c.self.inside.chains.records c.self.inside.root c.self.inside.next _ c.self.view_is c.self.invariant c.args.stamp c.args.from.now (option_copied c.args.to)
-    c.loop-read.page c.args.enough c.loop-read.read.items c.read_leaf.new.read.items c.loop-read.invariant c.in_ok-read_leaf.ensures c.in_default.ensures
+    c.loop-read.page c.args.most c.loop-read.read.items c.read_leaf.new.read.items c.loop-read.invariant c.in_ok-read_leaf.ensures c.in_default.ensures
 
-pub returns-then-is_enough : goal.returns-then-is_enough
-returns-then-is_enough c =
+pub returns-then-len-most : goal.returns-then-len-most
+returns-then-len-most c =
     is_enough_read c.self.inside.heads.items c.self.inside.chains.bases c.self.inside.chains.records c.self.inside.root c.self.inside.next _ c.self.view_is c.self.invariant c.args.stamp c.args.from.now (option_copied c.args.to)
-    c.loop-read.page c.len.result c.args.enough c.is_enough.result c.loop-read.read.items c.read_leaf.new.read.items c.loop-read.invariant c.in_ok-read_leaf.ensures c.is_enough.ensures c.if-is_enough.true
-    (omega (arith, c.len.ensures, c.read_leaf.new.read.ok))
+    c.loop-read.page c.args.most c.loop-read.read.items c.read_leaf.new.read.items c.loop-read.invariant c.in_ok-read_leaf.ensures (omega (arith, c.if-len-most.true, c.len.ensures, c.read_leaf.new.read.ok))
 
 pub loop-read-smaller : goal.loop-read-smaller
 loop-read-smaller c =
