@@ -1,11 +1,11 @@
 -- The pairs of a range over the leaves of a tree, back from one leaf to the one before it.
-use Rattle.std.proofs.Common.{◌≡◌, ℕ, zero, suc, ◌+◌, ◌<◌, ◌≤◌, Bool, true, false, cond, not, ◌&&◌, ◌||◌, T, List, [], ◌∷◌, ◌++◌, length, get_or, reverse, take, Option, Some, None, refl, sym, ap, ◌∙◌, subst, arith}
+use Rattle.std.proofs.Common.{◌≡◌, ℕ, zero, suc, ◌<◌, ◌≤◌, Bool, true, false, cond, not, ◌&&◌, ◌||◌, T, List, [], ◌∷◌, ◌++◌, length, reverse, take, Option, Some, None, refl, sym, ap, ◌∙◌, subst, arith}
 use Rattle.std.specs.Prelude.{filter}
 use Rattle.std.specs.List.{Contains}
 use Rattle.std.specs.Ordering.{is_lt}
-use Rattle.std.specs.FinMap.{entries, entries_sorted, is_sorted}
+use Rattle.std.specs.FinMap.{entries, entries_sorted}
 use Rattle.std.specs.FinMap.Entries.{where_key}
-use Rattle.std.proofs.lemmas.List.{length-reverse, reverse-append}
+use Rattle.std.proofs.lemmas.List.{reverse-append}
 use Rattle.bw_key.specs.Order.{KeyBytes, key_cmp}
 use Rattle.bw_model.specs.Contents.{Contents, is_below_end, is_in_range, pairs_of_range}
 use Rattle.bw_model.specs.Values.{ValueBytes}
@@ -104,9 +104,9 @@ passes_back slots levels m from to end p read new before h more =
     ∙ ap (λ (l : List (KeyBytes × ValueBytes)). reverse (where_key key_cmp later all) ++ reverse l) (on_page ∙ sym here)
     ∙ sym (reverse-append (where_key key_cmp between all) (where_key key_cmp later all))
     ∙ ap reverse (one_then_other between later (from_on s.low)
-                  (λ k is. ap not (holds _ (right_of _ _ (true_holds _ is))))
-                  (λ a b past above. ap (λ c. from_on s.low b && c) (rises end a b past above) ∙ nothing (from_on s.low b))
-                  (λ k. whole k (is_lt (key_cmp k s.low)) (is_below_end end k) refl refl) all (sorted_in_range from to (entries m) (entries_sorted m)))
+    (λ k is. ap not (holds _ (right_of _ _ (true_holds _ is))))
+    (λ a b past above. ap (λ c. from_on s.low b && c) (rises end a b past above) ∙ nothing (from_on s.low b))
+    (λ k. whole k (is_lt (key_cmp k s.low)) (is_below_end end k) refl refl) all (sorted_in_range from to (entries m) (entries_sorted m)))
     ∙ ap (λ (o : Slot). reverse (where_key key_cmp (from_on (low_of o)) all)) (sym before.is)
   where
     s : PageState
@@ -152,7 +152,7 @@ passes_back slots levels m from to end p read new before h more =
     on_page =
         both_tests (is_on (slot_at slots p)) (is_in_range from end) (λ k. is_in_range from end k && from_on s.low k)
         (λ k. page_tests (not (is_lt (key_cmp k from))) (is_below_end end k) (is_lt (key_cmp k s.low)) (is_below_end s.high k) (λ below. holds _ (before.reaches k (true_holds _ below)))
-         ∙ ap (λ (o : Slot). is_in_range from end k && is_on o k) (sym before.is)) (entries m)
+        ∙ ap (λ (o : Slot). is_in_range from end k && is_on o k) (sym before.is)) (entries m)
 
     here : where_key key_cmp between all ≡ where_key key_cmp (λ k. is_in_range from end k && from_on s.low k) (entries m)
     here =
@@ -171,9 +171,9 @@ pub enough_back : (m : Contents ValueBytes) (from low : KeyBytes) (to : Option K
 enough_back m from low to most new passed enough =
     first_of_front most new (reverse (where_key key_cmp (λ k. is_lt (key_cmp k low)) all)) (reverse all)
     (ap (λ (l : List (KeyBytes × ValueBytes)). l ++ reverse (where_key key_cmp (λ k. is_lt (key_cmp k low)) all)) passed
-     ∙ sym (reverse-append (where_key key_cmp (λ k. is_lt (key_cmp k low)) all) (where_key key_cmp (from_on low) all))
-     ∙ ap reverse (one_then_other (λ k. is_lt (key_cmp k low)) (from_on low) (λ k. true) (λ k below. ap not below)
-                   (λ a b on above. upto_trans low a b (holds_not _ (true_holds _ on)) (below_back a b above)) (λ k. either (is_lt (key_cmp k low))) all (sorted_in_range from to (entries m) (entries_sorted m)) ∙ every all))
+    ∙ sym (reverse-append (where_key key_cmp (λ k. is_lt (key_cmp k low)) all) (where_key key_cmp (from_on low) all))
+    ∙ ap reverse (one_then_other (λ k. is_lt (key_cmp k low)) (from_on low) (λ k. true) (λ k below. ap not below)
+    (λ a b on above. upto_trans low a b (holds_not _ (true_holds _ on)) (below_back a b above)) (λ k. either (is_lt (key_cmp k low))) all (sorted_in_range from to (entries m) (entries_sorted m)) ∙ every all))
     enough
   where
     all : List (KeyBytes × ValueBytes)

@@ -1,19 +1,18 @@
 -- The way of a search for the leaf before an end.
-use Rattle.std.proofs.Common.{◌≡◌, ℕ, Bool, true, false, not, T, List, [], Option, Some, None, is_some, refl, sym, ap, ◌∙◌, subst}
+use Rattle.std.proofs.Common.{◌≡◌, ℕ, Bool, true, false, not, T, List, [], Option, Some, None, is_some, refl, sym, ◌∙◌, subst}
 use Rattle.std.specs.Ordering.{is_lt}
 use Rattle.bw_key.specs.Order.{KeyBytes, key_cmp}
 use Rattle.bw_model.specs.Contents.{is_below_end}
 use Rattle.bw_page.specs.Inners.{IsUpto}
 use Rattle.bw_page.proofs.KeyOrder.{below_upto}
-use Rattle.bw_tree.specs.declared.chains.Turn.{Turn}
 use Rattle.bw_tree.specs.declared.chains.Turn.TheVariants.{Here, Right, Down, Left}
 use Rattle.bw_tree.specs.Slots.{Slot, PageState, Body, Pairs, Children, Free, Gone, Live, slot_at, IsSoundBody}
-use Rattle.bw_tree.specs.Levels.{AreLevels, IsHome, IsReached, row}
+use Rattle.bw_tree.specs.Levels.{AreLevels, IsHome, row}
 use Rattle.bw_tree.specs.Scans.{Reaches}
 use Rattle.bw_tree.specs.Before.{IsBefore, IsLinked, StandsForAt, StartsBelow}
 use Rattle.bw_tree.specs.Turns.{IsTurn, StartsUpto}
-use Rattle.bw_tree.proofs.RowLemmas.{InRow, in_row}
-use Rattle.bw_tree.proofs.RouteLemmas.{Sought, Next, rank, root_sought, stands_on, sought_upto, turned_right, turned_down, turned_left, turned_here}
+use Rattle.bw_tree.proofs.RowLemmas.{in_row}
+use Rattle.bw_tree.proofs.RouteLemmas.{Sought, Next, root_sought, stands_on, sought_upto, turned_right, turned_down, turned_left, turned_here}
 use Rattle.bw_tree.proofs.BeforeLemmas.{upto_end}
 use Rattle.bw_tree.proofs.MarkLemmas.{mark, mark_below, mark_stands}
 

@@ -1,15 +1,13 @@
 -- Where the search for the leaf before an end goes on from a page.
-use Rattle.std.proofs.Common.{◌≡◌, ℕ, Bool, true, false, T, List, [], ◌∷◌, Option, Some, None, MatchOption, refl, sym, ap, ◌∙◌, subst}
+use Rattle.std.proofs.Common.{◌≡◌, ℕ, Bool, true, false, T, List, Option, Some, None, MatchOption, refl, sym, ◌∙◌, subst}
 use Rattle.std.specs.List.{Contains}
 use Rattle.std.specs.Ordering.{is_lt}
 use Rattle.bw_key.specs.Order.{KeyBytes, key_cmp}
 use Rattle.bw_delta.proofs.Filters.{kept}
 use Rattle.bw_delta.specs.declared.deltas.Delta.TheVariants.{Split}
-use Rattle.bw_page.specs.Inners.{IsUpto}
-use Rattle.bw_model.specs.Contents.{is_below_end}
 use Rattle.bw_tree.specs.declared.chains.Turn.{Turn}
 use Rattle.bw_tree.specs.declared.chains.Turn.TheVariants.{Here, Right, Down, Left}
-use Rattle.bw_tree.specs.Slots.{Slot, PageState, Body, Pairs, Children, Free, Gone, Live, children_of}
+use Rattle.bw_tree.specs.Slots.{Slot, Body, Pairs, Children, Free, Gone, Live, children_of}
 use Rattle.bw_tree.specs.Chains.{Bases, change, body_below}
 use Rattle.bw_tree.specs.Turns.{IsTurn, IsWithin, bare, bare_body}
 use Rattle.bw_tree.specs.Scans.{Reaches, high_of}
@@ -46,10 +44,10 @@ stays_split bases Free sep to end key t reaches stands within = absurd (within t
 stays_split bases (Gone l) sep to end key t reaches stands within = gone_turn l key t (within tt)
 stays_split bases (Live s) sep to end key t reaches stands within =
     split_before bases (Live s) sep key to t (holds _ (reaches key stands.below)) (within (record {
-        below = stands.below;
-        upper = λ k e. absurd (no_key e);
-        separators = λ c has below. stands.separators c (children_below s.body sep c has (holds _ (reaches c.0 below))) below;
-      }))
+      below = stands.below;
+      upper = λ k e. absurd (no_key e);
+      separators = λ c has below. stands.separators c (children_below s.body sep c has (holds _ (reaches c.0 below))) below;
+    }))
 
 -- a key stands for an end at a page whatever the writes over it
 bare_children : (b : Body) → children_of (bare_body b) ≡ children_of b
@@ -70,7 +68,7 @@ bare_stands (Live s) end key h = subst (λ (cs : List (KeyBytes × ℕ)). Stands
 pub turns_alike : (slot other : Slot) (end : Option KeyBytes) (key : KeyBytes) (t : Turn) → bare slot ≡ bare other → (StandsForAt end key other → IsTurn other key t) → StandsForAt end key slot → IsTurn slot key t
 turns_alike slot other end key t same turned stands =
     turn_bare slot key t (subst (λ (o : Slot). IsTurn o key t) (sym same)
-      (bare_turn other key t (turned (bare_stands other end key (subst (λ (o : Slot). StandsForAt end key o) same (stands_bare slot end key stands))))))
+    (bare_turn other key t (turned (bare_stands other end key (subst (λ (o : Slot). StandsForAt end key o) same (stands_bare slot end key stands))))))
 
 pub none_there : {X : Type 0} (P : Type 0) (Q : X → Type 0) (o m : Option X) → m ≡ None → m ≡ o → MatchOption o P Q → P
 none_there P Q None m none is h = h

@@ -1,5 +1,5 @@
 -- Ends of ranges of keys.
-use Rattle.std.proofs.Common.{◌≡◌, Bool, true, false, T, Option, Some, None, refl, sym, ap, ◌∙◌, subst, Ordering}
+use Rattle.std.proofs.Common.{◌≡◌, Bool, true, false, T, Option, Some, refl, sym, ap, ◌∙◌, subst, Ordering}
 use Rattle.std.specs.Ordering.{is_le, is_lt, ordering_reverse}
 use Rattle.std.specs.declared.cmp.Ordering.TheVariants.{Less, Equal, Greater}
 use Rattle.bw_key.specs.Order.{KeyBytes, key_cmp, key_cmp_total}

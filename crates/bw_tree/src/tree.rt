@@ -353,8 +353,7 @@ impl Tree {
         requires linked { IsLinked (slot_at self.now.slots page) }
         ensures { (key : KeyBytes) → StandsForAt (option_copied end.entry) key (slot_at self.now.slots page) → IsTurn (slot_at self.now.slots page) key result }
     {
-        self.chains
-            .turn_before(self.heads[page.0 as usize], end)
+        self.chains.turn_before(self.heads[page.0 as usize], end)
     }
 }
 

@@ -13,5 +13,5 @@ returns c = λ key stands.
     let same = c.children-children.ensures.value in
     subst (λ (l : List (KeyBytes × ℕ)). IsLastUpto key inner.children (get_or l (c.count_before.result - 1) c.index-children-count_before.result).1) (sym same)
     (last_child inner.level inner.low inner.high inner.side inner.children end c.count_before.result c.index-children-count_before.result c.children-children.ensures.rules c.requires
-     (c.count_before.ensures.value ∙ ap (λ (l : List (KeyBytes × ℕ)). count_below end l) same)
-     (subst (λ (l : List (KeyBytes × ℕ)). c.count_before.result ≤ length l) same c.count_before.ensures.bound) key stands)
+    (c.count_before.ensures.value ∙ ap (λ (l : List (KeyBytes × ℕ)). count_below end l) same)
+    (subst (λ (l : List (KeyBytes × ℕ)). c.count_before.result ≤ length l) same c.count_before.ensures.bound) key stands)

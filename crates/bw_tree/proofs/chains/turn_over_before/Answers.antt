@@ -11,4 +11,4 @@ pub returns-then-reaches : goal.returns-then-reaches
 returns-then-reaches c = λ bases key stands.
     subst (λ (d : Delta). IsTurn (change bases d (plain c.args.base.now)) key c.turn_within_before.result) (sym c.in-Split.is)
     (stays_split bases (plain c.args.base.now) c.in-Split.sep c.in-Split.to (option_copied c.args.end) key c.turn_within_before.result (c.reaches.ensures.reached c.if-reaches.true)
-     (subst (λ (d : Delta). StandsForAt (option_copied c.args.end) key (change bases d (plain c.args.base.now))) c.in-Split.is stands) (c.turn_within_before.ensures key))
+    (subst (λ (d : Delta). StandsForAt (option_copied c.args.end) key (change bases d (plain c.args.base.now))) c.in-Split.is stands) (c.turn_within_before.ensures key))

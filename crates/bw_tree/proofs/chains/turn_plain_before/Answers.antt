@@ -13,8 +13,8 @@ returns-in-None c = λ key stands.
     let end = option_copied c.args.end in
     stays (plain c.args.base.now) end key c.turn_within_before.result
     (elim c.match-base.branch [
-       | in-Leaf w ↦ reaches_same _ _ end (ap (λ (p : Page). high_of (plain p)) w.in-Leaf.is ∙ sym w.high.ensures) (none_there _ _ _ _ c.in-None.is w.next-is w.side_before-next.ensures)
-       | in-Inner w ↦ reaches_same _ _ end (ap (λ (p : Page). high_of (plain p)) w.in-Inner.is ∙ sym w.high-in-Inner.ensures) (none_there _ _ _ _ c.in-None.is w.next-is w.side_before-next-in-Inner.ensures)
-       | in-Gone w ↦ reaches_same _ _ end (ap (λ (p : Page). high_of (plain p)) w.in-Gone.is) (λ k below. tt)
-     ])
+      | in-Leaf w ↦ reaches_same _ _ end (ap (λ (p : Page). high_of (plain p)) w.in-Leaf.is ∙ sym w.high.ensures) (none_there _ _ _ _ c.in-None.is w.next-is w.side_before-next.ensures)
+      | in-Inner w ↦ reaches_same _ _ end (ap (λ (p : Page). high_of (plain p)) w.in-Inner.is ∙ sym w.high-in-Inner.ensures) (none_there _ _ _ _ c.in-None.is w.next-is w.side_before-next-in-Inner.ensures)
+      | in-Gone w ↦ reaches_same _ _ end (ap (λ (p : Page). high_of (plain p)) w.in-Gone.is) (λ k below. tt)
+    ])
     stands (c.turn_within_before.ensures key)

@@ -1,4 +1,4 @@
-use Rattle.std.proofs.Common.{◌≡◌, ◌∙◌, sym, ap, get_or, arith}
+use Rattle.std.proofs.Common.{◌∙◌, sym, ap, get_or, arith}
 use Rattle.bw_tree.specs.Before.{low_of}
 use Rattle.bw_tree.proofs.LeafScanLemmas.{leaf_held, leaf_at}
 use Rattle.bw_tree.proofs.tree.Tree.low.Goals as goal
@@ -11,15 +11,15 @@ index-requires c =
 pub low-requires-clause-ends : goal.low-requires-clause-ends
 low-requires-clause-ends c =
     (leaf_at c.self.inside.heads.items c.self.inside.chains.bases c.self.inside.chains.records c.self.inside.root c.self.inside.next _ c.self.view_is c.self.invariant c.args.page c.index.result.now c.requires
-     (c.index.ensures ∙ ap (λ n. get_or c.self.inside.heads.items n c.index.result.now) c.page.view_is)).ends
+    (c.index.ensures ∙ ap (λ n. get_or c.self.inside.heads.items n c.index.result.now) c.page.view_is)).ends
 
 pub low-requires-clause-leaf : goal.low-requires-clause-leaf
 low-requires-clause-leaf c =
     (leaf_at c.self.inside.heads.items c.self.inside.chains.bases c.self.inside.chains.records c.self.inside.root c.self.inside.next _ c.self.view_is c.self.invariant c.args.page c.index.result.now c.requires
-     (c.index.ensures ∙ ap (λ n. get_or c.self.inside.heads.items n c.index.result.now) c.page.view_is)).leaf
+    (c.index.ensures ∙ ap (λ n. get_or c.self.inside.heads.items n c.index.result.now) c.page.view_is)).leaf
 
 pub returns : goal.returns
 returns c =
     c.low.ensures
     ∙ sym (ap low_of (leaf_at c.self.inside.heads.items c.self.inside.chains.bases c.self.inside.chains.records c.self.inside.root c.self.inside.next _ c.self.view_is c.self.invariant c.args.page c.index.result.now c.requires
-                      (c.index.ensures ∙ ap (λ n. get_or c.self.inside.heads.items n c.index.result.now) c.page.view_is)).slot)
+    (c.index.ensures ∙ ap (λ n. get_or c.self.inside.heads.items n c.index.result.now) c.page.view_is)).slot)
