@@ -211,6 +211,7 @@ impl Chains {
             _ => unreachable!(),
         }
     }
+
     /// Where a search for the leaf before an end goes on from a page.
     pub(crate) fn turn_before(&self, head: u64, end: Option<&Key>) -> Turn
         requires ends { Ends self.now.bases self.now.records head }

@@ -174,6 +174,7 @@ impl Tree {
         let start = self.chains.base_value_at(head, key);
         value_as_of(alloc, start, &found, stamp)
     }
+
     /// The first pairs of a range of keys as of a stamp, in the order of their keys: those from `from` on and below
     /// `to`, and no more than `most` of them.
     ///
@@ -275,6 +276,7 @@ impl Tree {
         }
         side
     }
+
     // The pairs of a range as of a stamp, the greatest key first, those of whole leaves: all, or at least so many.
     fn read_back(
         &self,
