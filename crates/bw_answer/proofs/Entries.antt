@@ -149,6 +149,18 @@ still_of_key ps n m p s d r lt is answers taken =
     equal true e = refl
     equal false e = sym e
 
+pub of_other_key : (ps : List Point) (n m : ℕ) (p s d : Point) (r : Bool) → n < length ps → m < length ps →
+    r ≡ not (key_eq (get_or ps m p).key.now (get_or ps n s).key.now) → r ≡ true → key_eq (get_or ps n d).key.now (get_or ps m d).key.now ≡ false
+of_other_key ps n m p s d r lt lt' answers taken =
+    key_eq_equiv.symm (get_or ps n d).key.now (get_or ps m d).key.now
+    ∙ ap (λ (q : Point). key_eq q.key.now (get_or ps n d).key.now) (get_or_default ps m d p lt')
+    ∙ ap (λ (q : Point). key_eq (get_or ps m p).key.now q.key.now) (get_or_default ps n d s lt)
+    ∙ differs (key_eq (get_or ps m p).key.now (get_or ps n s).key.now) (sym answers ∙ taken)
+  where
+    differs : (b : Bool) → not b ≡ true → b ≡ false
+    differs true e = sym e
+    differs false e = refl
+
 pub seen_length : (ps : List Point) → length (entries_of ps) ≡ length ps
 seen_length [] = refl
 seen_length (p ∷ ps) = ap suc (seen_length ps)

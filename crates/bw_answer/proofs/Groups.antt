@@ -80,16 +80,18 @@ module _ {X : Type 0} (p : X → Bool) where
 abbrev pub IsGrouped : List (Bor WriteView) → Type 0
 IsGrouped refs = IsSortedBy (λ v w. is_lt (key_cmp v.key w.key)) (pointed_to refs)
 
+-- a list that is sorted by key, where its elements are seen through a function
+pub sorted_seen : {X Y : Type 0} (f : X → Y) (key : Y → KeyBytes) (any : Y → X) (xs : List X) → IsSortedBy (is_below (λ x. key (f x))) xs → IsSortedBy (is_below key) (map f xs)
+sorted_seen f key any xs sorted k d low up =
+    let size = length-map xs f in
+    let first = get_or-map f xs k (any d) d (omega (arith, up, size)) in
+    let second = get_or-map f xs (k + 1) (any d) d (omega (arith, up, size)) in
+    ap (λ y. is_lt (key_cmp (key (get_or (map f xs) (k + 1) d)) (key y))) first
+    ∙ ap (λ y. is_lt (key_cmp (key y) (key (f (get_or xs k (any d)))))) second
+    ∙ sorted k (any d) low (omega (arith, up, size))
+
 pub grouped_seen : (refs : List (Bor WriteView)) → IsSortedBy (is_below (λ (r : Bor WriteView). r.now.key)) refs → IsGrouped refs
-grouped_seen refs sorted k d low up =
-    let now = λ (r : Bor WriteView). r.now in
-    let size = length-map refs now in
-    let e : Bor WriteView = record { ref_ptr = (0, 0); now = d } in
-    let first = get_or-map now refs k e d (omega (arith, up, size)) in
-    let second = get_or-map now refs (k + 1) e d (omega (arith, up, size)) in
-    ap (λ (w : WriteView). is_lt (key_cmp (get_or (pointed_to refs) (k + 1) d).key w.key)) first
-    ∙ ap (λ (w : WriteView). is_lt (key_cmp w.key (get_or refs k e).now.key)) second
-    ∙ sorted k e low (omega (arith, up, size))
+grouped_seen refs sorted = sorted_seen (λ (r : Bor WriteView). r.now) (λ (w : WriteView). w.key) (λ w. record { ref_ptr = (0, 0); now = w }) refs sorted
 
 -- a stable sort by key leaves the writes of a key in their order
 pub same_writes : (xs ys : List (Bor WriteView)) → IsStableBy (is_below (λ (r : Bor WriteView). r.now.key)) xs ys → (key : KeyBytes) → writes_to key (pointed_to ys) ≡ writes_to key (pointed_to xs)

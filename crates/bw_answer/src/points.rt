@@ -1,8 +1,10 @@
 // The operations of a batch that read or write one key each.
-ghost use Rattle.std.specs.Prelude.{◌≡◌, ℕ, ◌<◌, ◌≤◌, length, IfOk, OnOk, ◌-◌, take, drop, slice_index_or};
+ghost use Rattle.std.specs.Prelude.{◌≡◌, ℕ, ◌<◌, ◌≤◌, false, length, IfOk, OnOk, ◌-◌, take, drop, slice_index_or};
 ghost use Rattle.std.specs.List.{AllByRecursion};
+ghost use Rattle.std.specs.List.Sorted.{IsSortedBy};
+ghost use Rattle.std.specs.Ordering.{is_lt};
 ghost use Rattle.std.specs.Option.{option_copied};
-ghost use Rattle.bw_key.specs.Order.{KeyBytes};
+ghost use Rattle.bw_key.specs.Order.{KeyBytes, key_cmp, key_eq};
 ghost use Rattle.bw_answer.specs.Points.{key_of, entries_from, entries_of, entries_at, HasKey};
 
 use bw_key::{Key, Memory};
@@ -45,21 +47,24 @@ fn point_key(op: &Op) -> Option<&Key>
     }
 }
 
-/// Groups points by key. Those of one key keep their order.
+/// Groups points by key, in the order of the keys. Those of one key keep their order.
 pub(crate) fn group(points: &mut Vec<Point<'_>, Alloc>) -> Result<(), Memory>
-    ensures { OnOk result ((key : KeyBytes) → entries_at key (entries_of points.new.items) ≡ entries_at key (entries_of points.old.items)) }
+    ensures grouped { OnOk result (IsSortedBy (λ d e. is_lt (key_cmp d.0 e.0)) (entries_of points.new.items)) }
+    ensures same { OnOk result ((key : KeyBytes) → entries_at key (entries_of points.new.items) ≡ entries_at key (entries_of points.old.items)) }
 {
     points.sort_by(|a, b| a.key.cmp(b.key))?;
     Ok(())
 }
 
-/// Where the group of points that begins at `start` ends.
+/// Where the group of points that begins at `start` ends: at the first point behind it with another key.
 pub(crate) fn group_end(points: &[Point<'_>], start: usize) -> usize
     requires { start < length points.now }
     ensures more { start < result }
     ensures bound { result ≤ length points.now }
     ensures same { let one = entries_of (take (result - start) (drop start points.now)) in
         (d : Point) → AllByRecursion (HasKey (slice_index_or points.now start d).key.now) one }
+    ensures whole { result < length points.now →
+        (d : Point) → key_eq (slice_index_or points.now start d).key.now (slice_index_or points.now result d).key.now ≡ false }
 {
     let key = points[start].key;
     for end in start + 1..points.len() {

@@ -1,17 +1,23 @@
 -- A chain with one record more, or fewer.
-use Rattle.std.proofs.Common.{◌≡◌, ℕ, zero, suc, ◌+◌, ◌-◌, ◌^◌, ◌<◌, ◌≤◌, List, [], ◌∷◌, ◌++◌, length, take, drop, get_or, slice_get, Option, Some, None, refl, sym, ap, ◌∙◌, subst, arith, length-append, length-take-le, add-one}
+use Rattle.std.proofs.Common.{◌≡◌, ℕ, zero, suc, ◌+◌, ◌-◌, ◌^◌, ◌<◌, ◌≤◌, Bool, cond, List, [], ◌∷◌, ◌++◌, length, take, drop, get_or, slice_get, Option, Some, None, refl, sym, ap, ◌∙◌, subst, arith, length-append, length-take-le, add-one}
 use Rattle.std.specs.Option.{option_map}
-use Rattle.std.specs.Prelude.{reverse}
+use Rattle.std.specs.Prelude.{reverse, is_some}
 use Rattle.std.proofs.lemmas.List.{map-append, drop_all, length-map, reverse-append}
+use Rattle.bw_key.specs.Order.{KeyBytes}
+use Rattle.bw_model.specs.declared.operations.Action.{Action}
 use Rattle.bw_model.specs.declared.operations.Op.{Op}
 use Rattle.bw_delta.specs.Batches.{stamped, write_of, writes_of}
+use Rattle.std.specs.List.{AllByRecursion}
 use Rattle.bw_delta.specs.Writes.{WriteView}
 use Rattle.bw_delta.specs.declared.deltas.Delta.{Delta}
 use Rattle.bw_delta.specs.declared.deltas.Delta.TheVariants.{Put}
-use Rattle.bw_batch.specs.Chains.{write_in, writes_in, word_of, AreLinked, IsChain, newest_of}
+use Rattle.bw_batch.specs.Chains.{IsPut, write_in, writes_in, word_of, AreLinked, IsChain, newest_of}
 
 abbrev Entry : Type 0
 Entry = Delta × ℕ
+
+abbrev ArePuts : List Entry → Type 0
+ArePuts es = AllByRecursion (λ e. IsPut e.0) es
 
 linked_more : (n : ℕ) (es : List Entry) (e : Entry) → AreLinked n es → e.1 ≡ word_of (n + length es) → AreLinked n (es ++ e ∷ [])
 linked_more n [] e linked is = (is ∙ ap word_of (stays n), tt)
@@ -45,12 +51,37 @@ linked_at n (x ∷ es) (suc i) e linked is = linked_at (n + 1) es i e linked.1 i
     next : (n i : ℕ) → n + 1 + i ≡ n + suc i
     next n i = omega arith
 
+puts_more : (es : List Entry) (w : WriteView) (word : ℕ) → ArePuts es → ArePuts (es ++ (Put w, word) ∷ [])
+puts_more [] w word puts = (tt, tt)
+puts_more (e ∷ es) w word puts = (puts.0, puts_more es w word puts.1)
+
+puts_take : (n : ℕ) (es : List Entry) → ArePuts es → ArePuts (take n es)
+puts_take zero es puts = tt
+puts_take (suc n) [] puts = tt
+puts_take (suc n) (e ∷ es) puts = (puts.0, puts_take n es puts.1)
+
+-- each record of a chain is a write
+pub put_at : (es : List Entry) (head n : ℕ) (e : Entry) → IsChain es head → Some e ≡ slice_get es n → IsPut e.0
+put_at es head n e is at = by es n is.puts at
+  where
+    by : (es : List Entry) (n : ℕ) → ArePuts es → Some e ≡ slice_get es n → IsPut e.0
+    by [] n puts at = absurd (none at)
+      where
+        none : Some e ≡ None → ⊥
+        none e = cc
+    by (x ∷ es) zero puts at = subst (λ (y : Entry). IsPut y.0) (sym (same at)) puts.0
+      where
+        same : Some e ≡ Some x → e ≡ x
+        same e = cc
+    by (x ∷ es) (suc n) puts at = by es n puts.1 at
+
 -- a record more
 pub put_chain : (es kept es' : List Entry) (word word' : ℕ) (w : WriteView) → IsChain es word → kept ≡ es → es' ≡ kept ++ (Put w, word) ∷ [] → word' ≡ 2 ^ 32 + length es → length es < 2 ^ 32 → IsChain es' word'
 put_chain es kept es' word word' w is same more at few =
     let grown : es' ≡ es ++ (Put w, word) ∷ [] = more ∙ ap (λ (l : List Entry). l ++ (Put w, word) ∷ []) same in
     let size = ap length grown ∙ length-append es ((Put w, word) ∷ []) in
     record {
+      puts = subst ArePuts (sym grown) (puts_more es w word is.puts);
       linked = subst (AreLinked 0) (sym grown) (linked_more 0 es (Put w, word) is.linked (is.head ∙ ap word_of (from_none (length es))));
       head = at ∙ ap word_of (sym (size ∙ one_more (length es)));
       few = omega (arith, size, few);
@@ -70,6 +101,7 @@ pub first_chain : (es es' : List Entry) (word word' n : ℕ) → IsChain es word
 first_chain es es' word word' n is cut le at =
     let size : length es' ≡ n = ap length cut ∙ length-take-le n es le in
     record {
+      puts = subst ArePuts (sym cut) (puts_take n es is.puts);
       linked = subst (AreLinked 0) (sym cut) (linked_take 0 n es is.linked);
       head = at ∙ ap word_of (sym size);
       few = omega (arith, size, le, is.few);
@@ -229,6 +261,18 @@ writes_more n ops i op lt is = rw add-one (go n ops i lt is)
         ap (λ l. stamped n (write_of o) ++ l) (go (n + 1) ops i (omega arith) is)
         ∙ parted (stamped n (write_of o)) (writes_of (n + 1) (take i ops)) (stamped (n + 1 + i) (write_of op))
         ∙ ap (λ (m : ℕ). (stamped n (write_of o) ++ writes_of (n + 1) (take i ops)) ++ stamped m (write_of op)) (next n i)
+
+-- so many more writes
+pub count_more : (ops : List Op) (i : ℕ) (op : Op) (count count' : ℕ) (b : Bool) → i < length ops → op ≡ get_or ops i op → b ≡ is_some (write_of op) → count' ≡ count + cond b 1 0 →
+    count ≡ length (writes_of 0 (take i ops)) → count' ≡ length (writes_of 0 (take (i + 1) ops))
+count_more ops i op count count' b lt is writes more so =
+    let step : length (writes_of 0 (take (i + 1) ops)) ≡ length (writes_of 0 (take i ops)) + length (stamped (0 + i) (write_of op)) =
+    ap length (writes_more 0 ops i op lt is) ∙ length-append (writes_of 0 (take i ops)) (stamped (0 + i) (write_of op)) in
+    omega (arith, step, so, more ∙ ap (λ t. count + cond t 1 0) writes, one (write_of op))
+  where
+    one : (w : Option (KeyBytes × Action)) → length (stamped (0 + i) w) ≡ cond (is_some w) 1 0
+    one None = refl
+    one (Some w) = refl
 
 pub newest_found : (es : List Entry) (head word at : ℕ) (e : Entry) (v : WriteView) (ws : List WriteView) → IsChain es head → writes_in es ≡ ws → Some e ≡ slice_get es at → at ≡ word - 2 ^ 32 → 2 ^ 32 ≤ word → v ≡ write_in e.0 →
     (n : ℕ) → word ≡ word_of n → Some (v, e.1) ≡ newest_of n ws

@@ -1,10 +1,11 @@
 -- What became of batches, as the model knows it.
-use Rattle.std.specs.Prelude.{List, map, Result, Ok, Err}
+use Rattle.std.specs.Prelude.{ℕ, ◌+◌, List, [], ◌∷◌, length, map, false, Result, Ok, Err}
 use Rattle.bw_memory.specs.Alloc.{Vec}
 use Rattle.bw_model.specs.Runs.{Outcome}
 use Rattle.bw_model.specs.declared.operations.Op.{Op}
 use Rattle.bw_model.specs.declared.outcomes.Refusal.{Refusal}
 use Rattle.bw_batch.specs.declared.indexing.Done.{Done}
+use Rattle.bw_batch.specs.declared.indexing.Tidy.{Tidy}
 
 -- the batches that vectors hold
 abbrev pub batches_of : List (Vec Op) → List (List Op)
@@ -17,3 +18,16 @@ outcome_of (Err refusal) = Err refusal
 
 abbrev pub outcomes_of : List (Result Done Refusal) → List Outcome
 outcomes_of = map outcome_of
+
+-- how many operations were answered
+abbrev pub answered_by : Outcome → ℕ
+answered_by (Ok replies) = length replies
+answered_by (Err refusal) = 0
+
+abbrev pub answered_in : List Outcome → ℕ
+answered_in [] = 0
+answered_in (outcome ∷ outcomes) = answered_by outcome + answered_in outcomes
+
+-- what tidying did where it did nothing
+abbrev pub nothing_tidied : Tidy
+nothing_tidied = record { consolidated = 0; splits = 0; merges = 0; stopped = false }

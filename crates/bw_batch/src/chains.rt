@@ -1,9 +1,9 @@
 // A delta chain: stamped writes before a base page.
-ghost use Rattle.std.specs.Prelude.{◌≡◌, ℕ, ◌≤◌, ◌+◌, ◌^◌, [], ◌∷◌, ◌++◌, length, take, reverse, IfOk, OnOk, OnErr};
+ghost use Rattle.std.specs.Prelude.{◌≡◌, ℕ, ◌≤◌, ◌+◌, ◌^◌, [], ◌∷◌, ◌++◌, length, take, reverse, is_some, IfOk, OnOk, OnErr};
 ghost use Rattle.std.specs.Option.{option_map};
 ghost use Rattle.bw_delta.specs.History.{pointed_to};
 ghost use Rattle.bw_delta.specs.Batches.{stamped, write_of, writes_of};
-ghost use Rattle.bw_batch.specs.Chains.{write_in, word_of, newest_of};
+ghost use Rattle.bw_batch.specs.Chains.{IsPut, write_in, word_of, newest_of};
 
 use bw_delta::{Arena, Delta, Write};
 use bw_key::Memory;
@@ -62,12 +62,20 @@ impl Chain {
         ensures ok { OnOk result (self.new ≡ self.old ++ writes_of base ops.now) }
         ensures err { OnErr result (self.new ≡ self.old) }
     {
+        self.make_room(count_writes(ops))?;
         let before = self.len();
         let staged = self.put_all(ops, base);
         if staged.is_err() {
             self.truncate(before);
         }
         staged
+    }
+
+    // Makes room for more writes at once, so that putting them is one growth for each list of the arena.
+    fn make_room(&mut self, writes: usize) -> Result<(), Memory>
+        ensures { self.new ≡ self.old }
+    {
+        self.arena.reserve(writes)
     }
 
     // Puts the writes of a batch, or some of them.
@@ -144,6 +152,34 @@ impl Chain {
     }
 }
 
+// How many of the operations write.
+fn count_writes(ops: &[Op]) -> usize
+    ensures { result ≡ length (writes_of 0 ops.now) }
+{
+    let mut count = 0;
+    for op in ops {
+        if !is_write(op) {
+            continue;
+        }
+        count += 1;
+    }
+    count
+}
+
+// Whether an operation writes.
+fn is_write(op: &Op) -> bool
+    ensures { result ≡ is_some (write_of op.now) }
+{
+    match op {
+        Op::Get(_) | Op::Scan { .. } | Op::Rscan { .. } => false,
+        Op::Insert(_, _)
+        | Op::Upsert(_, _)
+        | Op::Update(_, _)
+        | Op::Delete(_)
+        | Op::SwapIf(_, _, _) => true,
+    }
+}
+
 // The head word of the chain of the first `len` records.
 fn word_of_first(len: usize) -> u64
     requires { len ≤ 2 ^ 32 }
@@ -157,9 +193,11 @@ fn word_of_first(len: usize) -> u64
 
 // The write that a record is.
 fn put_write(delta: &Delta) -> &Write
+    requires { IsPut delta.now }
     ensures { result.now ≡ write_in delta.now }
 {
     match delta {
         Delta::Put(write) => write,
+        _ => unreachable!(),
     }
 }

@@ -2,7 +2,7 @@
 // texts, and each growth of memory refused in turn.
 mod batches;
 mod largest;
-mod making;
+pub(crate) mod making;
 mod options;
 mod randomly;
 mod refusals;

@@ -1,13 +1,12 @@
 -- The value at a key after the first operations of a batch, as the history of the batch's writes there.
-use Rattle.std.proofs.Common.{◌≡◌, ℕ, zero, suc, ◌+◌, ◌<◌, ◌≤◌, Bool, true, false, cond, List, [], ◌∷◌, ◌++◌, take, Option, Some, None, refl, sym, ap, ◌∙◌, arith}
+use Rattle.std.proofs.Common.{◌≡◌, ℕ, zero, suc, ◌+◌, ◌<◌, ◌≤◌, Bool, true, false, cond, List, [], ◌∷◌, ◌++◌, Option, Some, None, refl, sym, ap, ◌∙◌, arith}
 use Rattle.std.specs.Prelude.{filter}
-use Rattle.std.specs.Ordering.{eq_by_cmp}
 use Rattle.std.specs.FinMap.{get, get-insert, get-remove}
-use Rattle.bw_key.specs.Order.{KeyBytes, key_cmp, key_cmp_total, key_eq, key_ties}
+use Rattle.bw_key.specs.Order.{KeyBytes, key_cmp_total, key_eq, key_ties}
 use Rattle.bw_model.specs.Contents.{Contents, set_at}
 use Rattle.bw_model.specs.Values.{ValueBytes}
 use Rattle.bw_model.specs.Actions.{effect}
-use Rattle.bw_model.specs.Model.{after, written_at, contents_after}
+use Rattle.bw_model.specs.Model.{after, written_at}
 use Rattle.bw_model.specs.declared.operations.Action.{Action}
 use Rattle.bw_model.specs.declared.operations.Op.{Op}
 use Rattle.bw_model.specs.declared.operations.Op.TheVariants.{Get, Insert, Upsert, Update, Delete, SwapIf, Scan, Rscan}

@@ -1,21 +1,20 @@
 -- The map as of a stamp, looked up at a key.
-use Rattle.std.proofs.Common.{◌≡◌, ℕ, zero, suc, ◌+◌, ◌<◌, ◌≤◌, Bool, true, false, cond, List, [], ◌∷◌, take, map, nat_eq, Option, Some, None, refl, sym, ap, ◌∙◌, arith}
+use Rattle.std.proofs.Common.{◌≡◌, ℕ, zero, suc, ◌+◌, ◌<◌, true, false, cond, List, [], ◌∷◌, take, map, nat_eq, Option, Some, None, refl, sym, ap, ◌∙◌, arith}
 use Rattle.std.specs.List.{AllByRecursion}
 use Rattle.std.specs.FinMap.{IsAntisymmetric, nat_cmp-IsAntisymmetric, slice_cmp-IsAntisymmetric, get, same_map}
 use Rattle.std.proofs.lemmas.Bool.Decides.{nat_tests}
 use Rattle.std.proofs.lemmas.Map.Keys.{IsDistinct-head}
 use Rattle.bw_key.specs.Order.{KeyBytes, key_cmp, key_cmp_total, key_eq}
-use Rattle.bw_model.specs.Contents.{Contents, set_at}
+use Rattle.bw_model.specs.Contents.{Contents}
 use Rattle.bw_model.specs.Values.{ValueBytes}
 use Rattle.bw_model.specs.Actions.{effect}
 use Rattle.bw_model.specs.Model.{contents_after}
 use Rattle.bw_model.specs.declared.operations.Action.{Action}
-use Rattle.bw_model.specs.declared.operations.Op.{Op}
 use Rattle.bw_page.proofs.Search.{same_keys}
 use Rattle.bw_delta.specs.Writes.{WriteView}
 use Rattle.bw_delta.specs.History.{history, then_effect, action_at, HasDistinctStamps}
 use Rattle.bw_delta.specs.Batches.{writes_of, writes_to}
-use Rattle.bw_delta.specs.ContentsAsOf.{write_at, then_written, contents_as_of, HoldsBatch, BatchIsReadInTurn}
+use Rattle.bw_delta.specs.ContentsAsOf.{write_at, then_written, contents_as_of, BatchIsReadInTurn}
 use Rattle.bw_delta.proofs.Histories.{at_first, past_other, same_history, history_parts}
 use Rattle.bw_delta.proofs.Orders.{not_same, distinct_rest}
 use Rattle.bw_delta.proofs.Filters.{apart_filter}

@@ -7,3 +7,4 @@ pub mod Maps
 pub mod Foldings
 pub mod ContentsAsOf
 pub mod Readings
+pub mod Stagings

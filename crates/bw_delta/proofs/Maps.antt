@@ -1,15 +1,15 @@
 -- Ordered maps and sorted lists of pairs, looked up at a key.
-use Rattle.std.proofs.Common.{◌≡◌, Bool, true, false, cond, ◌&&◌, List, [], ◌∷◌, ◌++◌, map, Option, Some, None, T, Result, Ok, Err, IfOk, refl, sym, ap, ◌∙◌, subst, Ordering}
+use Rattle.std.proofs.Common.{◌≡◌, Bool, true, false, cond, ◌&&◌, List, [], ◌∷◌, ◌++◌, map, Option, Some, None, T, Result, Ok, Err, IfOk, refl, sym, ap, ◌∙◌}
 use Rattle.std.specs.Prelude.{filter}
 use Rattle.std.specs.List.{AllByRecursion}
 use Rattle.std.specs.List.Sorted.{IsStrictlySortedBy}
 use Rattle.std.specs.Map.{lookup}
 use Rattle.std.specs.Option.{option_or}
-use Rattle.std.specs.Ordering.{is_eq, is_lt, eq_by_cmp}
+use Rattle.std.specs.Ordering.{is_eq, is_lt}
 use Rattle.std.specs.BTreeMap as tree
 use Rattle.std.specs.FinMap.{find, is_sorted}
 use Rattle.std.specs.FinMap.Entries.{below_all, find-where_key, is_sorted-where_key}
-use Rattle.std.specs.declared.cmp.Ordering.TheVariants.{Less, Equal, Greater}
+use Rattle.std.specs.declared.cmp.Ordering.TheVariants.{Less}
 use Rattle.bw_key.specs.Order.{KeyBytes, key_cmp, key_eq, key_eq_equiv, key_ties}
 use Rattle.bw_model.specs.Contents.{is_in_range, is_pair_in_range}
 use Rattle.bw_page.proofs.KeyOrder.{keys_tie}
@@ -42,6 +42,11 @@ module _ {V : Type 0} where
   -- a value, or none, at a key
   pub changed : (q k : KeyBytes) (w o : Option V) → cond (tree.is_at (key_cmp k) q) w o ≡ cond (key_eq q k) w o
   changed q k w o = ap (λ b. cond b w o) (sym (key_ties k q) ∙ sym (key_eq_equiv.symm q k))
+
+  -- values that agree inside a range
+  pub only_inside : (b : Bool) (v w : Option V) → (b ≡ true → v ≡ w) → cond b v None ≡ cond b w None
+  only_inside true v w same = same refl
+  only_inside false v w same = refl
 
   -- the entries of a range
   pub find_in_range : (low : KeyBytes) (high : Option KeyBytes) (q : KeyBytes) (es : List (KeyBytes × V)) →

@@ -1,8 +1,8 @@
 -- Writes in another order.
-use Rattle.std.proofs.Common.{◌≡◌, ◌≢◌, ℕ, zero, suc, ◌+◌, ◌<◌, ◌≤◌, Bool, true, false, List, [], ◌∷◌, length, get_or, map, drop, Option, Some, None, eqb, nat_eq, refl, sym, ap, ◌∙◌, subst, arith, add-one, drop-cons}
+use Rattle.std.proofs.Common.{◌≡◌, ◌≢◌, ℕ, zero, suc, ◌+◌, ◌<◌, ◌≤◌, true, false, List, [], ◌∷◌, length, remove, get_or, map, drop, Option, Some, None, nat_eq, refl, sym, ap, ◌∙◌, arith, add-one, drop-cons}
 use Rattle.std.proofs.lemmas.Bool.Decides.{nat_tests}
 use Rattle.std.proofs.lemmas.List.{get_or-map, length-map}
-use Rattle.std.proofs.lemmas.List.Sorted.{IsPermutation-map, IsPermutation-sym, Contains-permutation}
+use Rattle.std.proofs.lemmas.List.Sorted.{IsPermutation-cons, IsPermutation-map, IsPermutation-refl, IsPermutation-remove, IsPermutation-sym, IsPermutation-trans, Contains-permutation}
 use Rattle.std.proofs.lemmas.Map.Keys.{IsDistinct-IsPermutation, IsDistinct-tail, apart_from_distinct}
 use Rattle.std.specs.Borrow.{Bor}
 use Rattle.std.specs.List.{Contains, IsDistinct}
@@ -91,6 +91,26 @@ alike_actions xs ys t there back distinct distinct' = elim (action_at xs t) as (
     moves_on xs ys a there distinct e =
         let by = written_by xs t a e in
         ap (action_at ys) (sym by.stamp) ∙ at_one ys by.write distinct (there by.write by.there) ∙ ap Some by.action
+
+-- lists of the same writes differ in order alone
+pub same_members : (xs ys : List WriteView) → HasDistinctStamps xs → HasDistinctStamps ys → ((v : WriteView) → Contains xs v → Contains ys v) → ((v : WriteView) → Contains ys v → Contains xs v) → IsPermutation xs ys
+same_members [] [] distinct distinct' there back = IsPermutation-refl []
+same_members [] (y ∷ ys) distinct distinct' there back = absurd (omega (arith, (back y (0, omega arith, refl)).1))
+same_members (x ∷ xs) ys distinct distinct' there back =
+    let has = there x (0, omega arith, refl) in
+    let zs = remove ys has.0 in
+    let moved = IsPermutation-remove ys has.0 x has.1 (sym has.2) in
+    let rest_distinct = distinct_permuted ys (x ∷ zs) moved distinct' in
+    IsPermutation-trans (x ∷ xs) (x ∷ zs) ys
+    (IsPermutation-cons x xs zs
+    (same_members xs zs (distinct_rest x xs distinct) (distinct_rest x zs rest_distinct)
+    (λ v in_xs. other_in x v zs (λ e. later_differs x xs in_xs.0 v distinct in_xs.1 in_xs.2 (ap (λ (w : WriteView). w.stamp) e)) (Contains-permutation ys (x ∷ zs) v moved (there v (suc in_xs.0, omega (arith, in_xs.1), in_xs.2))))
+    (λ v in_zs. other_in x v xs (λ e. later_differs x zs in_zs.0 v rest_distinct in_zs.1 in_zs.2 (ap (λ (w : WriteView). w.stamp) e)) (back v (Contains-permutation (x ∷ zs) ys v (IsPermutation-sym ys (x ∷ zs) moved) (suc in_zs.0, omega (arith, in_zs.1), in_zs.2))))))
+    (IsPermutation-sym ys (x ∷ zs) moved)
+  where
+    other_in : (x v : WriteView) (zs : List WriteView) → (x ≡ v → ⊥) → Contains (x ∷ zs) v → Contains zs v
+    other_in x v zs other (zero, lt, at) = absurd (other at)
+    other_in x v zs other (suc k, lt, at) = (k, omega (arith, lt), at)
 
 -- what was written with a stamp doesn't depend on the order
 pub same_actions : (xs ys : List WriteView) (t : ℕ) → IsPermutation xs ys → HasDistinctStamps xs → action_at ys t ≡ action_at xs t

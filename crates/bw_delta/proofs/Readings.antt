@@ -1,6 +1,5 @@
 -- The writes from a stamp on.
-use Rattle.std.proofs.Common.{◌≡◌, ◌≢◌, ℕ, zero, suc, ◌+◌, ◌-◌, ◌<◌, ◌≤◌, Bool, true, false, cond, List, [], ◌∷◌, Option, Some, None, eqb, nat_le, slice_get, refl, sym, ap, ◌∙◌, subst, arith}
-use Rattle.std.specs.Prelude.{filter}
+use Rattle.std.proofs.Common.{◌≡◌, ◌≢◌, ℕ, ◌+◌, ◌-◌, ◌<◌, ◌≤◌, true, false, cond, List, [], ◌∷◌, Option, Some, None, eqb, nat_le, slice_get, refl, sym, ap, ◌∙◌, arith}
 use Rattle.std.specs.Borrow.{Bor}
 use Rattle.std.proofs.lemmas.Bool.Decides.{nat_tests}
 use Rattle.bw_model.specs.Values.{ValueBytes}
@@ -9,8 +8,8 @@ use Rattle.bw_delta.specs.Writes.{WriteView}
 use Rattle.bw_delta.specs.History.{history, action_at, pointed_to}
 use Rattle.bw_delta.specs.Readings.{from_stamp}
 use Rattle.bw_delta.specs.Rising.{HasRisingStamps}
-use Rattle.bw_delta.proofs.Histories.{at_first, past_other, same_history, quiet, history_parts, none_below, IsFolding, folds_first, folded, folded_all}
-use Rattle.bw_delta.proofs.Batches.{rising_filter, from_lower}
+use Rattle.bw_delta.proofs.Histories.{past_other, same_history, quiet, history_parts, none_below, IsFolding, folds_first, folded, folded_all}
+use Rattle.bw_delta.proofs.Batches.{rising_filter}
 
 reaches : (m n : ℕ) → m ≤ n → nat_le m n ≡ true
 reaches m n le = grind (arith, nat_tests)

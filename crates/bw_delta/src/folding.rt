@@ -1,5 +1,5 @@
 // The pairs of a page as of a stamp.
-ghost use Rattle.std.specs.Prelude.{◌≡◌, T, map, filter, IfOk, OnOk, None, if◌then◌else◌};
+ghost use Rattle.std.specs.Prelude.{◌≡◌, T, true, false, map, filter, IfOk, OnOk, Some, None, if◌then◌else◌};
 ghost use Rattle.std.specs.Option.{option_copied, option_or};
 ghost use Rattle.std.specs.FinMap.{find, is_sorted};
 ghost use Rattle.std.specs.BTreeMap as tree;
@@ -23,9 +23,9 @@ use std::collections::BTreeMap;
 /// value, with it. A key's value is that of the first part that has the key, under the writes of the key with a
 /// smaller stamp, applied in the order of their stamps. The slice of writes may have any order.
 ///
-/// The n pairs and m writes go through an ordered map, in about (n + m) log (n + m) key comparisons. Each value is
-/// copied once, and once more for each write that leaves one. `Memory` is answered where the map, a copy or the list
-/// finds none.
+/// The n pairs of the range and m writes go through an ordered map, in about (n + m) log (n + m) key comparisons; a pair
+/// outside the range costs two. The value of each pair of the range is copied once, and once more for each write that
+/// leaves one. `Memory` is answered where the map, a copy or the list finds none.
 pub fn leaf_as_of(
     alloc: Alloc,
     parts: &[&Leaf],
@@ -39,29 +39,63 @@ pub fn leaf_as_of(
 {
     let ordered = in_order(alloc, writes)?;
     let mut values = BTreeMap::new(alloc);
-    put_parts(&mut values, parts)?;
+    put_parts(&mut values, parts, low, high)?;
     put_writes(&mut values, &ordered, stamp)?;
     in_range(alloc, values, low, high)
 }
 
-// Puts the pairs of the parts in a map, of two with one key that of the first part.
-fn put_parts(values: &mut BTreeMap<Key, Value, Alloc>, parts: &[&Leaf]) -> Result<(), Memory>
-    ensures { OnOk result ((q : KeyBytes) → tree.get key_cmp values.new q ≡ option_or (value_in (parts_of parts.now) q) (tree.get key_cmp values.old q)) }
+// Puts the pairs of the parts whose keys are in a range in a map, of two with one key that of the first part.
+fn put_parts(
+    values: &mut BTreeMap<Key, Value, Alloc>,
+    parts: &[&Leaf],
+    low: &Key,
+    high: Option<&Key>,
+) -> Result<(), Memory>
+    ensures inside { OnOk result ((q : KeyBytes) → is_in_range low.now (option_copied high.entry) q ≡ true →
+        tree.get key_cmp values.new q ≡ option_or (value_in (parts_of parts.now) q) (tree.get key_cmp values.old q)) }
+    ensures outside { OnOk result ((q : KeyBytes) → is_in_range low.now (option_copied high.entry) q ≡ false →
+        tree.get key_cmp values.new q ≡ tree.get key_cmp values.old q) }
 {
     for part in parts.iter().rev() {
-        put_pairs(values, part.pairs())?;
+        put_pairs(values, part.pairs(), low, high)?;
     }
     Ok(())
 }
 
-// Puts pairs in a map, of two with one key the first.
-fn put_pairs(values: &mut BTreeMap<Key, Value, Alloc>, pairs: &[(Key, Value)]) -> Result<(), Memory>
-    ensures { OnOk result ((q : KeyBytes) → tree.get key_cmp values.new q ≡ option_or (find key_cmp q pairs.now) (tree.get key_cmp values.old q)) }
+// Puts the pairs whose keys are in a range in a map, of two with one key the first.
+fn put_pairs(
+    values: &mut BTreeMap<Key, Value, Alloc>,
+    pairs: &[(Key, Value)],
+    low: &Key,
+    high: Option<&Key>,
+) -> Result<(), Memory>
+    ensures inside { OnOk result ((q : KeyBytes) → is_in_range low.now (option_copied high.entry) q ≡ true →
+        tree.get key_cmp values.new q ≡ option_or (find key_cmp q pairs.now) (tree.get key_cmp values.old q)) }
+    ensures outside { OnOk result ((q : KeyBytes) → is_in_range low.now (option_copied high.entry) q ≡ false →
+        tree.get key_cmp values.new q ≡ tree.get key_cmp values.old q) }
 {
     for pair in pairs.iter().rev() {
-        set(values, &pair.0, Some(pair.1.copy()?))?;
+        put_pair(values, pair, low, high)?;
     }
     Ok(())
+}
+
+// Puts a pair in a map, where its key is in a range.
+fn put_pair(
+    values: &mut BTreeMap<Key, Value, Alloc>,
+    pair: &(Key, Value),
+    low: &Key,
+    high: Option<&Key>,
+) -> Result<(), Memory>
+    ensures inside { OnOk result ((q : KeyBytes) → is_in_range low.now (option_copied high.entry) q ≡ true →
+        tree.get key_cmp values.new q ≡ (if key_eq q pair.now.0 then Some pair.now.1 else tree.get key_cmp values.old q)) }
+    ensures outside { OnOk result ((q : KeyBytes) → is_in_range low.now (option_copied high.entry) q ≡ false →
+        tree.get key_cmp values.new q ≡ tree.get key_cmp values.old q) }
+{
+    if !is_within(&pair.0, low, high) {
+        return Ok(());
+    }
+    set(values, &pair.0, Some(pair.1.copy()?))
 }
 
 // Lets the writes below a stamp have their effects.

@@ -49,17 +49,19 @@ impl<'a> Reading<'a> {
         }
     }
 
-    /// Goes on to a stamp: each write with a smaller one has its effect.
+    /// Goes on to a stamp: each write with a smaller one has its effect. At a stamp below the present one nothing is
+    /// taken back: the value and the writes that are left stay.
     pub fn advance(&mut self, stamp: u64)
         ensures stamp { self.new.stamp ≡ stamp }
         ensures value { self.new.value ≡ history self.old.value (action_at self.old.rest) stamp }
         ensures rest { self.new.rest ≡ from_stamp stamp self.old.rest }
+        ensures back { stamp ≤ self.old.stamp → (self.new.value ≡ self.old.value) × (self.new.rest ≡ self.old.rest) }
     {
         let (value, rest) = passed(self.value, self.rest, stamp);
         *self = Reading { stamp, value, rest };
     }
 
-    /// The value as of the stamp.
+    /// The value as of the greatest stamp so far.
     pub fn value(&self) -> Option<&'a Value>
         ensures { option_copied result ≡ self.now.value }
     {

@@ -1,9 +1,11 @@
 -- A trace that was read whole.
-use Rattle.std.proofs.Common.{◌≡◌, ℕ, List, ◌++◌, Option, Some, None, Result, Ok, Err, IfOk, sym, ap, ◌∙◌, subst, append-nil}
+use Rattle.std.proofs.Common.{◌≡◌, ℕ, List, ◌++◌, Option, Some, None, Result, Ok, Err, IfOk, sym, ap, ◌∙◌, subst, append-nil, refl, []}
 use Rattle.std.specs.Option.{IfSome}
+use Rattle.std.proofs.KnownBytes.{Appends-nil}
 use Rattle.std.specs.Io.KnownBytes.{Appends, Consumes, IsAtEnd}
 use Rattle.bw_batch.specs.Settings.{Settings}
 use Rattle.bw_model.specs.Runs.{Outcome}
+use Rattle.bw_run.specs.Jobs.{IsOutOfMemory}
 use Rattle.bw_trace.specs.Grammar.{first_place}
 use Rattle.bw_trace.specs.Running.{IsRun, left_by_run, summary_of}
 use Rattle.bw_trace.specs.Texts.{batches_text, end_text}
@@ -34,3 +36,12 @@ pub all_done : (settings : Settings) (job : Job) (place : Place) (input unread n
 all_done settings job place input unread now old new (Ok summary) first same (read, takes, end, done) =
     of_all settings job place read input now old new summary first (subst (λ u. Consumes u now read) same takes) end done
 all_done settings job place input unread now old new (Err fault) first same done = tt
+
+-- before the first batch, nothing was written
+pub nothing_done : (settings : Settings) (job : Job) (input contents : Option (List ℕ)) → IfSome input (λ bytes. IsOutOfMemory settings job bytes contents contents)
+nothing_done settings job None contents = tt
+nothing_done settings job (Some bytes) contents = (
+  [],
+  (trace_from first_place bytes, record { batches = []; reads = refl; answered = tt }),
+  ([], ([], refl), Appends-nil contents),
+)

@@ -1,1 +1,3 @@
 pub mod JobsLemmas
+pub mod AskingLemmas
+pub mod AnswersLemmas

@@ -1,2 +1,4 @@
 pub mod Settings
 pub mod Jobs
+pub mod CommandLine
+pub mod Answers

@@ -1,9 +1,15 @@
 // What the words of a command line ask for.
+ghost use Rattle.std.specs.Prelude.{◌≡◌, IfOk, MatchResult, fold, map, option_map, Some, false};
+ghost use Rattle.bw_run.specs.CommandLine.{Asks, IsMadeBy, JobWords, faults_in, file_of, job_named, job_of, limits_of, number_of, number_rule, number_rules, path_of, program_of};
+ghost use Rattle.clap.specs.Words.{HasKind, app_of, found_of, rows_of, rule_of, with_rule};
+
 use bw_batch::{OptionFault, Options};
 use bw_trace::Job;
 use clap::error::Error;
 use clap::{Arg, ArgMatches, Command, value_parser};
 use std::alloc::{AllocError, Global};
+use std::env::{self, Env};
+use std::io;
 
 /// The values of the options, of which some may be out of their ranges.
 #[derive(Clone, Copy, Debug, PartialEq, Eq)]
@@ -74,38 +80,85 @@ Try it:
 The status is 0 where all went well, 1 where reading, writing or memory failed, 2 for other
 words, 3 at a faulty line, and 4 where a batch was refused.";
 
-/// What the words ask for, the name of the program left out. The error is a text for the user: what is wrong with the
-/// words, or help or the version where they ask for it.
-pub fn request_in<'a>(global: Global, words: &'a [&'a str]) -> Result<Request<'a>, Error> {
-    let matches = program(global)?.try_get_matches_from(words)?;
-    let job = match matches.get_str("JOB") {
-        Some("dump") => Job::Dump,
-        _ => Job::Run,
-    };
-    let file = match matches.get_str("FILE") {
-        Some("-") => None,
-        file => file,
-    };
-    let limits = limits_in(&matches);
-    Ok(Request { job, limits, file })
+/// The words of the command line, the name of the program left out. The error is of the kind `OutOfMemory` or, where a
+/// word is not UTF-8, `InvalidData`.
+pub fn arguments<R: Env + AllocGlobal>(rt: &R) -> io::Result<Vec<String>> {
+    let words = env::args(rt)?.skip(1).collect(rt.alloc())?;
+    Ok(words)
 }
 
-// Each option has a default, so that none is missing; a missing one would be 0.
-fn limits_in(matches: &ArgMatches<'_>) -> Limits {
-    let value_of = |id: &str| matches.get_one::<u64>(id).unwrap_or(0);
-    Limits {
-        workers: value_of("workers"),
-        piece: value_of("piece"),
-        chain_max: value_of("chain"),
-        page_max: value_of("page-max"),
-        page_min: value_of("page-min"),
-        batch_max: value_of("batch-max"),
-        record_max: value_of("record-max"),
+/// What the words ask for, the name of the program left out. The error is a text for the user: what is wrong with the
+/// words, or help or the version where they ask for it.
+pub fn request_in<'a>(global: Global, words: &'a [&'a str]) -> Result<Request<'a>, Error>
+    ensures { (jobs : JobWords) × MatchResult result (Asks jobs (map (λ w. w.now) words.now)) (HasKind (faults_in jobs (map (λ w. w.now) words.now))) }
+{
+    let matches = program(global)?.try_get_matches_from(words)?;
+    Ok(request_of(&matches))
+}
+
+// The request that the arguments' values make.
+fn request_of<'a>(matches: &ArgMatches<'a>) -> Request<'a>
+    ensures { IsMadeBy (rows_of (found_of matches.now)) result }
+{
+    Request {
+        job: job_in(matches),
+        limits: limits_in(matches),
+        file: file_in(matches),
     }
 }
 
+fn job_in(matches: &ArgMatches<'_>) -> Job
+    ensures { result ≡ job_of (rows_of (found_of matches.now)) }
+{
+    match matches.get_str("JOB") {
+        Some(word) => job_named(word),
+        None => Job::Run,
+    }
+}
+
+fn job_named(word: &str) -> Job
+    ensures { result ≡ job_named (Some word.now) }
+{
+    if word == "dump" { Job::Dump } else { Job::Run }
+}
+
+fn file_in<'a>(matches: &ArgMatches<'a>) -> Option<&'a str>
+    ensures { option_map (λ path. path.now) result ≡ file_of (rows_of (found_of matches.now)) }
+{
+    file_named(matches.get_str("FILE")?)
+}
+
+fn file_named(word: &str) -> Option<&str>
+    ensures { option_map (λ path. path.now) result ≡ path_of (Some word.now) }
+{
+    if word == "-" { None } else { Some(word) }
+}
+
+fn limits_in(matches: &ArgMatches<'_>) -> Limits
+    ensures { result ≡ limits_of (rows_of (found_of matches.now)) }
+{
+    Limits {
+        workers: number_in(matches, "workers"),
+        piece: number_in(matches, "piece"),
+        chain_max: number_in(matches, "chain"),
+        page_max: number_in(matches, "page-max"),
+        page_min: number_in(matches, "page-min"),
+        batch_max: number_in(matches, "batch-max"),
+        record_max: number_in(matches, "record-max"),
+    }
+}
+
+// Each option has a default, so that none is missing; a missing one would be 0.
+fn number_in(matches: &ArgMatches<'_>, id: &str) -> u64
+    ensures { result ≡ number_of id.now (rows_of (found_of matches.now)) }
+{
+    matches.get_one::<u64>(id).unwrap_or(0)
+}
+
 // The command line as clap knows it.
-fn program<'a>(global: Global) -> Result<Command<'a>, AllocError> {
+fn program<'a>(global: Global) -> Result<Command<'a>, AllocError>
+    ensures { IfOk result (λ command. (jobs : JobWords) × (app_of command ≡ program_of jobs)) }
+{
     let job = Arg::new(global, "JOB")
         .required(true)
         .value_parser(JOBS.as_slice())
@@ -126,7 +179,9 @@ fn program<'a>(global: Global) -> Result<Command<'a>, AllocError> {
     with_limits(global, command)
 }
 
-fn with_limits<'a>(global: Global, command: Command<'a>) -> Result<Command<'a>, AllocError> {
+fn with_limits<'a>(global: Global, command: Command<'a>) -> Result<Command<'a>, AllocError>
+    ensures { IfOk result (λ with. app_of with ≡ fold with_rule (app_of command.entry) number_rules) }
+{
     let workers = "How many threads post the writes of a batch, 1 to 64";
     let piece = "How many writes a worker takes at once, 1 to 4096";
     let chain = "How many writes stand before a leaf's page until they are folded, 1 to 1024";
@@ -145,7 +200,10 @@ fn with_limits<'a>(global: Global, command: Command<'a>) -> Result<Command<'a>, 
 }
 
 // An option whose value is a number.
-fn number<'a>(global: Global, id: &'a str, default: &'a str, help: &'a str) -> Arg<'a> {
+fn number<'a>(global: Global, id: &'a str, default: &'a str, help: &'a str) -> Arg<'a>
+    ensures rule { rule_of result ≡ number_rule id.now default.now }
+    ensures local { result.global ≡ false }
+{
     Arg::new(global, id)
         .long(id)
         .value_name("N")

@@ -1,22 +1,23 @@
 // The command line: what its words ask for is done, and the message and the status at the end.
-ghost use Rattle.std.specs.Prelude.{◌≡◌, ◌≢◌, ◌⊎◌, ◌≤◌, IfOk, IfErr, IfSome, IfNone};
+ghost use Rattle.std.specs.Prelude.{◌≡◌, ◌⊎◌, ◌≤◌, IfOk, IfErr, IfSome, IfNone, IsErrOf, map};
 ghost use Rattle.bw_batch.specs.SettingFaults.{first_fault};
-ghost use Rattle.bw_run.specs.Jobs.{IsDone, IsFaulty, Tells};
+ghost use Rattle.bw_run.specs.Answers.{Answers};
+ghost use Rattle.bw_run.specs.CommandLine.{JobWords, status_for};
+ghost use Rattle.bw_run.specs.Jobs.{IsCut, IsDone, IsFaulty, IsJobStatus, IsOutOfMemory, Tells};
 ghost use Rattle.bw_run.specs.Settings.{settings_of};
-ghost use Rattle.bw_trace.specs.Faults.{IfLine};
-ghost use Rattle.clap.specs.Values.{kind_of};
+ghost use Rattle.bw_trace.specs.Counts.{HasRisenBy};
+ghost use Rattle.bw_trace.specs.Faults.{IfLine, IsOfInput};
+ghost use Rattle.clap.specs.Words.{kind_of};
 
 use crate::asking::{Request, request_in};
+use crate::messages::{no_memory, report};
 use bw_batch::Options;
 use bw_memory::Alloc;
 use bw_trace::{FromRead, Inlet, Job, Outlet, Source, Summary, TraceFault, run_trace, status};
 use clap::error::{Error, ErrorKind};
 use std::alloc::Global;
-use std::fmt::Display;
 use std::fs;
 use std::rt::Files;
-
-const NO_MEMORY: &str = "bw_run: out of memory\n";
 
 /// Does what the words of a command line ask for, the name of the program left out: `run` and `dump` with their
 /// options and the path of a trace, `--help` and `--version`. The path `-`, and none, is `input`. Texts go to `output`,
@@ -36,7 +37,9 @@ pub fn run_words<'a, F: Files + AllocGlobal, R: Inlet, W: Outlet, E: Outlet>(
     errors: &mut E,
     turns: u64,
 ) -> u8
-    ensures { result ≤ 4 }
+    ensures answers { (jobs : JobWords) × Answers result jobs (map (λ w. w.now) words.now) (R.remaining input) (W.contents output.old) (W.contents output.new)
+        (W.failures output.old) (W.failures output.new) }
+    ensures most { result ≤ 4 }
 {
     match request_in(rt.alloc(), words) {
         Ok(request) => run_request(rt, alloc, &request, input, output, errors, turns),
@@ -55,8 +58,11 @@ fn run_request<F: Files, R: Inlet, W: Outlet, E: Outlet>(
     turns: u64,
 ) -> u8
     ensures limits { IfSome (first_fault (settings_of request.now.limits)) (λ _. result ≡ 2) }
+    ensures job { IfNone (first_fault (settings_of request.now.limits)) (IsJobStatus result) }
     ensures input { IfNone (first_fault (settings_of request.now.limits)) (IfNone request.now.file
-        (Tells result (settings_of request.now.limits) request.now.job (R.remaining input) (W.contents output.old) (W.contents output.new))) }
+        (Tells result (settings_of request.now.limits) request.now.job (R.remaining input) (W.contents output.old) (W.contents output.new)
+        (W.failures output.old) (W.failures output.new))) }
+    ensures unwritten { result ≡ 2 → W.contents output.new ≡ W.contents output.old }
     ensures most { result ≤ 4 }
 {
     let options = match request.limits.options() {
@@ -91,7 +97,7 @@ fn run_input<R: Inlet, W: Outlet, E: Outlet>(
     job: Job,
     turns: u64,
 ) -> u8
-    ensures { Tells result options job (R.remaining input) (W.contents output.old) (W.contents output.new) }
+    ensures { Tells result options job (R.remaining input) (W.contents output.old) (W.contents output.new) (W.failures output.old) (W.failures output.new) }
 {
     let outcome = run(alloc, input, output, options, job, turns);
     if let Err(fault) = outcome {
@@ -111,25 +117,19 @@ fn run<R: Inlet, W: Outlet>(
     ensures done { IfOk result (λ summary. IfSome (R.remaining input) (λ bytes. IsDone options job bytes (W.contents output.old) (W.contents output.new) summary)) }
     ensures line { IfErr result (λ fault. IfLine fault (λ number cause. IfSome (R.remaining input) (λ bytes.
         IsFaulty options job bytes (W.contents output.old) (W.contents output.new) number cause))) }
+    ensures cut { IfErr result (λ fault. IsOfInput fault → IfSome (R.remaining input) (λ bytes. IsCut options job bytes (W.contents output.old) (W.contents output.new))) }
+    ensures memory { IsErrOf result TraceFault.Memory → IfSome (R.remaining input) (λ bytes. IsOutOfMemory options job bytes (W.contents output.old) (W.contents output.new)) }
+    ensures write { IsErrOf result TraceFault.Write → HasRisenBy 1 (W.failures output.old) (W.failures output.new) }
 {
     let mut source = Source::new(alloc, input, turns)?;
     run_trace(alloc, &mut source, output, options, job)
 }
 
-// Writes the message of a fault.
-fn report<E: Outlet>(alloc: Alloc, errors: &mut E, fault: impl Display + Drop) {
-    let written = match format!(in alloc; "bw_run: {fault}\n") {
-        Ok(message) => errors.put(message.as_str().as_bytes()),
-        Err(_) => errors.put(NO_MEMORY.as_bytes()),
-    };
-    let _ = written;
-}
-
 // Shows a text of clap's: help and the version as an output, and what is wrong with the words as a message.
 fn show<W: Outlet, E: Outlet>(global: Global, error: &Error, output: &mut W, errors: &mut E) -> u8
-    ensures memory { kind_of error.now ≡ ErrorKind.OutOfMemory → result ≡ 1 }
-    ensures shown { (kind_of error.now ≡ ErrorKind.DisplayHelp) ⊎ (kind_of error.now ≡ ErrorKind.DisplayVersion) → (result ≡ 0) ⊎ (result ≡ 1) }
-    ensures mistake { kind_of error.now ≢ ErrorKind.DisplayHelp → kind_of error.now ≢ ErrorKind.DisplayVersion → (result ≡ 2) ⊎ (result ≡ 1) }
+    ensures memory { kind_of error.now ≡ ErrorKind.OutOfMemory → (result ≡ 1) × (W.contents output.new ≡ W.contents output.old) }
+    ensures shown { (result ≡ 1) ⊎ (result ≡ status_for (kind_of error.now)) }
+    ensures unwritten { result ≡ 2 → W.contents output.new ≡ W.contents output.old }
     ensures most { result ≤ 2 }
 {
     if error.kind() == ErrorKind::OutOfMemory {
@@ -149,12 +149,4 @@ fn show<W: Outlet, E: Outlet>(global: Global, error: &Error, output: &mut W, err
             1
         }
     }
-}
-
-/// Says that there is no memory, and answers the status for that.
-pub fn no_memory<E: Outlet>(errors: &mut E) -> u8
-    ensures { result ≡ 1 }
-{
-    let _ = errors.put(NO_MEMORY.as_bytes());
-    1
 }

@@ -3,13 +3,15 @@
 
 mod asking;
 mod command;
+mod messages;
 #[cfg(test)]
 mod tests;
 
-use bw_memory::{Alloc, Heap};
+use asking::arguments;
+use bw_memory::Heap;
 use bw_trace::{FromRead, FromWrite};
 use command::run_words;
-use std::env;
+use messages::{no_memory, no_words};
 use std::process::ExitCode;
 
 // How often the input is read at the most: 2^32 times.
@@ -18,20 +20,18 @@ const TURNS: u64 = 4_294_967_296;
 fn main(rt: HostRuntime) -> ExitCode {
     let mut errors = FromWrite::new(rt.stderr());
     let Ok(alloc) = Heap::new(rt.alloc()).leak(rt.alloc()) else {
-        return ExitCode::from(command::no_memory(&mut errors));
+        return ExitCode::from(no_memory(&mut errors));
     };
-    let Ok(arguments) = env::args(&rt) else {
-        return ExitCode::from(command::no_memory(&mut errors));
-    };
-    let Ok(arguments) = arguments.skip(1).collect::<Vec<String>>(rt.alloc()) else {
-        return ExitCode::from(command::no_memory(&mut errors));
+    let arguments = match arguments(&rt) {
+        Ok(arguments) => arguments,
+        Err(error) => return ExitCode::from(no_words(error.kind(), &mut errors)),
     };
     let Ok(words) = arguments
         .iter()
         .map(|word| word.as_str())
         .collect::<Vec<&str>>(rt.alloc())
     else {
-        return ExitCode::from(command::no_memory(&mut errors));
+        return ExitCode::from(no_memory(&mut errors));
     };
     let input = FromRead::new(rt.stdin());
     let mut output = FromWrite::new(rt.stdout());

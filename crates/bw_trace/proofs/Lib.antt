@@ -6,3 +6,4 @@ pub mod LinesLemmas
 pub mod Reading
 pub mod TracesLemmas
 pub mod RunningLemmas
+pub mod DeterminedLemmas

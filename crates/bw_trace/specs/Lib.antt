@@ -11,3 +11,4 @@ pub mod Writing
 pub mod Sources
 pub mod Running
 pub mod Statuses
+pub mod Determined

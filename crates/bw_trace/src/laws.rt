@@ -1,4 +1,5 @@
 //! The laws of the trace language. Each has an empty body: its contract is the law.
+ghost use Rattle.bw_trace.specs.Determined.{TextsAreDetermined};
 ghost use Rattle.bw_trace.specs.ReadBack.{KeysAreReadBack, ValuesAreReadBack, NumbersAreReadBack, NumberValuesAreReadBack};
 
 /// A printed key is read back as itself.
@@ -19,4 +20,10 @@ pub fn numbers_are_read_back()
 /// A value of version 1 is the text of a number. It is printed as that text, and read back as itself.
 pub fn number_values_are_read_back()
     ensures { NumberValuesAreReadBack }
+{}
+
+/// Two runs of one trace, with the same most operations of a batch and the same job, print the same where none of their
+/// batches was refused for want of memory.
+pub fn texts_are_determined()
+    ensures { TextsAreDetermined }
 {}

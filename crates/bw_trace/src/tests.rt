@@ -3,3 +3,4 @@ mod ports;
 mod printing;
 mod reading;
 mod running;
+mod std_ports;

@@ -1,8 +1,7 @@
 -- Chains, one record after another.
-use Rattle.std.proofs.Common.{◌≡◌, ℕ, zero, suc, ◌-◌, ◌<◌, ◌≤◌, true, false, cond, List, [], ◌∷◌, length, Option, Some, None, ltb, refl, sym, ap, ◌∙◌, subst, arith}
+use Rattle.std.proofs.Common.{◌≡◌, ℕ, suc, ◌-◌, ◌<◌, ◌≤◌, true, cond, List, [], ◌∷◌, length, Option, Some, None, ltb, refl, sym, ap, ◌∙◌, subst, arith}
 use Rattle.std.proofs.lemmas.Bool.Decides.{nat_tests}
 use Rattle.std.specs.Prelude.{slice_get}
-use Rattle.bw_key.specs.Order.{KeyBytes}
 use Rattle.bw_delta.specs.Writes.{WriteView}
 use Rattle.bw_delta.specs.declared.deltas.Delta.{Delta}
 use Rattle.bw_delta.specs.declared.deltas.Delta.TheVariants.{Put, Split, Absorb, Removed, AddChild, DropChild}
@@ -90,9 +89,9 @@ under_way bases records word r at (w ∷ ws) e h =
     let listed : deltas_at records (w ∷ ws) ≡ r.0 ∷ deltas_at records ws = ap (λ o. delta_in o (deltas_at records ws)) here in
     record {
       state =
-        slot_of_way bases records word (w ∷ ws) e way h.short
-        ∙ ap (λ (l : List Delta). changed bases l (based (slice_get bases e))) listed
-        ∙ ap (change bases r.0) (sym (slot_of_way bases records r.1 ws e rest short_rest));
+          slot_of_way bases records word (w ∷ ws) e way h.short
+          ∙ ap (λ (l : List Delta). changed bases l (based (slice_get bases e))) listed
+          ∙ ap (change bases r.0) (sym (slot_of_way bases records r.1 ws e rest short_rest));
       ends = below_it bases records r.1 r.0 ws e rest short_rest h.within h.limit (subst IsShaped listed h.shaped);
       less = (way_falls_within (link_of records) (length records) word r.1 (w ∷ ws) e way h.short step).0;
     }

@@ -1,5 +1,5 @@
 -- What a tree holds at a key, from the page where the key is at home.
-use Rattle.std.proofs.Common.{◌≡◌, ℕ, ◌<◌, true, List, [], length, get_or, Option, refl, sym, ap, ◌∙◌, subst, arith}
+use Rattle.std.proofs.Common.{◌≡◌, ℕ, ◌<◌, true, List, [], length, get_or, Option, sym, ap, ◌∙◌, subst, arith}
 use Rattle.std.specs.Prelude.{Result, Ok, Err, IfOk}
 use Rattle.std.specs.FinMap.{find, from_entries, get, get-from_entries}
 use Rattle.std.proofs.lemmas.List.{length-map}
@@ -15,7 +15,8 @@ use Rattle.bw_tree.specs.Slots.{Slot, slot_at, is_leaf}
 use Rattle.bw_tree.specs.Levels.{AreLevels, IsHome, row}
 use Rattle.bw_tree.specs.Reading.{EndsAbove, base_of, pairs_under, writes_over, value_in}
 use Rattle.bw_tree.specs.Chains.{Bases, Records, Ends, slot_of_word}
-use Rattle.bw_tree.specs.View.{TreeView, IsTree, contents_at, levels_under, slots_of, row_pairs, row_writes}
+use Rattle.bw_tree.specs.View.{TreeView, contents_at, levels_under, slots_of, row_pairs, row_writes}
+use Rattle.bw_tree.specs.Trees.{IsStanding, StageWords, view_of}
 use Rattle.bw_tree.proofs.ReadingLemmas.{read_is, slot_of_head}
 use Rattle.bw_tree.proofs.RouteLemmas.{home_leaf}
 use Rattle.bw_tree.proofs.LeafRowLemmas.{HasAt, row_has}
@@ -45,16 +46,11 @@ pub record FoundAt (tree : TreeView) (bases : Bases) (records : Records) (key : 
   pub leaf : is_leaf (slot_of_word bases records head) ≡ true
   pub above : EndsAbove (slot_of_word bases records head) key
 
-abbrev view_of : List ℕ → Bases → Records → ℕ → ℕ → TreeView
-view_of heads bases records root next =
-    let slots = slots_of heads bases records in
-    record { slots = slots; root = root; levels = levels_under slots root; heads = heads; records = length records; next = next }
-
-pub found_at : (heads : List ℕ) (bases : Bases) (records : Records) (root next : ℕ) (tree : TreeView) (key : KeyBytes) (p head : ℕ) → view_of heads bases records root next ≡ tree → IsTree heads bases records root next → IsHome tree.slots tree.levels key p → head ≡ get_or heads p head → FoundAt tree bases records key p head
-found_at heads bases records root next tree key p head is t home read =
+pub found_at : (heads : List ℕ) (bases : Bases) (records : Records) (root next bound : ℕ) (staged : Option StageWords) (tree : TreeView) (key : KeyBytes) (p head : ℕ) → view_of heads bases records root next staged ≡ tree → IsStanding heads bases records root bound → IsHome tree.slots tree.levels key p → head ≡ get_or heads p head → FoundAt tree bases records key p head
+found_at heads bases records root next bound staged tree key p head is t home read =
     subst (λ (v : TreeView). FoundAt v bases records key p head) is (at (subst (λ (v : TreeView). IsHome v.slots v.levels key p) (sym is) home))
   where
-    at : IsHome (slots_of heads bases records) (levels_under (slots_of heads bases records) root) key p → FoundAt (view_of heads bases records root next) bases records key p head
+    at : IsHome (slots_of heads bases records) (levels_under (slots_of heads bases records) root) key p → FoundAt (view_of heads bases records root next staged) bases records key p head
     at home =
         let slots = slots_of heads bases records in
         let h = home_leaf slots root (levels_under slots root) t.lawful key p home in
@@ -68,20 +64,20 @@ found_at heads bases records root next tree key p head is t home read =
         }
 
 -- and so, what is read there
-pub found_distinct : (heads : List ℕ) (bases : Bases) (records : Records) (root next : ℕ) (tree : TreeView) (key : KeyBytes) (p head : ℕ) (found : List WriteView) → view_of heads bases records root next ≡ tree → IsTree heads bases records root next → IsHome tree.slots tree.levels key p → head ≡ get_or heads p head →
+pub found_distinct : (heads : List ℕ) (bases : Bases) (records : Records) (root next bound : ℕ) (staged : Option StageWords) (tree : TreeView) (key : KeyBytes) (p head : ℕ) (found : List WriteView) → view_of heads bases records root next staged ≡ tree → IsStanding heads bases records root bound → IsHome tree.slots tree.levels key p → head ≡ get_or heads p head →
     found ≡ writes_to key (writes_over (slot_of_word bases records head)) → HasDistinctStamps found
-found_distinct heads bases records root next tree key p head found is t home read all =
+found_distinct heads bases records root next bound staged tree key p head found is t home read all =
     let slots = slots_of heads bases records in
-    let at = found_at heads bases records root next tree key p head is t home read in
+    let at = found_at heads bases records root next bound staged tree key p head is t home read in
     let slot : slot_at slots p ≡ slot_of_word bases records head = ap (λ (v : TreeView). slot_at v.slots p) is ∙ at.slot in
     subst HasDistinctStamps (ap (λ (o : Slot). writes_to key (writes_over o)) slot ∙ sym all)
     (home_distinct slots root (levels_under slots root) t.lawful t.distinct key p (subst (λ (v : TreeView). IsHome v.slots v.levels key p) (sym is) home))
 
-pub found_value : (heads : List ℕ) (bases : Bases) (records : Records) (root next : ℕ) (tree : TreeView) (key : KeyBytes) (p head stamp : ℕ) (start : Option ValueBytes) (found : List WriteView) → view_of heads bases records root next ≡ tree → IsTree heads bases records root next → IsHome tree.slots tree.levels key p → head ≡ get_or heads p head →
+pub found_value : (heads : List ℕ) (bases : Bases) (records : Records) (root next bound : ℕ) (staged : Option StageWords) (tree : TreeView) (key : KeyBytes) (p head stamp : ℕ) (start : Option ValueBytes) (found : List WriteView) → view_of heads bases records root next staged ≡ tree → IsStanding heads bases records root bound → IsHome tree.slots tree.levels key p → head ≡ get_or heads p head →
     found ≡ writes_to key (writes_over (slot_of_word bases records head)) → start ≡ base_of (slot_of_word bases records head) key → history start (action_at found) stamp ≡ get (contents_at tree stamp) key
-found_value heads bases records root next tree key p head stamp start found is t home read all base =
+found_value heads bases records root next bound staged tree key p head stamp start found is t home read all base =
     let slots = slots_of heads bases records in
-    let at = found_at heads bases records root next tree key p head is t home read in
+    let at = found_at heads bases records root next bound staged tree key p head is t home read in
     let slot : slot_at slots p ≡ slot_of_word bases records head = ap (λ (v : TreeView). slot_at v.slots p) is ∙ at.slot in
     ap (λ o. history o (action_at found) stamp) base
     ∙ ap (λ (l : List WriteView). history (base_of (slot_of_word bases records head) key) (action_at l) stamp) all

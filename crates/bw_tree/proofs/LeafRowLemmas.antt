@@ -1,6 +1,5 @@
 -- The leaf level: what it holds at a key is what the page holds where the key is at home.
-use Rattle.std.proofs.Common.{◌≡◌, ℕ, zero, suc, ◌<◌, ◌≤◌, Bool, true, false, cond, not, ◌&&◌, T, List, [], ◌∷◌, ◌++◌, length, get_or, Option, Some, None, refl, sym, ap, ◌∙◌, subst, arith}
-use Rattle.std.specs.Prelude.{filter}
+use Rattle.std.proofs.Common.{◌≡◌, ℕ, zero, suc, Bool, true, false, cond, not, ◌&&◌, T, List, [], ◌∷◌, ◌++◌, Option, Some, None, refl, sym, ap, ◌∙◌, subst, arith}
 use Rattle.std.specs.List.{Contains, list_all}
 use Rattle.std.specs.Ordering.{is_lt, eq_by_cmp}
 use Rattle.std.specs.Option.{option_or}
@@ -10,13 +9,13 @@ use Rattle.bw_key.specs.Order.{KeyBytes, key_cmp, key_eq, key_ties}
 use Rattle.bw_model.specs.Contents.{is_in_range, is_below_end, is_pair_in_range}
 use Rattle.bw_model.specs.Values.{ValueBytes}
 use Rattle.bw_page.specs.Inners.{IsUpto}
-use Rattle.bw_page.proofs.KeyOrder.{upto_below, below_upto, upto_trans, below_back, below_self}
+use Rattle.bw_page.proofs.KeyOrder.{below_upto, upto_trans, below_back, below_self}
 use Rattle.bw_page.proofs.Search.{same_keys}
 use Rattle.bw_delta.specs.Writes.{WriteView}
 use Rattle.bw_delta.specs.Batches.{writes_to}
-use Rattle.bw_tree.specs.Slots.{Slot, PageState, Body, Pairs, Children, Free, Gone, Live, slot_at, level_of, IsSoundPage, IsSoundBody}
+use Rattle.bw_tree.specs.Slots.{Slot, PageState, Body, Pairs, Children, Live, slot_at, IsSoundBody}
 use Rattle.bw_tree.specs.Levels.{Stands, SideBySide}
-use Rattle.bw_tree.specs.Reading.{body_pairs, body_writes, pairs_under, writes_over, base_of}
+use Rattle.bw_tree.specs.Reading.{body_pairs, body_writes, pairs_under, writes_over}
 use Rattle.bw_tree.specs.View.{row_pairs, row_writes}
 
 -- an entry found in two lists, one behind the other
@@ -76,7 +75,7 @@ pub page_outside : (slots : List Slot) (level : ℕ) (low : KeyBytes) (high : Op
 page_outside slots level low high side p key st out =
     subst (λ (o : Slot). HasNothing (pairs_under o) (writes_over o) key) (sym st.is)
     (outside st.state.low st.state.high st.state.side st.state.body key
-     (λ inside. out (subst (λ (k : KeyBytes). T (is_in_range k high key)) st.from_low (subst (λ (h : Option KeyBytes). T (is_in_range st.state.low h key)) st.to_high inside))) st.sound)
+    (λ inside. out (subst (λ (k : KeyBytes). T (is_in_range k high key)) st.from_low (subst (λ (h : Option KeyBytes). T (is_in_range st.state.low h key)) st.to_high inside))) st.sound)
 
 -- nothing in two lists of pairs and writes
 nothing_both : (xs ys : List (KeyBytes × ValueBytes)) (ws vs : List WriteView) (key : KeyBytes) → HasNothing xs ws key → HasNothing ys vs key → HasNothing (xs ++ ys) (ws ++ vs) key
@@ -97,7 +96,7 @@ holds true t = refl
 holds false t = absurd t
 
 -- the low key is below the high one
-low_below : (slots : List Slot) (level : ℕ) (low high : KeyBytes) (side : Option ℕ) (p : ℕ) → Stands slots level low (Some high) side p → is_lt (key_cmp low high) ≡ true
+pub low_below : (slots : List Slot) (level : ℕ) (low high : KeyBytes) (side : Option ℕ) (p : ℕ) → Stands slots level low (Some high) side p → is_lt (key_cmp low high) ≡ true
 low_below slots level low high side p st =
     holds _ (subst (λ (k : KeyBytes). T (is_lt (key_cmp k high))) st.from_low (subst (λ (h : Option KeyBytes). T (is_below_end h st.state.low)) st.to_high (wide_of st.state.low st.state.high st.state.side st.state.body st.sound)))
 

@@ -14,7 +14,8 @@ use Rattle.bw_tree.specs.Levels.{AreLevels, IsHome, row}
 use Rattle.bw_tree.specs.Reading.{writes_over}
 use Rattle.bw_tree.specs.Scans.{ArePairsOn, Reaches, high_of, is_on}
 use Rattle.bw_tree.specs.Chains.{Bases, Records, Ends, slot_of_word}
-use Rattle.bw_tree.specs.View.{TreeView, IsTree, contents_at, levels_under, slots_of, row_writes}
+use Rattle.bw_tree.specs.View.{TreeView, contents_at, slots_of, row_writes}
+use Rattle.bw_tree.specs.Trees.{IsStanding, StageWords, view_of}
 use Rattle.bw_tree.proofs.RowLemmas.{InRow}
 use Rattle.bw_tree.proofs.RouteLemmas.{home_leaf}
 use Rattle.bw_tree.proofs.ContentsLemmas.{found_at}
@@ -37,12 +38,7 @@ pub record LeafAt (tree : TreeView) (bases : Bases) (records : Records) (p head 
   pub leaf : is_leaf (slot_of_word bases records head) ≡ true
   pub distinct : HasDistinctStamps (writes_over (slot_of_word bases records head))
 
-abbrev view_of : List ℕ → Bases → Records → ℕ → ℕ → TreeView
-view_of heads bases records root next =
-    let slots = slots_of heads bases records in
-    record { slots = slots; root = root; levels = levels_under slots root; heads = heads; records = length records; next = next }
-
-module _ (heads : List ℕ) (bases : Bases) (records : Records) (root next : ℕ) (tree : TreeView) (is : view_of heads bases records root next ≡ tree) (t : IsTree heads bases records root next) where
+module _ (heads : List ℕ) (bases : Bases) (records : Records) (root next bound : ℕ) (staged : Option StageWords) (tree : TreeView) (is : view_of heads bases records root next staged ≡ tree) (t : IsStanding heads bases records root bound) where
   pub lawful_here : AreLevels tree.slots root tree.levels
   lawful_here = subst (λ (v : TreeView). AreLevels v.slots root v.levels) is t.lawful
 
@@ -60,7 +56,7 @@ module _ (heads : List ℕ) (bases : Bases) (records : Records) (root next : ℕ
   pub leaf_at : (p head : ℕ) → Contains (row tree.levels 0) p → head ≡ get_or heads p head → LeafAt tree bases records p head
   leaf_at p head has read =
       let own = own_home tree.slots root tree.levels lawful_here p has in
-      let at = found_at heads bases records root next tree own.0 p head is t own.1 read in
+      let at = found_at heads bases records root next bound staged tree own.0 p head is t own.1 read in
       record {
         slot = at.slot;
         ends = at.ends;

@@ -1,9 +1,9 @@
 -- The levels that side links and first children give are the only ones.
-use Rattle.std.proofs.Common.{◌≡◌, ℕ, zero, suc, ◌+◌, ◌-◌, ◌<◌, ◌≤◌, List, [], ◌∷◌, ◌++◌, length, get_or, drop, drop-cons, Option, Some, None, refl, sym, ap, ◌∙◌, subst, arith, add-one}
+use Rattle.std.proofs.Common.{◌≡◌, ℕ, zero, suc, ◌-◌, ◌<◌, ◌≤◌, List, [], ◌∷◌, ◌++◌, length, drop, drop-cons, Option, refl, sym, ap, ◌∙◌, subst, arith}
 use Rattle.bw_key.specs.Order.{KeyBytes}
-use Rattle.bw_tree.specs.Walk.{Leads, walked, ended}
-use Rattle.bw_tree.specs.Slots.{Slot, PageState, Body, Pairs, Children, Free, Gone, Live, slot_at, slot_level, side_of, level_of, children_of, IsSoundBody}
-use Rattle.bw_tree.specs.Levels.{Stands, SideBySide, AreLevels, BeginsWith, FirstChild, StartsWith, row}
+use Rattle.bw_tree.specs.Walk.{ended}
+use Rattle.bw_tree.specs.Slots.{Slot, PageState, Body, Pairs, Children, Live, slot_at, slot_level, side_of, level_of, children_of, IsSoundBody}
+use Rattle.bw_tree.specs.Levels.{SideBySide, AreLevels, BeginsWith, FirstChild, StartsWith, row}
 use Rattle.bw_tree.specs.View.{row_from, first_child, first_of, levels_down, levels_under}
 use Rattle.bw_tree.proofs.WalkLemmas.{walked_is, ended_is, way_short}
 use Rattle.bw_tree.proofs.RowLemmas.{row_way}

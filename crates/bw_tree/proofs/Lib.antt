@@ -19,3 +19,12 @@ pub mod ScanLemmas
 pub mod LeafScanLemmas
 pub mod MakingLemmas
 pub mod OverLemmas
+pub mod GrowthLemmas
+pub mod StageLemmas
+pub mod PostedLemmas
+pub mod PlacedLemmas
+pub mod AlikeLemmas
+pub mod RowWritesLemmas
+pub mod AdoptLemmas
+pub mod AdoptedLemmas
+pub mod StagedLemmas

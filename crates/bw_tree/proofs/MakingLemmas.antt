@@ -1,30 +1,25 @@
 -- Trees that are made of leaves.
-use Rattle.std.proofs.Common.{◌≡◌, ℕ, zero, suc, ◌+◌, ◌-◌, ◌<◌, ◌≤◌, Bool, true, false, cond, not, ◌&&◌, T, List, [], ◌∷◌, ◌++◌, length, map, take, get_or, Option, Some, None, refl, sym, ap, ◌∙◌, subst, arith, nat_lt, length-append}
+use Rattle.std.proofs.Common.{◌≡◌, ℕ, zero, suc, ◌+◌, ◌<◌, Bool, true, false, not, ◌&&◌, T, List, [], ◌∷◌, ◌++◌, length, map, take, get_or, Option, Some, None, refl, sym, ap, ◌∙◌, subst, arith}
 use Rattle.std.specs.Prelude.{slice_get}
-use Rattle.std.specs.List.{Contains, AllByRecursion, IsDistinct, list_all}
-use Rattle.std.specs.FinMap.{is_sorted, from_entries}
+use Rattle.std.specs.List.{Contains, AllByRecursion, list_all}
+use Rattle.std.specs.FinMap.{is_sorted}
 use Rattle.std.specs.FinMap.Entries.{below_all}
 use Rattle.std.specs.Ordering.{is_lt}
-use Rattle.std.proofs.lemmas.List.{length-map}
 use Rattle.bw_key.specs.Order.{KeyBytes, key_cmp}
 use Rattle.bw_model.specs.Contents.{is_pair_in_range, is_below_end}
 use Rattle.bw_model.specs.Values.{ValueBytes}
 use Rattle.bw_page.specs.Leaves.{LeafView}
-use Rattle.bw_page.specs.Inners.{InnerView, IsInner, IsUpto}
-use Rattle.bw_page.specs.Pages.{IsPage, BeginsAt}
+use Rattle.bw_page.specs.Inners.{IsInner}
+use Rattle.bw_page.specs.Pages.{BeginsAt}
 use Rattle.bw_page.specs.declared.pages.Page.{Page}
-use Rattle.bw_page.specs.declared.pages.Page.TheVariants.{Leaf as LeafPage, Inner as InnerPage, Gone as GonePage}
-use Rattle.bw_page.proofs.KeyOrder.{below_trans, below_self}
-use Rattle.bw_delta.specs.Writes.{WriteView}
-use Rattle.bw_delta.specs.History.{HasDistinctStamps}
-use Rattle.bw_tree.specs.Walk.{Leads, walked, ended}
-use Rattle.bw_tree.specs.Slots.{Slot, PageState, Pairs, Children, Live, Free, Gone, slot_at, left_of, left_of_slot, children_of}
-use Rattle.bw_tree.specs.Levels.{AreLevels, SideBySide, Stands, LeadsBelow, BeginsWith, FirstChild, row}
-use Rattle.bw_tree.specs.Chains.{Bases, Ends, based, plain, link_of, linked_word, slot_of_word}
-use Rattle.bw_tree.specs.Making.{AreAbutting, HasRules, IsOverLeaves, base_of_leaf, count_from, pages_over, pairs_in, terms_from, tree_over}
+use Rattle.bw_page.proofs.KeyOrder.{below_trans}
+use Rattle.bw_tree.specs.Walk.{walked, ended}
+use Rattle.bw_tree.specs.Slots.{Slot, PageState, Pairs, Live, slot_at}
+use Rattle.bw_tree.specs.Levels.{SideBySide, Stands}
+use Rattle.bw_tree.specs.Chains.{Bases, based, slot_of_word}
+use Rattle.bw_tree.specs.Making.{AreAbutting, HasRules, base_of_leaf, count_from, pairs_in, terms_from}
 use Rattle.bw_tree.specs.Reading.{pairs_under, writes_over}
-use Rattle.bw_tree.specs.View.{TreeView, IsTree, AllEnd, contents_at, levels_under, slots_of, row_pairs, row_writes}
-use Rattle.bw_tree.proofs.LevelLemmas.{levels_now}
+use Rattle.bw_tree.specs.View.{slots_of, row_pairs, row_writes}
 
 no_entry : {X : Type 0} {x : X} → None ≡ Some x → ⊥
 no_entry e = cc
@@ -135,9 +130,11 @@ leaf_stands slots n l low high side is rules from_low to_high linked = record { 
 pub leaf_row : (slots : List Slot) (n : ℕ) (low : KeyBytes) (leaves : List (LeafView ValueBytes)) → StandAt slots n leaves → AreAbutting n low leaves → AllByRecursion HasRules leaves → SideBySide slots 0 low (count_from n (length leaves))
 leaf_row slots n low [] at abut rules = absurd abut
 leaf_row slots n low (l ∷ []) at abut rules = leaf_stands slots n l low None None (first_stands_at slots n l [] at) rules.0 abut.0 abut.1 abut.2
-leaf_row slots n low (l ∷ k ∷ leaves) at abut rules =
-    (k.low, leaf_stands slots n l low (Some k.low) (Some (n + 1)) (first_stands_at slots n l (k ∷ leaves) at) rules.0 abut.0 abut.1 abut.2,
-     leaf_row slots (n + 1) k.low (k ∷ leaves) (later_stand_at slots n l (k ∷ leaves) at) abut.3 rules.1)
+leaf_row slots n low (l ∷ k ∷ leaves) at abut rules = (
+  k.low,
+  leaf_stands slots n l low (Some k.low) (Some (n + 1)) (first_stands_at slots n l (k ∷ leaves) at) rules.0 abut.0 abut.1 abut.2,
+  leaf_row slots (n + 1) k.low (k ∷ leaves) (later_stand_at slots n l (k ∷ leaves) at) abut.3 rules.1,
+)
 
 pub leaf_pairs : (slots : List Slot) (n : ℕ) (leaves : List (LeafView ValueBytes)) → StandAt slots n leaves → row_pairs slots (count_from n (length leaves)) ≡ pairs_in leaves
 leaf_pairs slots n [] at = refl

@@ -1,23 +1,23 @@
 -- The tree over leaves is lawful.
 use Rattle.std.proofs.Common.{◌≡◌, ℕ, zero, suc, ◌+◌, ◌-◌, ◌<◌, ◌≤◌, ◌^◌, true, false, cond, not, T, List, [], ◌∷◌, ◌++◌, length, map, Option, Some, None, Result, Ok, Err, IfOk, refl, sym, ap, ◌∙◌, subst, arith, nat_lt, length-append}
-use Rattle.std.specs.Prelude.{slice_get}
 use Rattle.std.specs.List.{Contains, AllByRecursion, IsDistinct}
 use Rattle.std.specs.FinMap.{from_entries}
 use Rattle.std.proofs.lemmas.List.{length-map}
 use Rattle.bw_key.specs.Order.{KeyBytes, key_cmp}
 use Rattle.bw_model.specs.Values.{ValueBytes}
 use Rattle.bw_page.specs.Leaves.{LeafView}
-use Rattle.bw_page.specs.Inners.{InnerView, IsInner, IsUpto}
-use Rattle.bw_page.specs.declared.pages.Page.TheVariants.{Leaf as LeafPage, Inner as InnerPage}
+use Rattle.bw_page.specs.Inners.{InnerView, IsUpto}
+use Rattle.bw_page.specs.declared.pages.Page.TheVariants.{Inner as InnerPage}
 use Rattle.bw_page.proofs.KeyOrder.{below_self}
 use Rattle.bw_delta.specs.Writes.{WriteView}
 use Rattle.bw_delta.specs.History.{HasDistinctStamps}
 use Rattle.bw_delta.specs.ContentsAsOf.{contents_as_of}
-use Rattle.bw_tree.specs.Slots.{Slot, PageState, Children, Live, slot_at, left_of, left_of_slot, children_of, IsSoundPage}
+use Rattle.bw_tree.specs.Slots.{Slot, PageState, Children, Live, slot_at, left_of_slot, children_of}
 use Rattle.bw_tree.specs.Levels.{AreLevels, SideBySide, Stands, StartsWith, LeadsBelow, BeginsWith, FirstChild, row}
-use Rattle.bw_tree.specs.Chains.{Bases, Ends, link_of, linked_word}
+use Rattle.bw_tree.specs.Chains.{Bases, link_of, linked_word}
 use Rattle.bw_tree.specs.Making.{AreAbutting, HasRules, IsOverLeaves, base_of_leaf, count_from, pages_over, pairs_in, terms_from, tree_over}
-use Rattle.bw_tree.specs.View.{TreeView, IsTree, AllEnd, contents_at, levels_under, row_pairs, row_writes}
+use Rattle.bw_tree.specs.View.{TreeView, contents_at, row_pairs, row_writes}
+use Rattle.bw_tree.specs.Trees.{IsTree, AllEnd}
 use Rattle.bw_tree.proofs.LevelLemmas.{levels_now}
 use Rattle.bw_tree.proofs.MakingLemmas.{StandAt, over_slots, from_none, there_is, counted_word, counted_length, counted_has, slot_there, leaf_there, root_there, leaf_state, leaf_row, leaf_pairs, leaf_writes, term_named, root_rules}
 
@@ -37,16 +37,21 @@ none_distinct : HasDistinctStamps []
 unfolding IsDistinct
 none_distinct = tt
 
-over_tree : (bases : Bases) (levels : List (List ℕ)) → AreLevels (over_slots bases) (length bases - 1) levels → row_writes (over_slots bases) (row levels 0) ≡ [] → length bases ≤ 2 ^ 32 → IsTree (count_from 0 (length bases)) bases [] (length bases - 1) 0
+over_tree : (bases : Bases) (levels : List (List ℕ)) → AreLevels (over_slots bases) (length bases - 1) levels → row_writes (over_slots bases) (row levels 0) ≡ [] → length bases ≤ 2 ^ 32 → IsTree (count_from 0 (length bases)) bases [] (length bases - 1) 0 None
 over_tree bases levels lawful none few =
     let now = levels_now (over_slots bases) (length bases - 1) levels lawful in
     record {
-      ends = over_ends bases few;
-      lawful = subst (AreLevels (over_slots bases) (length bases - 1)) (sym now) lawful;
-      distinct = subst (λ (l : List (List ℕ)). HasDistinctStamps (row_writes (over_slots bases) (row l 0))) (sym now) (subst HasDistinctStamps (sym none) none_distinct);
-      few_records = omega arith;
-      few_pages = omega (arith, few, counted_length 0 (length bases));
-      few_bases = few;
+      stage = tt;
+      now = record {
+        ends = over_ends bases few;
+        lawful = subst (AreLevels (over_slots bases) (length bases - 1)) (sym now) lawful;
+        distinct = subst (λ (l : List (List ℕ)). HasDistinctStamps (row_writes (over_slots bases) (row l 0))) (sym now) (subst HasDistinctStamps (sym none) none_distinct);
+        few_records = omega arith;
+        few_pages = omega (arith, few, counted_length 0 (length bases));
+        few_bases = few;
+        past = subst (λ (l : List (List ℕ)). AllByRecursion (λ (w : WriteView). w.stamp < 0) (row_writes (over_slots bases) (row l 0))) (sym now) (subst (AllByRecursion (λ (w : WriteView). w.stamp < 0)) (sym none) tt);
+        fits = omega arith;
+      };
     }
 
 over_contents : (bases : Bases) (levels : List (List ℕ)) (leaves : List (LeafView ValueBytes)) → AreLevels (over_slots bases) (length bases - 1) levels → row levels 0 ≡ count_from 0 (length leaves) → StandAt (over_slots bases) 0 leaves → contents_at (tree_over bases) 0 ≡ from_entries (pairs_in leaves)
@@ -59,7 +64,7 @@ over_contents bases levels leaves lawful at stand =
 
 -- what a tree is over: it is lawful, and is the one that was asked for
 pub record StandsOver (bases : Bases) (given : List (LeafView ValueBytes)) : Type 0 where
-  pub tree : IsTree (count_from 0 (length bases)) bases [] (length bases - 1) 0
+  pub tree : IsTree (count_from 0 (length bases)) bases [] (length bases - 1) 0 None
   pub over : IsOverLeaves (tree_over bases) given
 
 stand_over : (leaves : List (LeafView ValueBytes)) (more : Bases) → StandAt (over_slots (map base_of_leaf leaves ++ more)) 0 leaves
@@ -89,6 +94,7 @@ alone_over l abut rules =
         heads = refl;
         records = refl;
         next = refl;
+        staged = refl;
       };
     }
   where
@@ -187,6 +193,7 @@ module _ (l k : LeafView ValueBytes) (rest : List (LeafView ValueBytes)) (abut :
       heads = ap (count_from 0) (counted rooted_length);
       records = refl;
       next = refl;
+      staged = refl;
     };
   }
 

@@ -16,7 +16,7 @@ use Rattle.bw_delta.specs.declared.deltas.Delta.{Delta}
 use Rattle.bw_delta.specs.declared.deltas.Delta.TheVariants.{Put, Split, Absorb, Removed, AddChild, DropChild}
 use Rattle.bw_tree.specs.Slots.{Slot, slot_at, Body, Pairs, Children, Free, Gone, Live, is_leaf, body_is_leaf}
 use Rattle.bw_tree.specs.Walk.{walked}
-use Rattle.bw_tree.specs.Chains.{Bases, Records, Ends, record_at, link_of, change, body_written, body_below, plain, based, slot_of_word}
+use Rattle.bw_tree.specs.Chains.{Bases, Records, Ends, record_at, link_of, change, body_written, body_below, based, slot_of_word}
 use Rattle.bw_tree.specs.Turns.{bare, bare_body, over, plain_at, IsNoWrite, IsOther}
 use Rattle.bw_tree.specs.Reading.{EndsAbove, base_of, body_pairs, writes_over, body_writes}
 use Rattle.bw_tree.proofs.ChainLemmas.{Below, under, under_other, on_base}
@@ -116,6 +116,7 @@ base_split bases (Live s) k key to above = by s.body
         holds : (b : Bool) → T b → b ≡ true
         holds true t = refl
         holds false t = absurd t
+
     by : (b : Body) → find key_cmp key (body_pairs (body_below k b)) ≡ find key_cmp key (body_pairs b)
     by (Pairs pairs writes) =
         find-where_key key_cmp (λ x. is_lt (key_cmp x k)) key (λ x tie. ap (λ (z : KeyBytes). is_lt (key_cmp z k)) (sym (keys_tie key x tie))) pairs
@@ -156,12 +157,15 @@ base_through bases slot o page key same other above =
     ends_bare Free h = h
     ends_bare (Gone l) h = h
     ends_bare (Live s) h = h
+
     ends_back : (a : Slot) → EndsAbove (bare a) key → EndsAbove a key
     ends_back Free h = h
     ends_back (Gone l) h = h
     ends_back (Live s) h = h
+
     there : EndsAbove slot key → EndsAbove (over bases o (plain_at page)) key
     there h = ends_back (over bases o (plain_at page)) (subst (λ (s : Slot). EndsAbove s key) same (ends_bare slot h))
+
     by : (o : Option (Bor Delta)) → IsNoWrite o → EndsAbove (over bases o (plain_at page)) key → base_of (over bases o (plain_at page)) key ≡ base_of (plain_at page) key
     by None other h = refl
     by (Some d) other h = at d.now other h

@@ -1,12 +1,10 @@
 -- The way of a search through the levels of a tree.
-use Rattle.std.proofs.Common.{◌≡◌, ◌≢◌, ℕ, zero, suc, ◌+◌, ◌-◌, ◌*◌, ◌<◌, ◌≤◌, Bool, true, false, not, T, List, [], ◌∷◌, length, get_or, Option, Some, None, refl, sym, ap, ◌∙◌, subst, arith}
+use Rattle.std.proofs.Common.{◌≡◌, ℕ, zero, suc, ◌+◌, ◌-◌, ◌*◌, ◌<◌, ◌≤◌, Bool, true, false, not, T, List, [], ◌∷◌, length, get_or, Option, Some, None, refl, sym, ap, ◌∙◌, subst, arith}
 use Rattle.std.specs.List.{Contains}
-use Rattle.std.specs.Ordering.{is_lt}
-use Rattle.bw_key.specs.Order.{KeyBytes, key_cmp}
+use Rattle.bw_key.specs.Order.{KeyBytes}
 use Rattle.bw_model.specs.Contents.{is_below_end}
 use Rattle.bw_page.specs.Inners.{IsLastUpto, IsUpto}
 use Rattle.bw_page.proofs.KeyOrder.{upto_trans}
-use Rattle.bw_tree.specs.declared.chains.Turn.{Turn}
 use Rattle.bw_tree.specs.declared.chains.Turn.TheVariants.{Here, Right, Down, Left}
 use Rattle.bw_tree.specs.Walk.{Leads, walked, ended}
 use Rattle.bw_tree.specs.Slots.{Slot, PageState, Body, Pairs, Children, Free, Gone, Live, slot_at, slot_level, side_of, side_of_slot, left_of, left_of_slot, level_of, children_of, IsSoundPage, IsSoundBody, is_leaf, body_is_leaf}
@@ -75,10 +73,13 @@ rank_is slots p e f xs ys left side =
     let few_too = way_short (side_of slots) n (side_bounded slots) e ys f side in
     let ends : ended (left_of slots) n p ≡ e = ended_is (left_of slots) n p xs e left few in
     let all : walked (left_of slots) n p ≡ xs = walked_is (left_of slots) n p xs e left few in
-    let all_too : walked (side_of slots) n e ≡ ys = walked_is (side_of slots) n e ys f side few_too in
-    (ap (λ d. slot_level (slot_at slots d) * (n + n + 1) + length (walked (left_of slots) n p) + length (walked (side_of slots) n d)) ends
-     ∙ ap (λ (l : List ℕ). slot_level (slot_at slots e) * (n + n + 1) + length l + length (walked (side_of slots) n e)) all
-     ∙ ap (λ (l : List ℕ). slot_level (slot_at slots e) * (n + n + 1) + length xs + length l) all_too, few, few_too)
+    let all_too : walked (side_of slots) n e ≡ ys = walked_is (side_of slots) n e ys f side few_too in (
+      ap (λ d. slot_level (slot_at slots d) * (n + n + 1) + length (walked (left_of slots) n p) + length (walked (side_of slots) n d)) ends
+          ∙ ap (λ (l : List ℕ). slot_level (slot_at slots e) * (n + n + 1) + length l + length (walked (side_of slots) n e)) all
+          ∙ ap (λ (l : List ℕ). slot_level (slot_at slots e) * (n + n + 1) + length xs + length l) all_too,
+      few,
+      few_too,
+    )
 
 -- A search for a key stands at a page of a level whose low key isn't above the key, or at a removed page whose
 -- left links lead to such a page.
@@ -249,6 +250,7 @@ module _ (slots : List Slot) (root : ℕ) (levels : List (List ℕ)) (lawful : A
           raised : (b : Body) → IsSoundBody s.low s.high s.side b → Contains (children_of b) (child.separator, c) → 1 ≤ level_of b
           raised (Pairs pairs writes) sound has = absurd (omega (arith, has.1))
           raised (Children n children) sound has = sound.raised
+
           by : (n : ℕ) → level_of s.body ≡ n → (Contains (children_of s.body) (child.separator, c) → 1 ≤ level_of s.body) → (r : IsReached slots levels key n p) → (xs : List ℕ) × ((e : ℕ) × Leads (side_of slots) p xs e) → Next slots levels key p c
           by zero e some r way = absurd (omega (arith, e, some child.named))
           by (suc n) e some r way =
@@ -303,10 +305,11 @@ module _ (slots : List Slot) (root : ℕ) (levels : List (List ℕ)) (lawful : A
       let r = h.reached in
       let at = reached_at 0 p r in
       let is_page : slot_at slots p ≡ Live r.state = r.is in
-      let same : at.stands.state ≡ r.state = one_state (sym at.stands.is ∙ is_page) in
-      (held slots p (λ free. not_free (sym free ∙ is_page)),
-       ap is_leaf at.stands.is ∙ leaf _ _ _ at.stands.state.body at.stands.sound at.stands.at_level,
-       subst (λ (o : Slot). EndsAbove o key) (sym is_page) h.ends_above)
+      let same : at.stands.state ≡ r.state = one_state (sym at.stands.is ∙ is_page) in (
+        held slots p (λ free. not_free (sym free ∙ is_page)),
+        ap is_leaf at.stands.is ∙ leaf _ _ _ at.stands.state.body at.stands.sound at.stands.at_level,
+        subst (λ (o : Slot). EndsAbove o key) (sym is_page) h.ends_above,
+      )
     where
       leaf : (low : KeyBytes) (high : Option KeyBytes) (side : Option ℕ) (b : Body) → IsSoundBody low high side b → level_of b ≡ 0 → body_is_leaf b ≡ true
       leaf low high side (Pairs pairs writes) sound e = refl

@@ -1,12 +1,9 @@
 -- Pages side by side.
-use Rattle.std.proofs.Common.{◌≡◌, ◌≢◌, ℕ, zero, suc, ◌+◌, ◌<◌, ◌≤◌, Bool, true, false, T, not, List, [], ◌∷◌, ◌++◌, length, get_or, Option, Some, None, refl, sym, ap, ◌∙◌, subst, arith, inl, inr}
-use Rattle.std.specs.List.{Contains}
-use Rattle.std.proofs.lemmas.List.{get_or_default}
+use Rattle.std.proofs.Common.{◌≡◌, ℕ, zero, suc, ◌<◌, List, [], ◌∷◌, ◌++◌, length, get_or, Option, Some, None, refl, ap, ◌∙◌, subst, arith}
 use Rattle.bw_key.specs.Order.{KeyBytes}
-use Rattle.bw_tree.specs.Walk.{Leads, walked}
-use Rattle.bw_tree.specs.Slots.{Slot, PageState, Free, Gone, Live, slot_at, side_of, side_of_slot, left_of, left_of_slot, level_of, children_of, IsSoundPage}
+use Rattle.bw_tree.specs.Walk.{Leads}
+use Rattle.bw_tree.specs.Slots.{Slot, side_of, side_of_slot}
 use Rattle.bw_tree.specs.Levels.{Stands, SideBySide}
-use Rattle.bw_tree.proofs.WalkLemmas.{way_falls}
 
 -- the page of a row at a place, with what follows it there
 pub record InRow (slots : List Slot) (level : ℕ) (ps : List ℕ) (k p : ℕ) : Type 0 where
@@ -44,24 +41,24 @@ row_way slots level low p (q ∷ ps) h =
 pub in_row : (slots : List Slot) (level : ℕ) (low : KeyBytes) (ps : List ℕ) (k p : ℕ) → SideBySide slots level low ps → k < length ps → get_or ps k p ≡ p → InRow slots level ps k p
 in_row slots level low [] k p h lt at = absurd h
 in_row slots level low (x ∷ []) zero p h lt at = subst (InRow slots level (x ∷ []) zero) at (record {
-    low = low;
-    high = None;
-    side = None;
-    stands = h;
-    way = ([], (x, (refl, side_is slots level low None None x h)));
-    ends = λ e. refl;
-    goes_on = λ h e. absurd (no_key e);
-  })
+  low = low;
+  high = None;
+  side = None;
+  stands = h;
+  way = ([], (x, (refl, side_is slots level low None None x h)));
+  ends = λ e. refl;
+  goes_on = λ h e. absurd (no_key e);
+})
 in_row slots level low (x ∷ []) (suc k) p h lt at = absurd (omega arith)
 in_row slots level low (x ∷ y ∷ ys) zero p h lt at = subst (InRow slots level (x ∷ y ∷ ys) zero) at (record {
-    low = low;
-    high = Some h.0;
-    side = Some y;
-    stands = h.1;
-    way = let w = row_way slots level low x (y ∷ ys) h in (w.0, (w.1.0, w.1.1));
-    ends = λ e. absurd (no_side e);
-    goes_on = λ k e. (y, refl, omega arith, refl, subst (λ (z : KeyBytes). (other : Option KeyBytes) × ((next : Option ℕ) × Stands slots level z other next y)) (one_key e) (first_stands slots level h.0 y ys h.2));
-  })
+  low = low;
+  high = Some h.0;
+  side = Some y;
+  stands = h.1;
+  way = let w = row_way slots level low x (y ∷ ys) h in (w.0, (w.1.0, w.1.1));
+  ends = λ e. absurd (no_side e);
+  goes_on = λ k e. (y, refl, omega arith, refl, subst (λ (z : KeyBytes). (other : Option KeyBytes) × ((next : Option ℕ) × Stands slots level z other next y)) (one_key e) (first_stands slots level h.0 y ys h.2));
+})
 in_row slots level low (x ∷ y ∷ ys) (suc k) p h lt at =
     let rest = in_row slots level h.0 (y ∷ ys) k p h.2 (omega arith) at in
     record {

@@ -1,20 +1,17 @@
 -- Where a search goes on from a page.
-use Rattle.std.proofs.Common.{◌≡◌, ◌≢◌, ℕ, zero, suc, ◌+◌, ◌-◌, ◌<◌, ◌≤◌, Bool, true, false, cond, not, T, List, [], ◌∷◌, length, get_or, Option, Some, None, MatchOption, refl, sym, ap, ◌∙◌, subst, arith}
-use Rattle.std.specs.List.{Contains}
+use Rattle.std.proofs.Common.{◌≡◌, ℕ, Bool, true, false, not, T, List, refl, sym, subst}
 use Rattle.std.specs.Ordering.{is_lt}
-use Rattle.std.specs.Borrow.{Bor}
 use Rattle.bw_key.specs.Order.{KeyBytes, key_cmp}
 use Rattle.bw_model.specs.Contents.{is_below_end}
 use Rattle.bw_page.specs.Inners.{IsLastUpto}
 use Rattle.bw_page.proofs.KeyOrder.{upto_below}
 use Rattle.bw_delta.proofs.Filters.{kept, was_there}
-use Rattle.bw_delta.specs.declared.deltas.Delta.{Delta}
-use Rattle.bw_delta.specs.declared.deltas.Delta.TheVariants.{Put, Split}
+use Rattle.bw_delta.specs.declared.deltas.Delta.TheVariants.{Split}
 use Rattle.bw_tree.specs.declared.chains.Turn.{Turn}
 use Rattle.bw_tree.specs.declared.chains.Turn.TheVariants.{Here, Right, Down, Left}
 use Rattle.bw_tree.specs.Slots.{Slot, PageState, Body, Pairs, Children, Free, Gone, Live, level_of, children_of}
 use Rattle.bw_tree.specs.Chains.{Bases, change, body_below, below}
-use Rattle.bw_tree.specs.Turns.{IsTurn, IsWithin, StartsUpto, bare, bare_body, over}
+use Rattle.bw_tree.specs.Turns.{IsTurn, IsWithin, StartsUpto, bare, bare_body}
 
 -- a turn depends on what lies under the writes
 pub turn_bare : (slot : Slot) (key : KeyBytes) (t : Turn) → IsTurn (bare slot) key t → IsTurn slot key t
@@ -64,6 +61,7 @@ upto_alike a b key same h = back b (subst (λ (s : Slot). StartsUpto s key) same
     there Free h = h
     there (Gone l) h = h
     there (Live s) h = h
+
     back : (b : Slot) → StartsUpto (bare b) key → StartsUpto b key
     back Free h = h
     back (Gone l) h = h
@@ -71,11 +69,11 @@ upto_alike a b key same h = back b (subst (λ (s : Slot). StartsUpto s key) same
 
 child_below : (k key : KeyBytes) (cs : List (KeyBytes × ℕ)) (c : ℕ) → is_lt (key_cmp key k) ≡ true → IsLastUpto key cs c → IsLastUpto key (below k cs) c
 child_below k key cs c lt h = record {
-    separator = h.separator;
-    named = kept (λ x. is_lt (key_cmp x.0 k)) cs (h.separator, c) h.named (upto_below h.separator key k (holds_not _ h.not_above) lt);
-    not_above = h.not_above;
-    greatest = λ other has upto. h.greatest other (was_there (λ x. is_lt (key_cmp x.0 k)) cs other has).0 upto;
-  }
+  separator = h.separator;
+  named = kept (λ x. is_lt (key_cmp x.0 k)) cs (h.separator, c) h.named (upto_below h.separator key k (holds_not _ h.not_above) lt);
+  not_above = h.not_above;
+  greatest = λ other has upto. h.greatest other (was_there (λ x. is_lt (key_cmp x.0 k)) cs other has).0 upto;
+}
   where
     holds_not : (a : Bool) → T (not a) → a ≡ false
     holds_not true h = absurd h

@@ -92,6 +92,19 @@ pub record ChainsView : Type 0 where
   pub bases : Bases
   pub records : Records
 
+-- a change that is a write
+abbrev pub IsPut : Delta → Type 0
+IsPut (Put w) = Unit {0}
+IsPut (Split k to) = ⊥
+IsPut (Absorb k base high side) = ⊥
+IsPut (Removed left) = ⊥
+IsPut (AddChild k child) = ⊥
+IsPut (DropChild k) = ⊥
+
+-- the record at a place is a write
+abbrev pub IsWrite : Records → ℕ → Type 0
+IsWrite records place = (w : WriteView) × ((link : ℕ) × (slice_get records place ≡ Some (Put w, link)))
+
 -- the record that a word names, if it names one
 abbrev pub record_at : Records → ℕ → Option (Delta × ℕ)
 record_at records word = if nat_lt word 4294967296 then None else slice_get records (word - 4294967296)

@@ -5,6 +5,8 @@ pub mod Chains
 pub mod Turns
 pub mod Reading
 pub mod View
+pub mod Trees
+pub mod Stages
 pub mod Scans
 pub mod Before
 pub mod Making

@@ -48,7 +48,7 @@ pages_over (leaf ∷ next ∷ leaves) = length leaves + 3
 abbrev pub tree_over : Bases → TreeView
 tree_over bases =
     let slots = slots_of (count_from 0 (length bases)) bases [] in
-    record { slots = slots; root = length bases - 1; levels = levels_under slots (length bases - 1); heads = count_from 0 (length bases); records = 0; next = 0 }
+    record { slots = slots; root = length bases - 1; levels = levels_under slots (length bases - 1); heads = count_from 0 (length bases); records = 0; next = 0; staged = None }
 
 -- The tree over leaves, each of which is the page of its place.
 pub record IsOverLeaves (tree : TreeView) (given : List (LeafView ValueBytes)) : Type 0 where
@@ -58,3 +58,4 @@ pub record IsOverLeaves (tree : TreeView) (given : List (LeafView ValueBytes)) :
   pub heads : tree.heads ≡ count_from 0 (pages_over given)
   pub records : tree.records ≡ 0
   pub next : tree.next ≡ 0
+  pub staged : tree.staged ≡ None

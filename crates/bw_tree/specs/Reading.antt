@@ -1,5 +1,5 @@
 -- The value at a key as of a stamp, on the page where the key is at home.
-use Rattle.std.specs.Prelude.{ℕ, T, List, [], Option, Some, None}
+use Rattle.std.specs.Prelude.{ℕ, T, List, [], Option}
 use Rattle.std.specs.FinMap.{find}
 use Rattle.bw_key.specs.Order.{KeyBytes, key_cmp}
 use Rattle.bw_model.specs.Contents.{is_below_end}

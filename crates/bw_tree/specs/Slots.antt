@@ -1,5 +1,5 @@
 -- The present state of each page: what its chain makes of its base page.
-use Rattle.std.specs.Prelude.{ℕ, Bool, true, false, T, List, [], ◌∷◌, Option, Some, None, slice_index_or}
+use Rattle.std.specs.Prelude.{ℕ, Bool, true, false, T, List, [], Option, Some, None, slice_index_or}
 use Rattle.std.specs.List.{list_all}
 use Rattle.bw_key.specs.Order.{KeyBytes}
 use Rattle.bw_model.specs.Contents.{is_in_range}

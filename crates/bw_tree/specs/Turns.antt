@@ -1,5 +1,5 @@
 -- Where a search for a key goes on from a page.
-use Rattle.std.specs.Prelude.{◌≡◌, true, false, T, List, [], Option, Some, None}
+use Rattle.std.specs.Prelude.{◌≡◌, true, false, [], Option, Some, None}
 use Rattle.std.specs.Borrow.{Bor}
 use Rattle.bw_key.specs.Order.{KeyBytes}
 use Rattle.bw_model.specs.Contents.{is_below_end}
@@ -9,7 +9,7 @@ use Rattle.bw_delta.specs.declared.deltas.Delta.{Delta}
 use Rattle.bw_delta.specs.declared.deltas.Delta.TheVariants.{Put, Split, Absorb, Removed, AddChild, DropChild}
 use Rattle.bw_tree.specs.declared.chains.Turn.{Turn}
 use Rattle.bw_tree.specs.declared.chains.Turn.TheVariants.{Here, Right, Down, Left}
-use Rattle.bw_tree.specs.Slots.{Slot, PageState, Body, Pairs, Children, Free, Gone, Live, level_of, children_of}
+use Rattle.bw_tree.specs.Slots.{Slot, Body, Pairs, Children, Free, Gone, Live, level_of, children_of}
 use Rattle.bw_tree.specs.Chains.{Bases, change, plain}
 
 -- A key past a page's range is sought at the right neighbour, one of its range at the page itself or at a child.

@@ -1,21 +1,29 @@
 -- What contracts see of a tree.
-use Rattle.std.specs.Prelude.{◌≡◌, ℕ, zero, suc, ◌^◌, ◌<◌, ◌≤◌, List, [], ◌∷◌, ◌++◌, length, map, flat_map, Some, nat_eq, slice_get}
-use Rattle.std.specs.List.{IsDistinct}
+use Rattle.std.specs.Prelude.{ℕ, zero, suc, Bool, List, [], ◌∷◌, ◌++◌, length, map, flat_map, Option, Some, None}
 use Rattle.std.specs.FinMap.{from_entries}
-use Rattle.bw_key.specs.Order.{KeyBytes, key_cmp}
+use Rattle.bw_key.specs.Order.{KeyBytes}
 use Rattle.bw_model.specs.Contents.{Contents}
 use Rattle.bw_model.specs.Values.{ValueBytes}
 use Rattle.bw_delta.specs.Writes.{WriteView}
-use Rattle.bw_delta.specs.History.{HasDistinctStamps}
 use Rattle.bw_delta.specs.ContentsAsOf.{contents_as_of}
 use Rattle.bw_tree.specs.Reading.{pairs_under, writes_over}
 use Rattle.bw_tree.specs.Walk.{walked, ended}
 use Rattle.bw_tree.specs.Slots.{Slot, slot_at, side_of, slot_level, children_of, Live, Gone, Free}
-use Rattle.bw_tree.specs.Levels.{AreLevels, row}
-use Rattle.bw_tree.specs.Chains.{Bases, Records, Ends, slot_of_word}
+use Rattle.bw_tree.specs.Levels.{row}
+use Rattle.bw_tree.specs.Chains.{Bases, Records, slot_of_word}
+
+-- A staged batch: what stood before it, how many stamps it takes, its writes, and whether they stand in the chains.
+pub record StageView : Type 0 where
+  pub slots : List Slot
+  pub levels : List (List ℕ)
+  pub heads : List ℕ
+  pub records : ℕ
+  pub ops : ℕ
+  pub writes : List WriteView
+  pub adopted : Bool
 
 -- The present state of each page, by its identifier; the root; the pages of each level, the lowest first; the mapping
--- words; how many records there are; and the stamp of the next operation.
+-- words; how many records there are; the stamp of the next operation; and the batch that is staged, if one is.
 pub record TreeView : Type 0 where
   pub slots : List Slot
   pub root : ℕ
@@ -23,6 +31,7 @@ pub record TreeView : Type 0 where
   pub heads : List ℕ
   pub records : ℕ
   pub next : ℕ
+  pub staged : Option StageView
 
 -- a page and those that its side link leads to
 abbrev pub row_from : List Slot → ℕ → List ℕ
@@ -61,14 +70,11 @@ row_writes slots ps = flat_map (λ p. writes_over (slot_at slots p)) ps
 abbrev pub contents_at : TreeView → ℕ → Contents ValueBytes
 contents_at tree stamp = contents_as_of (from_entries (row_pairs tree.slots (row tree.levels 0))) (row_writes tree.slots (row tree.levels 0)) stamp
 
--- each mapping word leads by links to a base page
-abbrev pub AllEnd : Bases → Records → List ℕ → Type 0
-AllEnd bases records heads = (p word : ℕ) → slice_get heads p ≡ Some word → Ends bases records word
+abbrev pub staged_writes : Option StageView → List WriteView
+staged_writes None = []
+staged_writes (Some stage) = stage.writes
 
-pub record IsTree (heads : List ℕ) (bases : Bases) (records : Records) (root next : ℕ) : Type 0 where
-  pub ends : AllEnd bases records heads
-  pub lawful : AreLevels (slots_of heads bases records) root (levels_under (slots_of heads bases records) root)
-  pub distinct : HasDistinctStamps (row_writes (slots_of heads bases records) (row (levels_under (slots_of heads bases records) root) 0))
-  pub few_records : length records ≤ 2 ^ 32
-  pub few_pages : length heads ≤ 2 ^ 32
-  pub few_bases : length bases ≤ 2 ^ 32
+-- the same with the staged writes among them
+abbrev pub contents_with : TreeView → ℕ → Contents ValueBytes
+contents_with tree stamp =
+    contents_as_of (from_entries (row_pairs tree.slots (row tree.levels 0))) (staged_writes tree.staged ++ row_writes tree.slots (row tree.levels 0)) stamp

@@ -1,23 +1,26 @@
 // Base pages and the chains of delta records over them.
-ghost use Rattle.std.specs.Prelude.{◌≡◌, ◌≤◌, ◌&&◌, true, false, T, length, slice_get, is_some, Some, None, IfOk, MatchOption};
+ghost use Rattle.std.specs.Prelude.{◌≡◌, ℕ, ◌≤◌, ◌&&◌, true, false, T, length, slice_get, is_some, Some, None, IfOk, MatchOption};
 ghost use Rattle.std.specs.Option.{option_copied, option_map};
 ghost use Rattle.std.specs.FinMap.{find, is_sorted};
 ghost use Rattle.bw_key.specs.Order.{KeyBytes, key_cmp};
 ghost use Rattle.bw_model.specs.Contents.{is_below_end};
 ghost use Rattle.bw_delta.specs.Batches.{writes_to};
 ghost use Rattle.bw_delta.specs.History.{pointed_to, HasDistinctStamps};
+ghost use Rattle.bw_delta.specs.Writes.{WriteView};
+ghost use Rattle.bw_delta.specs.declared.deltas.Delta.TheVariants.{Put};
+ghost use Rattle.bw_page.specs.Inners.{IsLastUpto};
 ghost use Rattle.bw_tree.specs.Slots.{Slot, is_leaf, side_of_slot};
 ghost use Rattle.bw_tree.specs.Reading.{EndsAbove, base_of, writes_over};
-ghost use Rattle.bw_tree.specs.Chains.{Bases, Ends, based, change, plain, record_at, slot_of_word};
-ghost use Rattle.bw_page.specs.Inners.{IsLastUpto};
+ghost use Rattle.bw_tree.specs.Chains.{Bases, Ends, IsPut, IsWrite, based, change, plain, record_at, slot_of_word};
 ghost use Rattle.bw_tree.specs.Scans.{ArePairsOn, EndsBelow, Reaches, high_of};
 ghost use Rattle.bw_tree.specs.Before.{ChildrenStandFor, IsLinked, StandsFor, StandsForAt, StartsBelow, count_below, low_of};
 ghost use Rattle.bw_tree.specs.Turns.{IsTurn, IsNoWrite, IsOther, IsWithin, StartsUpto, bare, over, plain_at};
 
+use crate::staging::append_writes;
 use bw_delta::{Arena, Delta, Write, leaf_as_of};
 use bw_key::{Key, Memory};
 use bw_memory::Alloc;
-use bw_model::{Pairs, Value};
+use bw_model::{Op, Pairs, Value};
 use bw_page::{Inner, Leaf, Page, PageId};
 use std::marker::Model;
 
@@ -49,6 +52,52 @@ impl Model for Chains {
 }
 
 impl Chains {
+    ghost use Rattle.std.specs.Prelude.{◌+◌, ◌^◌, ◌≤◌, ◌++◌, length, take, drop, OnOk, OnErr};
+    ghost use Rattle.bw_delta.specs.Arenas.{deltas_of, links_of};
+    ghost use Rattle.bw_delta.specs.Batches.{writes_of};
+    ghost use Rattle.bw_tree.specs.Trees.{unlinked};
+
+    /// How many records there are.
+    pub(crate) fn len(&self) -> usize
+        ensures { result ≡ length self.now.records }
+    {
+        self.arena.len()
+    }
+
+    /// Appends the writes of a batch, each with its stamp and with no link yet. After `Memory` all is as before.
+    pub(crate) fn append_writes(&mut self, ops: &[Op], base: u64) -> Result<(), Memory>
+        requires fits { base + length ops.now ≤ 2 ^ 40 }
+        requires few { length self.old.records ≤ 2 ^ 32 }
+        ensures bases { self.new.bases ≡ self.old.bases }
+        ensures ok { OnOk result (self.new.records ≡ self.old.records ++ unlinked (writes_of base ops.now)) }
+        ensures err { OnErr result (self.new.records ≡ self.old.records) }
+        ensures few { length self.new.records ≤ 2 ^ 32 }
+    {
+        append_writes(&mut self.arena, ops, base)
+    }
+
+    /// Gives the records from place `start` on these link words. It takes no memory.
+    pub(crate) fn set_links(&mut self, start: usize, links: &[u64])
+        requires { start + length links.now ≤ length self.old.records }
+        ensures bases { self.new.bases ≡ self.old.bases }
+        ensures deltas { deltas_of self.new.records ≡ deltas_of self.old.records }
+        ensures links { let old = links_of self.old.records in
+            links_of self.new.records ≡ take start old ++ links.now ++ drop (start + length links.now) old }
+    {
+        self.arena.set_links(start, links);
+    }
+
+    /// The key of the write that a record is.
+    pub(crate) fn key_at(&self, place: usize) -> &Key
+        requires { IsWrite self.now.records place }
+        ensures { (w : WriteView) → (link : ℕ) → slice_get self.now.records place ≡ Some (Put w, link) → result.now ≡ w.key }
+    {
+        match self.arena.get(place) {
+            Some((delta, _)) => written_key(delta),
+            None => unreachable!(),
+        }
+    }
+
     // The record that a word names, if it names one, with the word of what stands under it.
     fn record(&self, word: u64) -> Option<(&Delta, u64)>
         ensures { option_map (λ r. (r.0.now, r.1)) result ≡ record_at self.now.records word }
@@ -260,6 +309,17 @@ pub(crate) fn reaches(high: Option<&Key>, to: Option<&Key>) -> bool
         (Some(high), Some(to)) => *to <= *high,
         (Some(_), None) => false,
         (None, _) => true,
+    }
+}
+
+// The key of a write.
+fn written_key(delta: &Delta) -> &Key
+    requires { IsPut delta.now }
+    ensures { (w : WriteView) → delta.now ≡ Put w → result.now ≡ w.key }
+{
+    match delta {
+        Delta::Put(write) => &write.key,
+        _ => unreachable!(),
     }
 }
 

@@ -7,8 +7,10 @@
 
 mod chains;
 mod making;
+mod staging;
 mod tree;
 
+pub use staging::Staged;
 pub use tree::Tree;
 
 /// Want of memory.

@@ -21,7 +21,10 @@ pub(crate) fn separators(alloc: Alloc, leaves: &[Leaf]) -> Result<Vec<(Key, Page
 }
 
 /// Leaves as base pages.
-pub(crate) fn base_pages(alloc: Alloc, leaves: Vec<Leaf, Alloc>) -> Result<Vec<Option<Page>, Alloc>, Memory>
+pub(crate) fn base_pages(
+    alloc: Alloc,
+    leaves: Vec<Leaf, Alloc>,
+) -> Result<Vec<Option<Page>, Alloc>, Memory>
     ensures { IfOk result (λ bases. bases.items ≡ map base_of_leaf leaves.entry.items) }
 {
     let mut bases = Vec::with_capacity(alloc, leaves.len())?;

@@ -1,7 +1,7 @@
 // The tree.
-ghost use Rattle.std.specs.Prelude.{◌≡◌, ◌<◌, ◌-◌, [], ◌∷◌, ◌++◌, true, length, min, reverse, take, Some, T, IfOk, OnOk, MatchOption};
+ghost use Rattle.std.specs.Prelude.{◌≡◌, ℕ, ◌<◌, ◌≤◌, ◌+◌, ◌-◌, ◌^◌, [], ◌∷◌, ◌++◌, true, Some, None, T, length, min, reverse, slice_get, take, IfOk, OnOk, OnErr, MatchOption};
 ghost use Rattle.std.specs.List.{Contains};
-ghost use Rattle.std.specs.Option.{option_copied};
+ghost use Rattle.std.specs.Option.{option_copied, option_map};
 ghost use Rattle.std.specs.FinMap.{empty, get};
 ghost use Rattle.std.specs.FinMap.Entries.{where_key};
 ghost use Rattle.bw_key.specs.Order.{KeyBytes, key_cmp};
@@ -9,12 +9,15 @@ ghost use Rattle.bw_model.specs.Contents.{first_of_range, is_below_end, last_of_
 
 use crate::chains::{Chains, FLOOR, Turn, reaches};
 use crate::making::{base_pages, separators, words};
+use crate::staging::{Stage, Staged};
+use bw_board::Closed;
 use bw_delta::{Arena, value_as_of};
 use bw_key::{Key, Memory};
 use bw_memory::Alloc;
-use bw_model::{Pairs, Value};
+use bw_model::{Op, Pairs, Value};
 use bw_page::{Inner, Leaf, Page, PageId};
 use std::marker::Model;
+use std::mem;
 
 /// Pages, named by identifiers, whose present states are chains of delta records over base pages.
 ///
@@ -27,27 +30,32 @@ pub struct Tree {
     root: PageId,
     // the stamp of the next operation
     next: u64,
+    // the batch whose writes are the last records
+    staged: Option<Stage>,
 }
 
 impl Model for Tree {
-    ghost use Rattle.std.specs.Prelude.{length};
-    ghost use Rattle.bw_tree.specs.View.{TreeView, slots_of, levels_under, IsTree};
+    ghost use Rattle.bw_tree.specs.View.{TreeView};
+    ghost use Rattle.bw_tree.specs.Trees.{IsTree, view_of};
 
     ghost Value = { TreeView };
 
-    ghost view = { λ t. let slots = slots_of t.heads.items t.chains.bases t.chains.records in
-        record { slots = slots; root = t.root; levels = levels_under slots t.root; heads = t.heads.items; records = length t.chains.records; next = t.next } };
+    ghost view = { λ t. view_of t.heads.items t.chains.bases t.chains.records t.root t.next t.staged };
 
-    ghost invariant = { λ t. IsTree t.heads.items t.chains.bases t.chains.records t.root t.next };
+    ghost invariant = { λ t. IsTree t.heads.items t.chains.bases t.chains.records t.root t.next t.staged };
 }
 
 impl Tree {
     ghost use Rattle.bw_tree.specs.Slots.{slot_at, is_leaf, side_of_slot};
     ghost use Rattle.bw_tree.specs.Levels.{IsHome, row};
     ghost use Rattle.bw_tree.specs.Turns.{IsTurn, StartsUpto};
-    ghost use Rattle.bw_tree.specs.View.{IsTree, contents_at};
+    ghost use Rattle.bw_tree.specs.Trees.{IsTree};
+    ghost use Rattle.bw_tree.specs.View.{contents_at, contents_with, staged_writes};
     ghost use Rattle.bw_tree.specs.Scans.{Reaches, high_of, is_on};
     ghost use Rattle.bw_tree.specs.Before.{IsBefore, IsLinked, StandsForAt, StartsBelow, low_of};
+    ghost use Rattle.bw_tree.specs.Stages.{IsPostedStage, IsStagedAs, accepted, adopted, is_adopted, staged_on, undone};
+    ghost use Rattle.bw_model.specs.Model.{contents_after};
+    ghost use Rattle.bw_delta.specs.Batches.{writes_of};
     ghost use Rattle.bw_tree.specs.Making.{AreAbutting, IsOverLeaves, count_from, tree_over};
 
     /// The tree of one empty leaf, page 0, which is the root.
@@ -57,6 +65,7 @@ impl Tree {
         ensures heads { IfOk result (λ tree. tree.heads ≡ 0 ∷ []) }
         ensures records { IfOk result (λ tree. tree.records ≡ 0) }
         ensures next { IfOk result (λ tree. tree.next ≡ 0) }
+        ensures staged { IfOk result (λ tree. tree.staged ≡ None) }
     {
         let mut leaves = Vec::new(alloc);
         leaves.push(Leaf::empty(alloc))?;
@@ -88,7 +97,7 @@ impl Tree {
 
     // The tree whose pages are base pages, each named by its place. The last one is the root.
     fn over(alloc: Alloc, bases: Vec<Option<Page>, Alloc>) -> Result<Tree, Memory>
-        requires { IsTree (count_from 0 (length bases.items)) bases.items [] (length bases.items - 1) 0 }
+        requires { IsTree (count_from 0 (length bases.items)) bases.items [] (length bases.items - 1) 0 None }
         ensures { IfOk result (λ tree. tree ≡ tree_over bases.entry.items) }
     {
         let count = bases.len();
@@ -100,6 +109,7 @@ impl Tree {
             },
             root: PageId((count - 1) as u32),
             next: 0,
+            staged: None,
         })
     }
 
@@ -121,7 +131,7 @@ impl Tree {
     pub fn records(&self) -> usize
         ensures { result ≡ self.now.records }
     {
-        self.chains.arena.len()
+        self.chains.len()
     }
 
     /// The mapping words, by the identifiers of their pages.
@@ -173,6 +183,107 @@ impl Tree {
         let found = self.chains.writes_at(alloc, head, key)?;
         let start = self.chains.base_value_at(head, key);
         value_as_of(alloc, start, &found, stamp)
+    }
+
+    /// Stages a batch: each of its writes becomes a record, in the order of the batch, and the operation at place i has
+    /// the stamp `base + i`. No batch is staged, and the stamps stay within 2^40.
+    ///
+    /// A write without an effect is a record too. It costs a copy of each key and value that is written. After `Memory`
+    /// the tree is as before, and nothing is staged.
+    pub fn stage(&mut self, ops: &[Op]) -> Result<Staged, Memory>
+        requires none { self.old.staged ≡ None }
+        requires fits { self.old.next + length ops.now ≤ 2 ^ 40 }
+        ensures ok { OnOk result (self.new ≡ staged_on self.old ops.now) }
+        ensures err { OnErr result (self.new ≡ self.old) }
+        ensures base { IfOk result (λ staged. staged.base ≡ self.old.next) }
+        ensures floor { IfOk result (λ staged. staged.floor ≡ 2 ^ 32 + self.old.records) }
+        ensures records { IfOk result (λ staged. staged.records ≡ length (writes_of self.old.next ops.now)) }
+
+        // With the staged writes among them, a read as of the stamp of an operation sees the map before it.
+        ensures reads { OnOk result ((i : ℕ) → contents_with self.new (self.old.next + i) ≡ contents_after (take i ops.now) (contents_at self.old self.old.next)) }
+    {
+        let records = self.chains.len();
+        self.chains.append_writes(ops, self.next)?;
+        self.staged.replace(Stage {
+            records,
+            ops: ops.len() as u64,
+            before: None,
+        });
+        Ok(Staged {
+            base: self.next,
+            floor: FLOOR + records as u64,
+            records: (self.chains.len() - records) as u64,
+        })
+    }
+
+    /// The batch that is staged, if one is.
+    pub fn staged(&self) -> Option<Staged>
+        ensures { MatchOption result (self.now.staged ≡ None) (IsStagedAs self.now) }
+    {
+        let stage = self.staged.as_ref()?;
+        Some(Staged {
+            base: self.next,
+            floor: FLOOR + stage.records as u64,
+            records: (self.chains.len() - stage.records) as u64,
+        })
+    }
+
+    /// The key of a staged record, by its place among them. A worker routes it and posts the record there.
+    pub fn staged_key(&self, place: u64) -> &Key
+        requires { place < length (staged_writes self.now.staged) }
+        ensures { option_map (λ w. w.key) (slice_get (staged_writes self.now.staged) place) ≡ Some result.now }
+    {
+        match &self.staged {
+            Some(stage) => self.chains.key_at(stage.records + place as usize),
+            None => unreachable!(),
+        }
+    }
+
+    /// Takes the words that a board was closed with, on which each staged record was posted to the page of its key: its
+    /// `route`. From now on the staged writes stand in the chains, in whatever order each page got them. It takes no
+    /// memory.
+    pub fn adopt(&mut self, closed: Closed)
+        requires { IsPostedStage self.old self.old.staged closed.heads closed.links }
+        ensures contents { (stamp : ℕ) → contents_at self.new stamp ≡ contents_with self.old stamp }
+        ensures root { self.new.root ≡ self.old.root }
+        ensures levels { self.new.levels ≡ self.old.levels }
+        ensures heads { self.new.heads ≡ closed.heads }
+        ensures records { self.new.records ≡ self.old.records }
+        ensures next { self.new.next ≡ self.old.next }
+        ensures staged { self.new.staged ≡ adopted self.old.staged }
+    {
+        let (heads, links, _) = closed.into_parts();
+        if let Some(stage) = self.staged.take() {
+            self.chains.set_links(stage.records, &links);
+            let before = mem::replace(&mut self.heads, heads);
+            self.staged.replace(Stage {
+                records: stage.records,
+                ops: stage.ops,
+                before: Some(before),
+            });
+        }
+    }
+
+    /// Ends the stage of a batch that was adopted: it stays, and the next stamp is the one behind its operations.
+    pub fn accept(&mut self)
+        requires { is_adopted self.old.staged ≡ true }
+        ensures { self.new ≡ accepted self.old self.old.staged }
+    {
+        if let Some(stage) = self.staged.take() {
+            self.next += stage.ops;
+        }
+    }
+
+    /// Ends the stage of a batch, adopted or not: the tree is as before it. It takes no memory.
+    pub fn undo(&mut self)
+        ensures { self.new ≡ undone self.old self.old.staged }
+    {
+        if let Some(stage) = self.staged.take() {
+            self.chains.arena.truncate(stage.records);
+            if let Some(before) = stage.before {
+                self.heads = before;
+            }
+        }
     }
 
     /// The first pairs of a range of keys as of a stamp, in the order of their keys: those from `from` on and below

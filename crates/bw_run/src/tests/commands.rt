@@ -1,6 +1,6 @@
-// Words of a command line: jobs, options, files, help and version.
+// Words of a command line: jobs, other words, and messages.
 use super::ports::{BOTH_TEXTS, Runner, TURNS, TWO_BATCHES};
-use crate::command::{no_memory, run_words};
+use crate::command::run_words;
 
 const HISTORY: &str =
     "insert a 1\ndelete a\ninsert a 2\ngo\nupdate a 3\ninsert a 4\ngo\ndelete a\nupsert a 5\nget a";
@@ -77,66 +77,6 @@ fn batches_above_batch_max_are_refused(rt: HostRuntime) {
 }
 
 #[test]
-fn each_option_has_its_range(rt: HostRuntime) {
-    let runner = Runner::new(&rt, rt.alloc());
-    let commands: [(&[&'static str], &str); 12] = [
-        (&["run", "--workers", "0"], "workers must be from 1 to 64"),
-        (&["run", "--workers", "65"], "workers must be from 1 to 64"),
-        (&["dump", "--piece", "4097"], "piece must be from 1 to 4096"),
-        (&["run", "--chain", "0"], "chain must be from 1 to 1024"),
-        (
-            &["run", "--page-max", "3"],
-            "page-max must be from 4 to 4096",
-        ),
-        (
-            &["run", "--page-max", "4", "--page-min", "3"],
-            "page-min must be from 0 to half of page-max",
-        ),
-        (
-            &["run", "--batch-max", "65537"],
-            "batch-max must be from 1 to 65536",
-        ),
-        (
-            &["run", "--record-max", "65535"],
-            "record-max must be from batch-max to 16777216",
-        ),
-        (
-            &["run", "--record-max", "16777217"],
-            "record-max must be from batch-max to 16777216",
-        ),
-        (
-            &["run", "--piece", "0", "--workers", "0"],
-            "workers must be from 1 to 64",
-        ),
-        (
-            &["run", "--workers", "0", "no/such/file"],
-            "workers must be from 1 to 64",
-        ),
-        (
-            &["run", "--batch-max", "0"],
-            "batch-max must be from 1 to 65536",
-        ),
-    ];
-    for (words, message) in commands {
-        runner.expect_words(words, "bogus", "", message, 2);
-    }
-}
-
-#[test]
-fn a_file_is_read_in_place_of_the_input(rt: HostRuntime) {
-    let runner = Runner::new(&rt, rt.alloc());
-    runner.expect_words(&["run", "/dev/null"], "get a", "", "", 0);
-    runner.expect_words(&["dump", "/dev/null"], "upsert a 1", "contents 0\n", "", 0);
-}
-
-#[test]
-fn a_file_that_cannot_be_opened_cannot_be_read(rt: HostRuntime) {
-    let runner = Runner::new(&rt, rt.alloc());
-    runner.expect_words(&["run", "no/such/file"], "get a", "", "cannot read", 1);
-    runner.expect_words(&["dump", "no/such/file"], "get a", "", "cannot read", 1);
-}
-
-#[test]
 fn other_words_are_no_command(rt: HostRuntime) {
     let runner = Runner::new(&rt, rt.alloc());
     let commands: [&[&'static str]; 9] = [
@@ -170,14 +110,40 @@ fn other_words_are_no_command(rt: HostRuntime) {
 }
 
 #[test]
-fn help_and_version_are_outputs(rt: HostRuntime) {
+fn what_is_wrong_with_words_is_told(rt: HostRuntime) {
     let runner = Runner::new(&rt, rt.alloc());
-    runner.expect_words(&["--version"], "bogus", "bw_run 0.1.0\n", "", 0);
-    let commands: [&[&'static str]; 3] = [&["--help"], &["-h"], &["run", "--help"]];
-    for words in commands {
+    let cases: [(&[&'static str], &str); 3] = [
+        (
+            &["bogus"],
+            "error: invalid value 'bogus' for '<JOB>'
+  [possible values: run, dump]
+
+For more information, try '--help'.
+",
+        ),
+        (
+            &[],
+            "error: the following required arguments were not provided:
+  <JOB>
+
+Usage: bw_run run [OPTIONS] [FILE]
+       bw_run dump [OPTIONS] [FILE]
+
+For more information, try '--help'.
+",
+        ),
+        (
+            &["run", "--workers", "x"],
+            "error: invalid value 'x' for '--workers <N>': invalid digit found in string
+
+For more information, try '--help'.
+",
+        ),
+    ];
+    for (words, text) in cases {
         let mut out = runner.sink();
         let mut errors = runner.sink();
-        let input = runner.pieces("bogus");
+        let input = runner.pieces(TWO_BATCHES);
         let status = run_words(
             &rt,
             runner.alloc,
@@ -187,31 +153,10 @@ fn help_and_version_are_outputs(rt: HostRuntime) {
             &mut errors,
             TURNS,
         );
-        assert_eq!(rt; status, 0);
-        runner.expect_text(&errors, "");
-        let front =
-            b"Runs a trace of operations on an ordered index from keys to values.\n\nUsage: bw_run run [OPTIONS] [FILE]\n       bw_run dump [OPTIONS] [FILE]\n";
-        assert!(rt; out.taken.starts_with(front.as_slice()));
+        assert_eq!(rt; status, 2);
+        runner.expect_text(&out, "");
+        runner.expect_text(&errors, text);
     }
-}
-
-#[test]
-fn help_that_is_not_taken_cannot_be_written(rt: HostRuntime) {
-    let runner = Runner::new(&rt, rt.alloc());
-    let mut out = runner.sink_failing_at(1);
-    let mut errors = runner.sink();
-    let input = runner.pieces("");
-    let status = run_words(
-        &rt,
-        runner.alloc,
-        &["--help"],
-        input,
-        &mut out,
-        &mut errors,
-        TURNS,
-    );
-    assert_eq!(rt; status, 1);
-    runner.expect_message(&errors, "cannot write");
 }
 
 #[test]
@@ -239,7 +184,4 @@ fn a_message_that_is_not_taken_leaves_the_status(rt: HostRuntime) {
         assert_eq!(rt; status, expected);
         runner.expect_text(&errors, "");
     }
-    let mut errors = runner.sink();
-    assert_eq!(rt; no_memory(&mut errors), 1);
-    runner.expect_message(&errors, "out of memory");
 }

@@ -1,5 +1,21 @@
-// The traces of the folder examples, and what they print.
+// The traces of the folder examples, and what they print. `examples/check` says where one of these texts, which a test
+// can't read from the folder, differs from its file: FIRST from first.trace, and FIRST_TEXT from first.out.
 use super::ports::Runner;
+
+const FIRST: &str = "upsert a 1
+get a
+upsert a 2
+get b
+go
+get a
+";
+
+const FIRST_TEXT: &str = "new
+is 1
+was 1
+none
+is 2
+";
 
 const WRITES: &str = "# Each write, where the key is absent and where it is there.
 update a 1
@@ -121,15 +137,23 @@ go
 get a
 ";
 
+const BATCHES_TEXT: &str = "new
+is 1
+is 1
+was 1
+none
+";
+
 #[test]
 fn the_examples_print_what_stands_beside_them(rt: HostRuntime) {
     let runner = Runner::new(&rt, rt.alloc());
     for (trace, text) in [
+        (FIRST, FIRST_TEXT),
         (WRITES, WRITES_TEXT),
         (SCANS, SCANS_TEXT),
         (SPELLING, SPELLING_TEXT),
         (VALUES, VALUES_TEXT),
-        (BATCHES, "new\nis 1\nis 1\nwas 1\nnone\n"),
+        (BATCHES, BATCHES_TEXT),
     ] {
         runner.expect(trace, text, "", 0);
     }

@@ -119,7 +119,7 @@ impl Outlet for Sink {
 /// Runs the program, and ends the test where it does something else than is expected.
 #[derive(Drop)]
 pub struct Runner<'a, R: Abort + Files + AllocGlobal> {
-    rt: &'a R,
+    pub rt: &'a R,
     global: Global,
     // what the program allocates from
     pub alloc: Alloc,

@@ -1,9 +1,8 @@
 // A source, batch by batch, and the texts of its faults.
 use super::ports::{Maker, Pieces};
-use crate::{Cause, FromRead, FromWrite, Inlet, Outlet, Source, TraceFault, read_batch};
+use crate::{Cause, Inlet, Source, TraceFault, read_batch};
 use bw_batch::{Key, Memory, Op, Value};
 use bw_memory::Alloc;
-use std::collections::VecDeque;
 use std::process::Abort;
 
 impl<R: Abort> Maker<'_, R> {
@@ -11,18 +10,18 @@ impl<R: Abort> Maker<'_, R> {
         Source::new(self.alloc, self.pieces(text, 3), 1000).expect(self.rt, "memory")
     }
 
-    fn get(&self, key: &str) -> Op {
+    pub fn get(&self, key: &str) -> Op {
         Op::Get(Key::new(self.alloc, key.as_bytes()).expect(self.rt, "a key"))
     }
 
-    fn upsert(&self, key: &str, value: &str) -> Op {
+    pub fn upsert(&self, key: &str, value: &str) -> Op {
         Op::Upsert(
             Key::new(self.alloc, key.as_bytes()).expect(self.rt, "a key"),
             Value::new(self.alloc, value.as_bytes()).expect(self.rt, "a value"),
         )
     }
 
-    fn expect_batch<I: Inlet>(&self, source: &mut Source<I>, ops: &[Op]) {
+    pub fn expect_batch<I: Inlet>(&self, source: &mut Source<I>, ops: &[Op]) {
         match read_batch(source) {
             Ok(Some(found)) => {
                 assert_eq!(self.rt; found.len(), ops.len());
@@ -35,7 +34,7 @@ impl<R: Abort> Maker<'_, R> {
         }
     }
 
-    fn expect_end<I: Inlet>(&self, source: &mut Source<I>) {
+    pub fn expect_end<I: Inlet>(&self, source: &mut Source<I>) {
         for _ in 0..3 {
             assert!(self.rt; matches!(read_batch(source), Ok(None)));
         }
@@ -150,31 +149,4 @@ fn want_of_memory_is_a_fault(rt: HostRuntime) {
         TraceFault::from(std::alloc::AllocError),
         TraceFault::Memory
     );
-}
-
-#[test]
-fn a_reader_of_std_is_a_source(rt: HostRuntime) {
-    let make = Maker::new(&rt, rt.alloc());
-    let mut queue: VecDeque<u8> = VecDeque::new(rt.alloc());
-    for b in b"upsert a 1\ngo\nget b" {
-        queue.push_back(*b).expect(&rt, "memory");
-    }
-    let mut source = Source::new(make.alloc, FromRead::new(queue), 1000).expect(&rt, "memory");
-    make.expect_batch(&mut source, &[make.upsert("a", "1")]);
-    make.expect_batch(&mut source, &[make.get("b")]);
-    make.expect_end(&mut source);
-}
-
-#[test]
-fn a_writer_of_std_takes_texts(rt: HostRuntime) {
-    let mut queue: VecDeque<u8> = VecDeque::new(rt.alloc());
-    let mut out = FromWrite::new(&mut queue);
-    assert!(rt; out.put(b"is 1\n").is_ok());
-    assert!(rt; out.put(b"").is_ok());
-    assert!(rt; out.put(b"none\n").is_ok());
-    drop(out);
-    let (front, back) = queue.as_slices();
-    let mut taken = front.to_vec(rt.alloc()).expect(&rt, "memory");
-    taken.extend_from_slice(back).expect(&rt, "memory");
-    assert_eq!(rt; taken.as_slice(), b"is 1\nnone\n".as_slice());
 }

@@ -1,5 +1,8 @@
-use Rattle.bw_run.proofs.JobsLemmas.{all_done}
+use Rattle.bw_run.proofs.JobsLemmas.{all_done, nothing_done}
 use Rattle.bw_run.proofs.command.run.Goals as goal
+
+pub returns-in_err-source-clause-memory : goal.returns-in_err-source-clause-memory
+returns-in_err-source-clause-memory g c = λ _. nothing_done c.args.options c.args.job (g.R.Inlet.remaining c.args.input) (g.W.Outlet.contents c.args.output.now)
 
 pub returns-clause-done : goal.returns-clause-done
 returns-clause-done g c =

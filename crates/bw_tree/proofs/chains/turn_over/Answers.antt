@@ -1,6 +1,6 @@
-use Rattle.std.proofs.Common.{◌≡◌, ◌∙◌, sym, subst}
+use Rattle.std.proofs.Common.{◌∙◌, sym, subst}
 use Rattle.bw_delta.specs.declared.deltas.Delta.{Delta}
-use Rattle.bw_tree.specs.Chains.{Bases, change, plain}
+use Rattle.bw_tree.specs.Chains.{change, plain}
 use Rattle.bw_tree.specs.Turns.{IsTurn}
 use Rattle.bw_tree.proofs.TurnLemmas.{split_before}
 use Rattle.bw_tree.proofs.chains.turn_over.Goals as goal

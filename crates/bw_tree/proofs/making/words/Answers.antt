@@ -1,4 +1,3 @@
-use Rattle.std.proofs.Common.{◌∙◌}
 use Rattle.bw_tree.proofs.MakingLemmas.{counted_more}
 use Rattle.bw_tree.proofs.making.words.Goals as goal
 

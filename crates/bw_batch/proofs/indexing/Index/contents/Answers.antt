@@ -9,4 +9,4 @@ leaf_as_of-requires c = walked_distinct c.self.inside.chain (pointed_to c.deref.
 pub returns : goal.returns
 returns c =
     rw (← c.self.view_is)
-    (index_pairs c.self.inside.leaf c.self.inside.chain (pointed_to c.deref.result.now) c.self.inside.next _ _ c.leaf_as_of.result c.self.invariant (ap pointed_to c.deref.ensures.value ∙ c.in_ok-writes.ensures) c.low.ensures c.high.ensures c.leaf_as_of.ensures)
+    (index_pairs c.self.inside.leaf c.self.inside.chain (pointed_to c.deref.result.now) c.self.inside.next _ _ c.leaf_as_of.result c.self.invariant (ap pointed_to c.deref.ensures.value ∙ c.in_ok-writes.ensures) c.low.ensures.value c.high.ensures c.leaf_as_of.ensures)

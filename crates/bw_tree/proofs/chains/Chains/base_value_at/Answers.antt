@@ -1,4 +1,4 @@
-use Rattle.std.proofs.Common.{◌≡◌, ◌∙◌, sym, ap, Option}
+use Rattle.std.proofs.Common.{◌∙◌, sym, ap, Option}
 use Rattle.std.specs.Borrow.{Bor}
 use Rattle.bw_page.specs.declared.pages.Page.{Page}
 use Rattle.bw_tree.specs.Chains.{plain, slot_of_word}

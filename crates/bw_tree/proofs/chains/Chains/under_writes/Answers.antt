@@ -1,4 +1,4 @@
-use Rattle.std.proofs.Common.{◌≡◌, ◌∙◌, sym, ap}
+use Rattle.std.proofs.Common.{◌∙◌, sym, ap}
 use Rattle.bw_tree.specs.Chains.{change}
 use Rattle.bw_tree.specs.Turns.{bare}
 use Rattle.bw_tree.proofs.ChainLemmas.{under_put, under_other, on_base}

@@ -1,7 +1,7 @@
-use Rattle.std.proofs.Common.{◌≡◌, ◌∙◌, sym, ap}
+use Rattle.std.proofs.Common.{◌∙◌, sym, ap}
 use Rattle.bw_key.specs.Order.{key_eq}
 use Rattle.bw_delta.specs.Writes.{WriteView}
-use Rattle.bw_tree.proofs.ReadingLemmas.{Passed, passed, none_at_other, none_at_base, found_next, found_same, found_all}
+use Rattle.bw_tree.proofs.ReadingLemmas.{passed, none_at_other, none_at_base, found_next, found_same, found_all}
 use Rattle.bw_tree.proofs.chains.Chains.writes_at.Goals as goal
 
 pub returns-in_default-delta : goal.returns-in_default-delta

@@ -1,4 +1,4 @@
-use Rattle.std.proofs.Common.{◌≡◌, ◌∙◌, ◌<◌, ◌≤◌, ◌^◌, List, [], length, ap, sym, subst, arith, rules, vec_len}
+use Rattle.std.proofs.Common.{◌≡◌, ◌∙◌, List, [], ap, sym, subst, arith, rules}
 use Rattle.std.specs.List.{AllByRecursion}
 use Rattle.bw_key.specs.Order.{KeyBytes}
 use Rattle.bw_model.specs.Values.{ValueBytes}
@@ -15,7 +15,7 @@ from_children-root-requires c =
     let low : c.unwrap-low.result ≡ [] = search rules in
     subst (λ (k : KeyBytes). IsInner 1 k _ _ c.in_ok-children.children.items) (sym low)
     (subst (λ (cs : List _). IsInner 1 [] _ _ cs) (sym (c.in_ok-children.ensures.items ∙ ap (terms_from 0) c.deref.ensures.value))
-     (root_rules leaves c.requires (subst (λ (ls : List (LeafView ValueBytes)). AllByRecursion HasRules ls) c.deref.ensures.value c.in_ok-children.ensures.rules)))
+    (root_rules leaves c.requires (subst (λ (ls : List (LeafView ValueBytes)). AllByRecursion HasRules ls) c.deref.ensures.value c.in_ok-children.ensures.rules)))
 
 pub over-requires : goal.over-requires
 over-requires c =

@@ -1,0 +1,170 @@
+-- A tree that adopted the words that a board was closed with.
+use Rattle.std.proofs.Common.{◌≡◌, ℕ, zero, suc, ◌+◌, ◌<◌, ◌≤◌, true, false, List, [], ◌∷◌, ◌++◌, length, take, drop, Option, Some, None, refl, sym, ap, ◌∙◌, subst, arith}
+use Rattle.std.specs.Prelude.{slice_get, slice_index}
+use Rattle.std.specs.FinMap.{from_entries}
+use Rattle.bw_core.specs.World.{Meets}
+use Rattle.bw_delta.specs.Arenas.{deltas_of, links_of}
+use Rattle.bw_delta.specs.Writes.{WriteView}
+use Rattle.bw_delta.specs.ContentsAsOf.{contents_as_of}
+use Rattle.bw_tree.specs.Slots.{Slot}
+use Rattle.bw_tree.specs.Levels.{IsHome, row}
+use Rattle.bw_tree.specs.Chains.{Bases, Records, slot_of_word}
+use Rattle.bw_tree.specs.Trees.{IsStanding, IsTree, StageWords, put_records, stage_of, view_of, writes_in}
+use Rattle.bw_tree.specs.Stages.{IsPosted, IsPostedStage, adopted}
+use Rattle.bw_tree.specs.View.{TreeView, StageView, contents_at, contents_with, levels_under, row_pairs, row_writes, slots_of}
+use Rattle.bw_tree.proofs.AdoptLemmas.{ChainOf, contents_after_it, levels_after, relinked, standing_after, writes_put_in}
+use Rattle.bw_tree.proofs.GrowthLemmas.{append_extends, drop_front, same_map, still_ends, take_front}
+use Rattle.bw_tree.proofs.PostedLemmas.{posted_length}
+
+pub take_length : (n : ℕ) (xs : Records) → n ≤ length xs → length (take n xs) ≡ n
+take_length zero [] le = refl
+take_length zero (x ∷ xs) le = refl
+take_length (suc n) [] le = absurd (omega arith)
+take_length (suc n) (x ∷ xs) le = ap suc (take_length n xs (omega arith))
+
+-- the tree behind an adoption
+pub record IsAdoptedOn (heads : List ℕ) (bases : Bases) (records : Records) (root next : ℕ) (staged : Option StageWords) (tree : TreeView) : Type 0 where
+  pub tree_is : IsTree heads bases records root next staged
+  pub contents : (stamp : ℕ) → contents_at (view_of heads bases records root next staged) stamp ≡ contents_with tree stamp
+  pub levels : levels_under (slots_of heads bases records) root ≡ tree.levels
+  pub staged_is : (view_of heads bases records root next staged).staged ≡ adopted tree.staged
+
+module _ (heads heads' : List ℕ) (bases : Bases) (records : Records) (root next n ops : ℕ) (links : List ℕ) where
+  abbrev stage : StageWords
+  stage = record { records = n; ops = ops; before = None }
+
+  abbrev tree : TreeView
+  tree = view_of heads bases records root next (Some stage)
+
+  abbrev earlier : Records
+  earlier = take n records
+
+  module _ (t : IsTree heads bases records root next (Some stage)) (p : IsPosted tree (stage_of heads bases records root stage) heads' links) where
+    abbrev ws : List WriteView
+    ws = t.stage.writes
+
+    abbrev before : Records
+    before = put_records ws t.stage.links
+
+    count : length earlier ≡ n
+    count = take_length n records t.stage.earlier
+
+    writes_are : writes_in (drop n records) ≡ ws
+    writes_are =
+        ap (λ (r : Records). writes_in (drop n r)) t.stage.parts ∙ ap (λ k. writes_in (drop k (earlier ++ before))) (sym count)
+        ∙ ap writes_in (drop_front earlier before) ∙ writes_put_in ws t.stage.links t.stage.linked
+
+    linked : length links ≡ length ws
+    linked = p.records ∙ ap length writes_are
+
+    slots_same : slots_of heads bases records ≡ slots_of heads bases earlier
+    slots_same =
+        ap (λ (r : Records). slots_of heads bases r) t.stage.parts
+        ∙ same_map (slot_of_word bases earlier) (slot_of_word bases (earlier ++ before)) heads
+        (λ q word e. (still_ends bases earlier (earlier ++ before) word (append_extends earlier before) (omega (arith, posted_length bases earlier ws t.stage.links t.stage.linked)) (t.stage.before.ends q word e)).1)
+
+    chains : (q : ℕ) → q < length heads → ChainOf (slots_of heads bases earlier) (levels_under (slots_of heads bases earlier) root) (4294967296 + length earlier) ws links (slice_index heads' q) (slice_index heads q) q
+    chains q lt =
+        let c = p.chains q lt in
+        record {
+          chain = c.chain;
+          way = subst (λ k. Meets (4294967296 + k) links (slice_index heads' q) c.chain (slice_index heads q)) (sym count) c.way;
+          once = c.once;
+          here = λ r w at home. c.here r w (ap (λ (l : List WriteView). slice_get l r) writes_are ∙ at) (subst (λ (s : List Slot). IsHome s (levels_under s root) w.key q) (sym slots_same) home);
+          only = λ r w at some. subst (λ (s : List Slot). IsHome s (levels_under s root) w.key q) slots_same (c.only r w (ap (λ (l : List WriteView). slice_get l r) writes_are ∙ at) some);
+        }
+
+    abbrev after : Records
+    after = earlier ++ put_records ws links
+
+    abbrev stage' : StageWords
+    stage' = record { records = n; ops = ops; before = Some heads }
+
+    length_same : length after ≡ length records
+    length_same = omega (arith, posted_length bases earlier ws links linked, posted_length bases earlier ws t.stage.links t.stage.linked, ap length t.stage.parts)
+
+    first_same : take n after ≡ earlier
+    first_same = ap (λ k. take k after) (sym count) ∙ take_front earlier (put_records ws links)
+
+    last_same : writes_in (drop n after) ≡ ws
+    last_same = ap (λ k. writes_in (drop k after)) (sym count) ∙ ap writes_in (drop_front earlier (put_records ws links)) ∙ writes_put_in ws links linked
+
+    levels_now : levels_under (slots_of heads' bases after) root ≡ levels_under (slots_of heads bases earlier) root
+    levels_now = levels_after heads heads' bases earlier root next (next + ops) ws links linked p.pages t.stage.rising t.stage.below (omega arith) t.stage.before chains
+
+    adopted_tree : IsTree heads' bases after root next (Some stage')
+    adopted_tree = record {
+      now = standing_after heads heads' bases earlier root next (next + ops) ws links linked p.pages t.stage.rising t.stage.below (omega arith) t.stage.before chains t.now.fits (omega (arith, t.now.few_records, length_same));
+      stage = record {
+        writes = ws;
+        links = links;
+        parts = ap (λ (r : Records). r ++ put_records ws links) (sym first_same);
+        linked = linked;
+        earlier = omega (arith, t.stage.earlier, length_same);
+        rising = t.stage.rising;
+        below = t.stage.below;
+        before = subst (λ (r : Records). IsStanding heads bases r root next) (sym first_same) t.stage.before;
+        same = ap (λ (r : Records). levels_under (slots_of heads bases r) root) first_same ∙ sym levels_now;
+      };
+    }
+
+    abbrev stage_with : Records → List WriteView → StageView
+    stage_with r w =
+        let was = slots_of heads bases r in
+        record { slots = was; levels = levels_under was root; heads = heads; records = n; ops = ops; writes = w; adopted = true }
+
+    pub adopt_all : IsAdoptedOn heads' bases after root next (Some stage') tree
+    adopt_all = record {
+      tree_is = adopted_tree;
+      contents = λ stamp.
+          contents_after_it heads heads' bases earlier root next (next + ops) ws links linked p.pages t.stage.rising t.stage.below (omega arith) t.stage.before chains stamp
+          ∙ ap (λ (s : List Slot). contents_as_of (from_entries (row_pairs s (row (levels_under s root) 0))) (ws ++ row_writes s (row (levels_under s root) 0)) stamp) (sym slots_same)
+          ∙ ap (λ (l : List WriteView). let s = slots_of heads bases records in contents_as_of (from_entries (row_pairs s (row (levels_under s root) 0))) (l ++ row_writes s (row (levels_under s root) 0)) stamp) (sym writes_are);
+      levels = levels_now ∙ ap (λ (s : List Slot). levels_under s root) (sym slots_same);
+      staged_is = ap (λ r. Some (stage_with r (writes_in (drop n after)))) first_same ∙ ap (λ w. Some (stage_with earlier w)) (last_same ∙ sym writes_are);
+    }
+
+    pub adopt_fits : n + length links ≤ length records
+    adopt_fits = omega (arith, linked, count, posted_length bases earlier ws t.stage.links t.stage.linked, ap length t.stage.parts)
+
+    pub adopt_links : (new : Records) → deltas_of new ≡ deltas_of records → links_of new ≡ take n (links_of records) ++ links ++ drop (n + length links) (links_of records) → new ≡ after
+    adopt_links new deltas links_are =
+        relinked earlier ws t.stage.links links records new t.stage.parts t.stage.linked linked deltas
+        (subst (λ k. links_of new ≡ take k (links_of records) ++ links ++ drop (k + length links) (links_of records)) (sym count) links_are)
+
+-- What `adopt` does, from the words that it writes.
+pub record Adoption (heads heads' : List ℕ) (bases : Bases) (records : Records) (root next : ℕ) (tree : TreeView) (s : StageWords) (links : List ℕ) : Type 0 where
+  pub fits : s.records + length links ≤ length records
+  pub all : (new : Records) → deltas_of new ≡ deltas_of records → links_of new ≡ take s.records (links_of records) ++ links ++ drop (s.records + length links) (links_of records) →
+      IsAdoptedOn heads' bases new root next (Some (record { records = s.records; ops = s.ops; before = Some heads })) tree
+
+adoption_at : (heads heads' : List ℕ) (bases : Bases) (records : Records) (root next n ops : ℕ) (before : Option (List ℕ)) (links : List ℕ) → IsTree heads bases records root next (Some (record { records = n; ops = ops; before = before })) →
+    let tree = view_of heads bases records root next (Some (record { records = n; ops = ops; before = before })) in IsPostedStage tree tree.staged heads' links → Adoption heads heads' bases records root next tree (record { records = n; ops = ops; before = before }) links
+adoption_at heads heads' bases records root next n ops (Some b) links t p = absurd (different p.0)
+  where
+    different : true ≡ false → ⊥
+    different e = cc
+adoption_at heads heads' bases records root next n ops None links t p = record {
+  fits = adopt_fits heads heads' bases records root next n ops links t p.1;
+  all = λ new deltas links_are. subst (λ (r : Records). IsAdoptedOn heads' bases r root next (Some (record { records = n; ops = ops; before = Some heads })) (view_of heads bases records root next (Some (record { records = n; ops = ops; before = None }))))
+      (sym (adopt_links heads heads' bases records root next n ops links t p.1 new deltas links_are)) (adopt_all heads heads' bases records root next n ops links t p.1);
+}
+
+pub adoption : (heads heads' : List ℕ) (bases : Bases) (records : Records) (root next : ℕ) (staged : Option StageWords) (tree : TreeView) (s : StageWords) (links : List ℕ) → IsTree heads bases records root next staged → view_of heads bases records root next staged ≡ tree → Some s ≡ staged →
+    IsPostedStage tree tree.staged heads' links → Adoption heads heads' bases records root next tree s links
+adoption heads heads' bases records root next staged tree s links t is some p =
+    subst (λ (v : TreeView). Adoption heads heads' bases records root next v s links) (ap (view_of heads bases records root next) some ∙ is)
+    (adoption_at heads heads' bases records root next s.records s.ops s.before links (subst (IsTree heads bases records root next) (sym some) t)
+    (subst (λ (v : TreeView). IsPostedStage v v.staged heads' links) (sym (ap (view_of heads bases records root next) some ∙ is)) p))
+
+-- and so of the words that were written
+pub adopted_with : (heads heads' : List ℕ) (bases : Bases) (records : Records) (root next : ℕ) (tree : TreeView) (s : StageWords) (links : List ℕ) → Adoption heads heads' bases records root next tree s links →
+    (words : List ℕ) (bases' : Bases) (new : Records) (staged : Option StageWords) (given before : List ℕ) → words ≡ heads' → bases' ≡ bases → given ≡ links → deltas_of new ≡ deltas_of records →
+    links_of new ≡ take s.records (links_of records) ++ given ++ drop (s.records + length given) (links_of records) → before ≡ heads → staged ≡ Some (record { records = s.records; ops = s.ops; before = Some before }) →
+    IsAdoptedOn words bases' new root next staged tree
+adopted_with heads heads' bases records root next tree s links a words bases' new staged given before same_words same_bases same_links deltas linked same_before staged_is =
+    let links_are = subst (λ (l : List ℕ). links_of new ≡ take s.records (links_of records) ++ l ++ drop (s.records + length l) (links_of records)) same_links linked in
+    subst (λ (h : List ℕ). IsAdoptedOn h bases' new root next staged tree) (sym same_words)
+    (subst (λ (b : Bases). IsAdoptedOn heads' b new root next staged tree) (sym same_bases)
+    (subst (λ (o : Option StageWords). IsAdoptedOn heads' bases new root next o tree) (sym (staged_is ∙ ap (λ (h : List ℕ). Some (record { records = s.records; ops = s.ops; before = Some h })) same_before))
+    (a.all new deltas links_are)))

@@ -1,0 +1,123 @@
+-- The chain of a page once staged records were posted to it.
+use Rattle.std.proofs.Common.{◌≡◌, ℕ, zero, suc, ◌+◌, ◌-◌, ◌<◌, ◌≤◌, false, cond, List, [], ◌∷◌, ◌++◌, length, map, Option, Some, None, ltb, refl, sym, ap, ◌∙◌, subst, arith, length-append}
+use Rattle.std.specs.Prelude.{slice_get, slice_index}
+use Rattle.std.proofs.lemmas.Bool.Decides.{nat_tests}
+use Rattle.std.proofs.lemmas.List.{length-map}
+use Rattle.bw_core.specs.World.{Meets, times}
+use Rattle.bw_core.proofs.Lists.{few, meets_low}
+use Rattle.bw_delta.specs.Writes.{WriteView}
+use Rattle.bw_delta.specs.declared.deltas.Delta.{Delta}
+use Rattle.bw_delta.specs.declared.deltas.Delta.TheVariants.{Put}
+use Rattle.bw_tree.specs.Slots.{Slot}
+use Rattle.bw_tree.specs.Walk.{Leads}
+use Rattle.bw_tree.specs.Chains.{Bases, Records, Ends, EndsAt, IsShaped, record_at, link_of, delta_in, deltas_at, change, changed, based, slot_of_word}
+use Rattle.bw_tree.specs.Trees.{put_records}
+use Rattle.bw_tree.proofs.ChainLemmas.{link_is, slot_of_way}
+use Rattle.bw_tree.proofs.GrowthLemmas.{append_extends, deltas_on, leads_on}
+
+-- the write at a place, before others
+abbrev pub write_before : Option WriteView → List WriteView → List WriteView
+write_before None ws = ws
+write_before (Some w) ws = w ∷ ws
+
+-- the writes that records name, by their places among the staged ones
+abbrev pub named : List WriteView → List ℕ → List WriteView
+named ws [] = []
+named ws (r ∷ rs) = write_before (slice_get ws r) (named ws rs)
+
+-- a page with writes put over it, the newest first
+abbrev pub put_over : Bases → List WriteView → Slot → Slot
+put_over bases [] slot = slot
+put_over bases (w ∷ ws) slot = change bases (Put w) (put_over bases ws slot)
+
+pub read_both : (ws : List WriteView) (links : List ℕ) (r : ℕ) → r < length links → length links ≡ length ws → (w : WriteView) × (slice_get ws r ≡ Some w) × (slice_get (put_records ws links) r ≡ Some (Put w, slice_index links r))
+read_both [] [] r lt same = absurd (omega arith)
+read_both [] (l ∷ links) r lt same = absurd (omega (arith, same))
+read_both (w ∷ ws) [] r lt same = absurd (omega arith)
+read_both (w ∷ ws) (l ∷ links) zero lt same = (w, refl, refl)
+read_both (w ∷ ws) (l ∷ links) (suc r) lt same = read_both ws links r (omega arith) (omega (arith, same))
+
+pub read_behind : (old more : Records) (r : ℕ) → slice_get (old ++ more) (length old + r) ≡ slice_get more r
+read_behind [] more r = ap (slice_get more) (from_none r)
+  where
+    from_none : (r : ℕ) → 0 + r ≡ r
+    from_none r = omega arith
+read_behind (x ∷ old) more r = read_next old more r (read_behind old more r)
+  where
+    read_next : (old more : Records) (r : ℕ) → slice_get (old ++ more) (length old + r) ≡ slice_get more r → slice_get (x ∷ (old ++ more)) (suc (length old) + r) ≡ slice_get more r
+    read_next old more r e = ap (slice_get (x ∷ (old ++ more))) (shifted (length old) r) ∙ e
+      where
+        shifted : (n r : ℕ) → suc n + r ≡ suc (n + r)
+        shifted n r = omega arith
+
+-- a staged record stands at its word
+record_there : (old : Records) (ws : List WriteView) (links : List ℕ) (r : ℕ) → r < length links → length links ≡ length ws →
+    (w : WriteView) × (slice_get ws r ≡ Some w) × (record_at (old ++ put_records ws links) (4294967296 + length old + r) ≡ Some (Put w, slice_index links r))
+record_there old ws links r lt same =
+    let both = read_both ws links r lt same in
+    let word = 4294967296 + length old + r in
+    let test : ltb word 4294967296 ≡ false = grind (arith, nat_tests) in
+    let place : word - 4294967296 ≡ length old + r = omega arith in (
+      both.0,
+      both.1,
+      ap (λ b. cond b None (slice_get (old ++ put_records ws links) (word - 4294967296))) test
+          ∙ ap (slice_get (old ++ put_records ws links)) place ∙ read_behind old (put_records ws links) r ∙ both.2,
+    )
+
+module _ (bases : Bases) (old : Records) (ws : List WriteView) (links : List ℕ) (same : length links ≡ length ws) where
+  abbrev pub posted : Records
+  posted = old ++ put_records ws links
+
+  abbrev words : List ℕ → List ℕ
+  words = map (λ r. 4294967296 + length old + r)
+
+  posted_way : (rs : List ℕ) (head before : ℕ) (xs : List ℕ) (e : ℕ) → Meets (4294967296 + length old) links head rs before → Leads (link_of posted) before xs e → Leads (link_of posted) head (words rs ++ xs) e
+  posted_way [] head before xs e met way = subst (λ p. Leads (link_of posted) p xs e) (sym met) way
+  posted_way (r ∷ rs) head before xs e met way =
+      let there = record_there old ws links r met.1 same in
+      let at : record_at posted head ≡ Some (Put there.0, slice_index links r) = ap (record_at posted) met.0 ∙ there.2 in
+      (sym met.0, (slice_index links r, link_is posted head (Put there.0, slice_index links r) at, posted_way rs (slice_index links r) before xs e met.2 way))
+
+  abbrev puts : List WriteView → List Delta → List Delta
+  puts [] ds = ds
+  puts (v ∷ vs) ds = Put v ∷ puts vs ds
+
+  posted_deltas : (rs : List ℕ) (head before : ℕ) (xs : List ℕ) → Meets (4294967296 + length old) links head rs before → deltas_at posted (words rs ++ xs) ≡ puts (named ws rs) (deltas_at posted xs)
+  posted_deltas [] head before xs met = refl
+  posted_deltas (r ∷ rs) head before xs met =
+      let there = record_there old ws links r met.1 same in
+      ap (λ o. delta_in o (deltas_at posted (words rs ++ xs))) there.2
+      ∙ ap (λ (l : List Delta). Put there.0 ∷ l) (posted_deltas rs (slice_index links r) before xs met.2)
+      ∙ ap (λ o. puts (write_before o (named ws rs)) (deltas_at posted xs)) (sym there.1)
+
+  puts_shaped : (vs : List WriteView) (ds : List Delta) → IsShaped ds → IsShaped (puts vs ds)
+  puts_shaped [] ds h = h
+  puts_shaped (v ∷ vs) ds h = puts_shaped vs ds h
+
+  puts_changed : (vs : List WriteView) (ds : List Delta) (slot : Slot) → changed bases (puts vs ds) slot ≡ put_over bases vs (changed bases ds slot)
+  puts_changed [] ds slot = refl
+  puts_changed (v ∷ vs) ds slot = ap (change bases (Put v)) (puts_changed vs ds slot)
+
+  put_length : (vs : List WriteView) (ls : List ℕ) → length ls ≡ length vs → length (put_records vs ls) ≡ length vs
+  put_length [] [] e = refl
+  put_length [] (l ∷ ls) e = absurd (omega (arith, e))
+  put_length (v ∷ vs) [] e = absurd (omega (arith, e))
+  put_length (v ∷ vs) (l ∷ ls) e = ap suc (put_length vs ls (omega (arith, e)))
+
+  pub posted_length : length posted ≡ length old + length ws
+  posted_length = length-append old (put_records ws links) ∙ ap (λ n. length old + n) (put_length ws links same)
+
+  -- The posted records come before the chain of old ones: the page has their writes over it.
+  pub chain_posted : (rs : List ℕ) (head before : ℕ) → Meets (4294967296 + length old) links head rs before → ((r : ℕ) → times r rs ≤ 1) → Ends bases old before → Ends bases posted head × (slot_of_word bases posted head ≡ put_over bases (named ws rs) (slot_of_word bases old before))
+  chain_posted rs head before met once ends = by ends.0 ends.1.0 ends.1.1
+    where
+      by : (xs : List ℕ) (e : ℕ) → EndsAt bases old before xs e → Ends bases posted head × (slot_of_word bases posted head ≡ put_over bases (named ws rs) (slot_of_word bases old before))
+      by xs e h =
+          let kept = append_extends old (put_records ws links) in
+          let way = posted_way rs head before xs e met (leads_on old posted kept before xs e h.limit h.way) in
+          let listed : deltas_at posted (words rs ++ xs) ≡ puts (named ws rs) (deltas_at old xs) = posted_deltas rs head before xs met ∙ ap (puts (named ws rs)) (deltas_on old posted kept before xs e h.way) in
+          let short : length (words rs ++ xs) ≤ length posted = omega (arith, h.short, posted_length, same, length-append (words rs) xs, length-map rs (λ r. 4294967296 + length old + r), few (length links) rs (meets_low (4294967296 + length old) links head rs before met) once) in (
+            (words rs ++ xs, (e, record { way = way; short = short; within = h.within; limit = h.limit; shaped = subst IsShaped (sym listed) (puts_shaped (named ws rs) (deltas_at old xs) h.shaped) })),
+            slot_of_way bases posted head (words rs ++ xs) e way short ∙ ap (λ (l : List Delta). changed bases l (based (slice_get bases e))) listed
+                ∙ puts_changed (named ws rs) (deltas_at old xs) (based (slice_get bases e)) ∙ ap (put_over bases (named ws rs)) (sym (slot_of_way bases old before xs e h.way h.short)),
+          )

@@ -1,0 +1,149 @@
+-- Staging a batch.
+use Rattle.std.proofs.Common.{◌≡◌, ℕ, ◌+◌, ◌<◌, ◌≤◌, ◌^◌, false, List, [], ◌∷◌, ◌++◌, length, map, take, drop, get_or, Option, Some, None, refl, sym, ap, ◌∙◌, subst, arith, length-append}
+use Rattle.std.specs.FinMap.{from_entries}
+use Rattle.std.proofs.lemmas.List.{map-append, length-map}
+use Rattle.bw_model.specs.Model.{contents_after}
+use Rattle.bw_model.specs.declared.operations.Op.{Op}
+use Rattle.bw_delta.specs.Writes.{WriteView}
+use Rattle.bw_delta.specs.Batches.{write_of, stamped, writes_of}
+use Rattle.bw_delta.specs.History.{HasDistinctStamps}
+use Rattle.bw_delta.specs.declared.deltas.Delta.TheVariants.{Put}
+use Rattle.bw_delta.proofs.Batches.{rising_batch}
+use Rattle.bw_delta.proofs.Stagings.{AreBelow, batch_below, below_all, over_read, writes_further}
+use Rattle.bw_tree.specs.Slots.{Slot}
+use Rattle.bw_tree.specs.Levels.{AreLevels, row}
+use Rattle.bw_tree.specs.Chains.{Bases, Records, slot_of_word}
+use Rattle.bw_tree.specs.Trees.{IsStanding, IsTree, StageWords, put_records, unlinked, view_of, writes_in}
+use Rattle.bw_tree.specs.Stages.{staged_on}
+use Rattle.bw_tree.specs.View.{TreeView, StageView, contents_at, contents_with, levels_under, row_pairs, row_writes, slots_of}
+use Rattle.bw_tree.proofs.GrowthLemmas.{Extends, append_extends, drop_front, same_map, still_ends, take_front}
+
+parted : (xs ys zs : Records) → (xs ++ ys) ++ zs ≡ xs ++ (ys ++ zs)
+parted [] ys zs = refl
+parted (x ∷ xs) ys zs = ap (λ l. x ∷ l) (parted xs ys zs)
+
+-- an operation more
+pub appended_more : (before old new : Records) (n : ℕ) (ops : List Op) (i : ℕ) (op : Op) → i < length ops → op ≡ get_or ops i op → old ≡ before ++ unlinked (writes_of n (take i ops)) → new ≡ old ++ unlinked (stamped (n + i) (write_of op)) →
+    new ≡ before ++ unlinked (writes_of n (take (i + 1) ops))
+appended_more before old new n ops i op lt is so more =
+    more ∙ ap (λ l. l ++ unlinked (stamped (n + i) (write_of op))) so
+    ∙ parted before (unlinked (writes_of n (take i ops))) (unlinked (stamped (n + i) (write_of op)))
+    ∙ ap (λ l. before ++ l) (sym (map-append (λ (w : WriteView). (Put w, 0)) (writes_of n (take i ops)) (stamped (n + i) (write_of op))))
+    ∙ ap (λ l. before ++ unlinked l) (sym (writes_further n ops i op lt is))
+
+-- records without links yet
+unlinked_put : (ws : List WriteView) → unlinked ws ≡ put_records ws (map (λ w. 0) ws)
+unlinked_put [] = refl
+unlinked_put (w ∷ ws) = ap (λ (l : Records). (Put w, 0) ∷ l) (unlinked_put ws)
+
+pub writes_unlinked : (ws : List WriteView) → writes_in (unlinked ws) ≡ ws
+writes_unlinked [] = refl
+writes_unlinked (w ∷ ws) = ap (λ (l : List WriteView). w ∷ l) (writes_unlinked ws)
+
+-- the same pages, with room for later stamps
+pub stands_on : (heads : List ℕ) (bases : Bases) (old new : Records) (root bound later : ℕ) → IsStanding heads bases old root bound → Extends old new → length old ≤ length new → bound ≤ later → later ≤ 2 ^ 40 → length new ≤ 2 ^ 32 →
+    (slots_of heads bases new ≡ slots_of heads bases old) × IsStanding heads bases new root later
+stands_on heads bases old new root bound later t kept more le fits few = (
+  same,
+  record {
+    ends = λ p word e. (still_ends bases old new word kept more (t.ends p word e)).0;
+    lawful = subst (λ (s : List Slot). AreLevels s root (levels_under s root)) (sym same) t.lawful;
+    distinct = subst (λ (s : List Slot). HasDistinctStamps (row_writes s (row (levels_under s root) 0))) (sym same) t.distinct;
+    past = subst (λ (s : List Slot). AreBelow later (row_writes s (row (levels_under s root) 0))) (sym same) (below_all bound later (row_writes (slots_of heads bases old) (row (levels_under (slots_of heads bases old) root) 0)) le t.past);
+    fits = fits;
+    few_records = few;
+    few_pages = t.few_pages;
+    few_bases = t.few_bases;
+  },
+)
+  where
+    same : slots_of heads bases new ≡ slots_of heads bases old
+    same = same_map (slot_of_word bases old) (slot_of_word bases new) heads (λ p word e. (still_ends bases old new word kept more (t.ends p word e)).1)
+
+-- a batch that was staged: the tree is lawful, is what it was asked to be, and is read in turn
+pub record IsStagedOn (heads : List ℕ) (bases : Bases) (records : Records) (root next : ℕ) (staged : Option StageWords) (tree : TreeView) (ops : List Op) : Type 0 where
+  pub tree_is : IsTree heads bases records root next staged
+  pub view : view_of heads bases records root next staged ≡ staged_on tree ops
+  pub reads : (i : ℕ) → contents_with (view_of heads bases records root next staged) (tree.next + i) ≡ contents_after (take i ops) (contents_at tree tree.next)
+
+module _ (heads : List ℕ) (bases : Bases) (records : Records) (root next : ℕ) (ops : List Op) (t : IsStanding heads bases records root next) (fits : next + length ops ≤ 2 ^ 40) (few : length (records ++ unlinked (writes_of next ops)) ≤ 2 ^ 32) where
+  abbrev batch : List WriteView
+  batch = writes_of next ops
+
+  abbrev more : Records
+  more = records ++ unlinked batch
+
+  abbrev words : StageWords
+  words = record { records = length records; ops = length ops; before = None }
+
+  longer : length more ≡ length records + length batch
+  longer = length-append records (unlinked batch) ∙ ap (λ n. length records + n) (length-map batch (λ w. (Put w, 0)))
+
+  grown : (slots_of heads bases more ≡ slots_of heads bases records) × IsStanding heads bases more root (next + length ops)
+  grown = stands_on heads bases records more root next (next + length ops) t (append_extends records (unlinked batch)) (omega (arith, longer)) (omega arith) fits few
+
+  first_part : take (length records) more ≡ records
+  first_part = take_front records (unlinked batch)
+
+  staged_tree : IsTree heads bases more root next (Some words)
+  staged_tree = record {
+    now = grown.1;
+    stage = record {
+      writes = batch;
+      links = map (λ w. 0) batch;
+      parts = ap (λ (r : Records). r ++ unlinked batch) (sym first_part) ∙ ap (λ (r : Records). take (length records) more ++ r) (unlinked_put batch);
+      linked = length-map batch (λ w. 0);
+      earlier = omega (arith, longer);
+      rising = rising_batch next ops;
+      below = batch_below next (next + length ops) ops (omega arith);
+      before = subst (λ (r : Records). IsStanding heads bases r root next) (sym first_part) t;
+      same = ap (λ (r : Records). levels_under (slots_of heads bases r) root) first_part ∙ ap (λ (s : List Slot). levels_under s root) (sym grown.0);
+    };
+  }
+
+  abbrev viewed : List Slot → ℕ → Records → List WriteView → TreeView
+  viewed slots count before writes =
+      let was = slots_of heads bases before in
+      record {
+        slots = slots;
+        root = root;
+        levels = levels_under slots root;
+        heads = heads;
+        records = count;
+        next = next;
+        staged = Some (record { slots = was; levels = levels_under was root; heads = heads; records = length records; ops = length ops; writes = writes; adopted = false });
+      }
+
+  staged_view : view_of heads bases more root next (Some words) ≡ staged_on (view_of heads bases records root next None) ops
+  staged_view =
+      ap (λ s. viewed s (length more) (take (length records) more) (writes_in (drop (length records) more))) grown.0
+      ∙ ap (λ n. viewed (slots_of heads bases records) n (take (length records) more) (writes_in (drop (length records) more))) longer
+      ∙ ap (λ r. viewed (slots_of heads bases records) (length records + length batch) r (writes_in (drop (length records) more))) first_part
+      ∙ ap (λ w. viewed (slots_of heads bases records) (length records + length batch) records w) (ap writes_in (drop_front records (unlinked batch)) ∙ writes_unlinked batch)
+
+  staged_reads : (i : ℕ) → contents_with (view_of heads bases more root next (Some words)) (next + i) ≡ contents_after (take i ops) (contents_at (view_of heads bases records root next None) next)
+  staged_reads i =
+      let slots = slots_of heads bases records in
+      let ps = row (levels_under slots root) 0 in
+      ap (λ (v : TreeView). contents_with v (next + i)) staged_view
+      ∙ over_read (row_writes slots ps) next ops t.distinct t.past (from_entries (row_pairs slots ps)) i
+
+  pub stage_all : IsStagedOn heads bases more root next (Some words) (view_of heads bases records root next None) ops
+  stage_all = record { tree_is = staged_tree; view = staged_view; reads = staged_reads }
+
+pub stage_on : (heads : List ℕ) (bases : Bases) (records : Records) (root next : ℕ) (staged : Option StageWords) (tree : TreeView) (ops : List Op) → IsTree heads bases records root next staged → view_of heads bases records root next staged ≡ tree → tree.staged ≡ None → tree.next + length ops ≤ 2 ^ 40 →
+    (bases' : Bases) (records' : Records) (staged' : Option StageWords) (n m : ℕ) → bases' ≡ bases → records' ≡ records ++ unlinked (writes_of next ops) → length records' ≤ 2 ^ 32 → staged' ≡ Some (record { records = n; ops = m; before = None }) → n ≡ length records → m ≡ length ops →
+    IsStagedOn heads bases' records' root next staged' tree ops
+stage_on heads bases records root next None tree ops t is none fits bases' records' staged' n m same_bases grown few replaced count length_is =
+    let fits_here : next + length ops ≤ 2 ^ 40 = subst (λ (v : TreeView). v.next + length ops ≤ 2 ^ 40) (sym is) fits in
+    let few_here = subst (λ (r : Records). length r ≤ 2 ^ 32) grown few in
+    let all = stage_all heads bases records root next ops t.now fits_here few_here in
+    subst (λ (v : TreeView). IsStagedOn heads bases' records' root next staged' v ops) is
+    (subst (λ (b : Bases). IsStagedOn heads b records' root next staged' (view_of heads bases records root next None) ops) (sym same_bases)
+    (subst (λ (r : Records). IsStagedOn heads bases r root next staged' (view_of heads bases records root next None) ops) (sym grown)
+    (subst (λ (s : Option StageWords). IsStagedOn heads bases (records ++ unlinked (writes_of next ops)) root next s (view_of heads bases records root next None) ops)
+    (sym (replaced ∙ ap (λ k. Some (record { records = k; ops = m; before = None })) count ∙ ap (λ k. Some (record { records = length records; ops = k; before = None })) length_is)) all)))
+stage_on heads bases records root next (Some s) tree ops t is none fits bases' records' staged' n m same_bases grown few replaced count length_is = absurd (different (ap (λ (v : TreeView). v.staged) is ∙ none))
+  where
+    different : {x : StageView} → Some x ≡ None → ⊥
+    different e = cc

@@ -1,0 +1,65 @@
+-- The life of a batch: staged, adopted, and then accepted or undone.
+use Rattle.std.specs.Prelude.{◌≡◌, ℕ, ◌+◌, ◌^◌, ◌<◌, ◌≤◌, Bool, true, false, List, length, Option, Some, None, slice_get, slice_index}
+use Rattle.bw_model.specs.declared.operations.Op.{Op}
+use Rattle.bw_core.specs.World.{Meets, times}
+use Rattle.bw_delta.specs.Writes.{WriteView}
+use Rattle.bw_delta.specs.Batches.{writes_of}
+use Rattle.bw_tree.specs.Levels.{IsHome}
+use Rattle.bw_tree.specs.View.{TreeView, StageView}
+use Rattle.bw_tree.specs.declared.staging.Staged.{Staged}
+
+-- the tree with a batch staged: its writes are records, and nothing else is another
+abbrev pub staged_on : TreeView → List Op → TreeView
+staged_on tree ops =
+    let writes = writes_of tree.next ops in
+    record tree {
+      records = tree.records + length writes;
+      staged = Some (record { slots = tree.slots; levels = tree.levels; heads = tree.heads; records = tree.records; ops = length ops; writes = writes; adopted = false });
+    }
+
+abbrev pub is_adopted : Option StageView → Bool
+is_adopted None = false
+is_adopted (Some stage) = stage.adopted
+
+-- what a tree tells of the batch that is staged; until it is adopted each mapping word is below those of its records
+pub record IsStagedAs (tree : TreeView) (batch : Staged) : Type 0 where
+  pub stage : StageView
+  pub is : tree.staged ≡ Some stage
+  pub base : batch.base ≡ tree.next
+  pub floor : batch.floor ≡ 2 ^ 32 + stage.records
+  pub records : batch.records ≡ length stage.writes
+  pub fits : batch.floor + batch.records ≤ 2 ^ 33
+  pub low : stage.adopted ≡ false → (p : ℕ) → p < length tree.heads → slice_index tree.heads p < batch.floor
+
+-- the stage once its writes stand in the chains
+abbrev pub adopted : Option StageView → Option StageView
+adopted None = None
+adopted (Some stage) = Some (record stage { adopted = true })
+
+-- the tree as it was before the batch
+abbrev pub undone : TreeView → Option StageView → TreeView
+undone tree None = tree
+undone tree (Some stage) = record tree { slots = stage.slots; levels = stage.levels; heads = stage.heads; records = stage.records; staged = None }
+
+-- the tree behind the batch
+abbrev pub accepted : TreeView → Option StageView → TreeView
+accepted tree None = tree
+accepted tree (Some stage) = record tree { next = tree.next + stage.ops; staged = None }
+
+-- The new part of a page's chain is some order of the staged records whose keys are at home there, over the word before.
+pub record IsPostedTo (tree : TreeView) (stage : StageView) (links : List ℕ) (head p : ℕ) : Type 0 where
+  pub chain : List ℕ
+  pub way : Meets (2 ^ 32 + stage.records) links head chain (slice_index tree.heads p)
+  pub once : (r : ℕ) → times r chain ≤ 1
+  pub here : (r : ℕ) (w : WriteView) → slice_get stage.writes r ≡ Some w → IsHome tree.slots tree.levels w.key p → 0 < times r chain
+  pub only : (r : ℕ) (w : WriteView) → slice_get stage.writes r ≡ Some w → 0 < times r chain → IsHome tree.slots tree.levels w.key p
+
+-- the words that a board was closed with have the staged records posted, each to the page of its key
+pub record IsPosted (tree : TreeView) (stage : StageView) (heads links : List ℕ) : Type 0 where
+  pub pages : length heads ≡ length tree.heads
+  pub records : length links ≡ length stage.writes
+  pub chains : (p : ℕ) → p < length tree.heads → IsPostedTo tree stage links (slice_index heads p) p
+
+abbrev pub IsPostedStage : TreeView → Option StageView → List ℕ → List ℕ → Type 0
+IsPostedStage tree None heads links = ⊥
+IsPostedStage tree (Some stage) heads links = (stage.adopted ≡ false) × IsPosted tree stage heads links
