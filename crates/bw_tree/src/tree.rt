@@ -290,9 +290,9 @@ impl Tree {
     /// `to`, and no more than `most` of them.
     ///
     /// From the leaf of `from` on it reads leaf after leaf along the side links, until there are enough pairs or a leaf
-    /// ends the range. Each leaf costs what its pairs and its chain cost, sorted, also where one pair of it is
-    /// answered. Memory is taken for the pairs that are read and for one leaf more, and none by `most`. `Memory` is
-    /// answered where a list, a map or a copy finds none.
+    /// ends the range. Of each leaf it reads all pairs of the range, whatever `most` is, and sorts the writes of its
+    /// chain: `leaf_as_of` has the cost. Memory is taken for the pairs that are read and for one leaf more, and none by
+    /// `most`. `Memory` is answered where a list, a map or a copy finds none.
     pub fn scan_at(
         &self,
         from: &Key,
