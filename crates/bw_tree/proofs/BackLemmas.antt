@@ -62,7 +62,7 @@ both_tests {V} p r q whole (e ∷ es) = step (r e.0) (p e.0) refl refl (both_tes
         ∙ rest
         ∙ sym (ap (λ b. cond b (e ∷ where_key key_cmp q es) (where_key key_cmp q es)) (whole e.0 ∙ ap (λ b. b && p e.0) is))
 
--- an end that the end of a range isn't below, at a key: not below it
+-- above a key that isn't below an end no key is
 rises : (end : Option KeyBytes) (a b : KeyBytes) → not (is_below_end end a) ≡ true → is_lt (key_cmp a b) ≡ true → is_below_end end b ≡ false
 rises None a b past above = absurd (different (sym past))
 rises (Some to) a b past above = upto_trans to a b (holds_not _ (true_holds _ past)) (below_back a b above)
@@ -91,7 +91,7 @@ least_below end from below = upto_end end [] from (least from) below
     least [] = refl
     least (x ∷ xs) = refl
 
--- where a key isn't from a low key on
+-- a key is from a low key on
 abbrev from_on : KeyBytes → KeyBytes → Bool
 from_on low k = not (is_lt (key_cmp k low))
 
