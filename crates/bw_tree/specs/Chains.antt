@@ -127,8 +127,8 @@ abbrev pub slot_of_word : Bases → Records → ℕ → Slot
 slot_of_word bases records word =
     changed bases (deltas_at records (walked (link_of records) (length records) word)) (based (slice_get bases (ended (link_of records) (length records) word)))
 
--- A chain is some writes, then at most one other change, then a base page. No call makes another change than a
--- split yet.
+-- A chain is some writes, then at most one other change, then a base page. No call makes another change than a write
+-- yet; a split is read already.
 abbrev pub IsShaped : List Delta → Type 0
 IsShaped [] = Unit {0}
 IsShaped (Put w ∷ ds) = IsShaped ds

@@ -1,6 +1,7 @@
 // The tree.
 ghost use Rattle.std.specs.Prelude.{◌≡◌, ℕ, ◌<◌, ◌≤◌, ◌+◌, ◌-◌, ◌^◌, [], ◌∷◌, ◌++◌, true, Some, None, T, length, min, reverse, slice_get, take, IfOk, OnOk, OnErr, MatchOption};
 ghost use Rattle.std.specs.List.{Contains};
+ghost use Rattle.std.specs.List.Sorted.{IsPermutation};
 ghost use Rattle.std.specs.Option.{option_copied, option_map};
 ghost use Rattle.std.specs.FinMap.{empty, get};
 ghost use Rattle.std.specs.FinMap.Entries.{where_key};
@@ -48,12 +49,13 @@ impl Model for Tree {
 impl Tree {
     ghost use Rattle.bw_tree.specs.Slots.{slot_at, is_leaf, side_of_slot};
     ghost use Rattle.bw_tree.specs.Levels.{IsHome, row};
-    ghost use Rattle.bw_tree.specs.Turns.{IsTurn, StartsUpto};
+    ghost use Rattle.bw_tree.specs.Reading.{writes_over};
+    ghost use Rattle.bw_tree.specs.Turns.{IsTurn, StartsUpto, bare};
     ghost use Rattle.bw_tree.specs.Trees.{IsTree};
     ghost use Rattle.bw_tree.specs.View.{contents_at, contents_with, staged_writes};
     ghost use Rattle.bw_tree.specs.Scans.{Reaches, high_of, is_on};
     ghost use Rattle.bw_tree.specs.Before.{IsBefore, IsLinked, StandsForAt, StartsBelow, low_of};
-    ghost use Rattle.bw_tree.specs.Stages.{IsPostedStage, IsStagedAs, accepted, adopted, is_adopted, staged_on, undone};
+    ghost use Rattle.bw_tree.specs.Stages.{IsPostedStage, IsStagedAs, accepted, adopted, is_adopted, staged_on, undone, writes_with};
     ghost use Rattle.bw_model.specs.Model.{contents_after};
     ghost use Rattle.bw_delta.specs.Batches.{writes_of};
     ghost use Rattle.bw_tree.specs.Making.{AreAbutting, IsOverLeaves, count_from, tree_over};
@@ -148,6 +150,8 @@ impl Tree {
     /// for each page. It takes no memory.
     pub fn route(&self, key: &Key) -> PageId
         ensures home { IsHome self.now.slots self.now.levels key.now result }
+        ensures only { (page : ℕ) → IsHome self.now.slots self.now.levels key.now page → page ≡ result }
+        ensures there { result < length self.now.heads }
         ensures leaf { is_leaf (slot_at self.now.slots result) ≡ true }
     {
         let mut page = self.root;
@@ -245,6 +249,8 @@ impl Tree {
     pub fn adopt(&mut self, closed: Closed)
         requires { IsPostedStage self.old self.old.staged closed.heads closed.links }
         ensures contents { (stamp : ℕ) → contents_at self.new stamp ≡ contents_with self.old stamp }
+        ensures pages { (p : ℕ) → bare (slot_at self.new.slots p) ≡ bare (slot_at self.old.slots p) }
+        ensures writes { (p : ℕ) → Contains (row self.old.levels 0) p → IsPermutation (writes_with self.old p) (writes_over (slot_at self.new.slots p)) }
         ensures root { self.new.root ≡ self.old.root }
         ensures levels { self.new.levels ≡ self.old.levels }
         ensures heads { self.new.heads ≡ closed.heads }
