@@ -71,7 +71,7 @@ outside : (low : KeyBytes) (high : Option KeyBytes) (side : Option ℕ) (b : Bod
 outside low high side (Pairs pairs writes) key out sound = record { pairs = none_outside low high key pairs out sound.page.inside; writes = no_write_outside low high key writes out sound.inside }
 outside low high side (Children level children) key out sound = record { pairs = refl; writes = refl }
 
-page_outside : (slots : List Slot) (level : ℕ) (low : KeyBytes) (high : Option KeyBytes) (side : Option ℕ) (p : ℕ) (key : KeyBytes) → Stands slots level low high side p → (T (is_in_range low high key) → ⊥) → HasNothing (pairs_under (slot_at slots p)) (writes_over (slot_at slots p)) key
+pub page_outside : (slots : List Slot) (level : ℕ) (low : KeyBytes) (high : Option KeyBytes) (side : Option ℕ) (p : ℕ) (key : KeyBytes) → Stands slots level low high side p → (T (is_in_range low high key) → ⊥) → HasNothing (pairs_under (slot_at slots p)) (writes_over (slot_at slots p)) key
 page_outside slots level low high side p key st out =
     subst (λ (o : Slot). HasNothing (pairs_under o) (writes_over o) key) (sym st.is)
     (outside st.state.low st.state.high st.state.side st.state.body key
@@ -87,7 +87,7 @@ nothing_both xs ys ws vs key a b = record {
 below_out : (low : KeyBytes) (high : Option KeyBytes) (key : KeyBytes) → is_lt (key_cmp key low) ≡ true → T (is_in_range low high key) → ⊥
 below_out low high key below inside = different (sym below ∙ holds_not _ (both_left _ _ inside))
 
-wide_of : (low : KeyBytes) (high : Option KeyBytes) (side : Option ℕ) (b : Body) → IsSoundBody low high side b → T (is_below_end high low)
+pub wide_of : (low : KeyBytes) (high : Option KeyBytes) (side : Option ℕ) (b : Body) → IsSoundBody low high side b → T (is_below_end high low)
 wide_of low high side (Pairs pairs writes) sound = sound.page.wide
 wide_of low high side (Children level children) sound = sound.page.wide
 

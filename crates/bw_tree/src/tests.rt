@@ -1,0 +1,4 @@
+// Worked examples of what the contracts say, and what no contract says: that calls succeed, and each growth of memory
+// refused in turn.
+mod making;
+mod scans;
