@@ -129,11 +129,11 @@ module _ (heads heads' : List ℕ) (bases : Bases) (records : Records) (root nex
           ∙ ap (λ (l : List WriteView). let s = slots_of heads bases records in contents_as_of (from_entries (row_pairs s (row (levels_under s root) 0))) (l ++ row_writes s (row (levels_under s root) 0)) stamp) (sym writes_are);
       levels = levels_now ∙ ap (λ (s : List Slot). levels_under s root) (sym slots_same);
       pages = λ q.
-        pages_after heads heads' bases earlier root next (next + ops) ws links linked p.pages t.stage.rising t.stage.below (omega arith) t.stage.before chains q ∙ ap (λ (s : List Slot). bare (slot_at s q)) (sym slots_same);
+          pages_after heads heads' bases earlier root next (next + ops) ws links linked p.pages t.stage.rising t.stage.below (omega arith) t.stage.before chains q ∙ ap (λ (s : List Slot). bare (slot_at s q)) (sym slots_same);
       writes = λ q has.
-        subst (λ (s : List Slot). IsPermutation (filter (λ w. has_key (slot_at s q) w.key) (writes_in (drop n records)) ++ writes_over (slot_at s q)) (writes_over (slot_at (slots_of heads' bases after) q))) (sym slots_same)
-        (subst (λ (l : List WriteView). IsPermutation (filter (λ w. has_key (slot_at (slots_of heads bases earlier) q) w.key) l ++ writes_over (slot_at (slots_of heads bases earlier) q)) (writes_over (slot_at (slots_of heads' bases after) q))) (sym writes_are)
-         (writes_after heads heads' bases earlier root next (next + ops) ws links linked p.pages t.stage.rising t.stage.below (omega arith) t.stage.before chains q
+          subst (λ (s : List Slot). IsPermutation (filter (λ w. has_key (slot_at s q) w.key) (writes_in (drop n records)) ++ writes_over (slot_at s q)) (writes_over (slot_at (slots_of heads' bases after) q))) (sym slots_same)
+          (subst (λ (l : List WriteView). IsPermutation (filter (λ w. has_key (slot_at (slots_of heads bases earlier) q) w.key) l ++ writes_over (slot_at (slots_of heads bases earlier) q)) (writes_over (slot_at (slots_of heads' bases after) q))) (sym writes_are)
+          (writes_after heads heads' bases earlier root next (next + ops) ws links linked p.pages t.stage.rising t.stage.below (omega arith) t.stage.before chains q
           (subst (λ (s : List Slot). Contains (row (levels_under s root) 0) q) slots_same has)));
       staged_is = ap (λ r. Some (stage_with r (writes_in (drop n after)))) first_same ∙ ap (λ w. Some (stage_with earlier w)) (last_same ∙ sym writes_are);
     }

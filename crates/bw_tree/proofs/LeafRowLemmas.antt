@@ -203,8 +203,10 @@ one_has slots level low (x ∷ y ∷ ys) key p q row h k = by h.in_row k.in_row 
   where
     later : {r : ℕ} → HasKey slots (x ∷ y ∷ ys) key r → Contains (y ∷ ys) r → HasKey slots (y ∷ ys) key r
     later h has = record { in_row = has; state = h.state; is = h.is; from_low = h.from_low; ends_above = h.ends_above }
+
     below : (r : ℕ) → HasKey slots (x ∷ y ∷ ys) key r → x ≡ r → is_lt (key_cmp key row.0) ≡ true
     below r h at = first_below slots level low row.0 (Some y) x key h.state row.1 (ap (slot_at slots) at ∙ h.is) h.ends_above
+
     by : Contains (x ∷ y ∷ ys) p → Contains (x ∷ y ∷ ys) q → (Contains (y ∷ ys) p → Contains (y ∷ ys) q → p ≡ q) → p ≡ q
     by (zero, lt, at) (zero, lt', at') rest = sym at ∙ at'
     by (zero, lt, at) (suc n, lt', at') rest = absurd (later_above slots level row.0 (y ∷ ys) key q row.2 (later k (n, omega (arith, lt'), at')) (below p h at))

@@ -18,7 +18,7 @@ use Rattle.bw_delta.specs.ContentsAsOf.{contents_as_of}
 use Rattle.bw_tree.specs.Slots.{Slot, PageState, Children, Live, slot_at, left_of_slot, children_of}
 use Rattle.bw_tree.specs.Levels.{AreLevels, SideBySide, Stands, StartsWith, LeadsBelow, BeginsWith, FirstChild, row}
 use Rattle.bw_tree.specs.Chains.{Bases, link_of, linked_word}
-use Rattle.bw_tree.specs.Making.{AreAbutting, HasRules, IsOverLeaves, base_of_leaf, count_from, leaf_slot, root_slots, pages_over, pairs_in, terms_from, tree_over}
+use Rattle.bw_tree.specs.Making.{AreAbutting, HasRules, IsOverLeaves, base_of_leaf, count_from, leaf_slot, pages_over, pairs_in, terms_from, tree_over}
 use Rattle.bw_tree.specs.View.{TreeView, contents_at, row_pairs, row_writes}
 use Rattle.bw_tree.specs.Trees.{IsTree, AllEnd}
 use Rattle.bw_tree.proofs.LevelLemmas.{levels_now}
@@ -73,6 +73,7 @@ all_based bases (o ∷ rest) n at =
   where
     plus_none : (n : ℕ) → n ≡ n + 0
     plus_none n = omega arith
+
     shifted : (n i : ℕ) → n + 1 + i ≡ n + suc i
     shifted n i = omega arith
 

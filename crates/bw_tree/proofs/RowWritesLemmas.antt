@@ -133,4 +133,4 @@ pub page_has_writes : (bases : Bases) (ws : List WriteView) (old new : Slot) (s 
 page_has_writes bases ws old new s is leaf h =
     subst (λ l. IsPermutation (filter (λ w. has_key old w.key) ws ++ writes_over old) l) (sym (ap writes_over h.is ∙ puts_writes bases h.writes old leaf))
     (IsPermutation-append (filter (λ w. has_key old w.key) ws) h.writes (writes_over old) (writes_over old)
-     (subst (λ (o : Slot). IsPermutation (filter (λ w. has_key o w.key) ws) h.writes) (sym is) (h.are s is)) (IsPermutation-refl (writes_over old)))
+    (subst (λ (o : Slot). IsPermutation (filter (λ w. has_key o w.key) ws) h.writes) (sym is) (h.are s is)) (IsPermutation-refl (writes_over old)))

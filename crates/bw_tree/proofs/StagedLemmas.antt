@@ -35,10 +35,11 @@ ends_low bases records word ends = by ends.0 ends.1.0 ends.1.1
     named r at = elim (cases_lt word 4294967296) [
       | inl lt ↦ omega (arith, lt)
       | inr ge ↦
-        let test : nat_lt word 4294967296 ≡ false = grind (arith, nat_tests) in
-        let there = read_within records (word - 4294967296) r (sym (ap (λ b. cond b None (slice_get records (word - 4294967296))) test) ∙ at) in
-        omega (arith, there, ge)
+          let test : nat_lt word 4294967296 ≡ false = grind (arith, nat_tests) in
+          let there = read_within records (word - 4294967296) r (sym (ap (λ b. cond b None (slice_get records (word - 4294967296))) test) ∙ at) in
+          omega (arith, there, ge)
     ]
+
     by : (ws : List ℕ) (e : ℕ) → EndsAt bases records word ws e → word < 4294967296 + length records
     by [] e h = omega (arith, h.way.0, h.limit)
     by (w ∷ ws) e h = let r = linked records word h.way.1.0 h.way.1.1 in named r.0 r.1
@@ -63,11 +64,13 @@ module _ (heads : List ℕ) (bases : Bases) (records : Records) (root next : ℕ
       (w : WriteView) × (link : ℕ) × (slice_get records (s.records + place) ≡ Some (Put w, link)) × (slice_get (writes_in (drop s.records records)) place ≡ Some w) × (s.records + place < length records)
   staged_there place lt =
       let within : place < length st.writes = omega (arith, lt, ap length writes_staged) in
-      let both = read_both st.writes st.links place (omega (arith, within, st.linked)) st.linked in
-      (both.0, slice_index st.links place,
-       ap (λ (r : Records). slice_get r (s.records + place)) st.parts ∙ ap (λ k. slice_get (earlier ++ put_records st.writes st.links) (k + place)) (sym count) ∙ read_behind earlier (put_records st.writes st.links) place ∙ both.2,
-       ap (λ (l : List WriteView). slice_get l place) writes_staged ∙ both.1,
-       omega (arith, whole, within))
+      let both = read_both st.writes st.links place (omega (arith, within, st.linked)) st.linked in (
+        both.0,
+        slice_index st.links place,
+        ap (λ (r : Records). slice_get r (s.records + place)) st.parts ∙ ap (λ k. slice_get (earlier ++ put_records st.writes st.links) (k + place)) (sym count) ∙ read_behind earlier (put_records st.writes st.links) place ∙ both.2,
+        ap (λ (l : List WriteView). slice_get l place) writes_staged ∙ both.1,
+        omega (arith, whole, within),
+      )
 
   no_word : (b : Option (List ℕ)) → s.before ≡ b → is_some s.before ≡ false → words_before s.before heads ≡ heads
   no_word None e none = ap (λ b. words_before b heads) e

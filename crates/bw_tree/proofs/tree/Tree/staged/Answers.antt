@@ -1,4 +1,4 @@
-use Rattle.std.proofs.Common.{Some, ap, sym, ◌∙◌, ◌-◌, refl}
+use Rattle.std.proofs.Common.{Some, ap, ◌∙◌, ◌-◌, refl}
 use Rattle.bw_tree.proofs.StagedLemmas.{staged_as}
 use Rattle.bw_tree.proofs.tree.Tree.staged.Goals as goal
 
