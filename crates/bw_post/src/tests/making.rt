@@ -141,3 +141,21 @@ pub fn has<R: Abort>(
         has_at(rt, alloc, tree, stamp, bytes, *value);
     }
 }
+
+/// Compares the pairs of all keys as of a stamp.
+pub fn holds<R: Abort>(
+    rt: &R,
+    alloc: Alloc,
+    tree: &Tree,
+    stamp: u64,
+    wanted: &[(&'static [u8], &'static [u8])],
+) {
+    let pairs = tree
+        .scan_at(&key(rt, alloc, b""), None, 9, stamp)
+        .expect(rt, "memory");
+    assert_eq!(rt; pairs.as_slice().len(), wanted.len());
+    for (pair, (key, value)) in pairs.as_slice().iter().zip(wanted) {
+        assert_eq!(rt; pair.0.bytes(), *key);
+        assert_eq!(rt; pair.1.bytes(), *value);
+    }
+}

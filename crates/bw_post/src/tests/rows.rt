@@ -1,5 +1,5 @@
 // Worked batches.
-use super::making::{batch, has, heap, stands, three, upsert};
+use super::making::{batch, has, heap, holds, stands, three, upsert};
 use crate::{Tree, post_all};
 use bw_memory::Alloc;
 use std::process::Abort;
@@ -37,17 +37,13 @@ fn each_stamp_sees_the_map_before_its_operation(rt: HostRuntime) {
         1,
         &[(b"c", Some(b"9")), (b"e", Some(b"5"))],
     );
-    has(
+    has(&rt, alloc, &tree, 2, &[(b"e", None)]);
+    holds(
         &rt,
         alloc,
         &tree,
         2,
-        &[
-            (b"a", Some(b"1")),
-            (b"b", Some(b"2")),
-            (b"c", Some(b"9")),
-            (b"e", None),
-        ],
+        &[(b"a", b"1"), (b"b", b"2"), (b"c", b"9")],
     );
 }
 
