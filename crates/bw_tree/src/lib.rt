@@ -8,6 +8,8 @@
 mod chains;
 mod making;
 mod staging;
+#[cfg(test)]
+mod tests;
 mod tree;
 
 pub use staging::Staged;
