@@ -103,9 +103,9 @@ same_members (x ∷ xs) ys distinct distinct' there back =
     let rest_distinct = distinct_permuted ys (x ∷ zs) moved distinct' in
     IsPermutation-trans (x ∷ xs) (x ∷ zs) ys
     (IsPermutation-cons x xs zs
-     (same_members xs zs (distinct_rest x xs distinct) (distinct_rest x zs rest_distinct)
-      (λ v in_xs. other_in x v zs (λ e. later_differs x xs in_xs.0 v distinct in_xs.1 in_xs.2 (ap (λ (w : WriteView). w.stamp) e)) (Contains-permutation ys (x ∷ zs) v moved (there v (suc in_xs.0, omega (arith, in_xs.1), in_xs.2))))
-      (λ v in_zs. other_in x v xs (λ e. later_differs x zs in_zs.0 v rest_distinct in_zs.1 in_zs.2 (ap (λ (w : WriteView). w.stamp) e)) (back v (Contains-permutation (x ∷ zs) ys v (IsPermutation-sym ys (x ∷ zs) moved) (suc in_zs.0, omega (arith, in_zs.1), in_zs.2))))))
+    (same_members xs zs (distinct_rest x xs distinct) (distinct_rest x zs rest_distinct)
+    (λ v in_xs. other_in x v zs (λ e. later_differs x xs in_xs.0 v distinct in_xs.1 in_xs.2 (ap (λ (w : WriteView). w.stamp) e)) (Contains-permutation ys (x ∷ zs) v moved (there v (suc in_xs.0, omega (arith, in_xs.1), in_xs.2))))
+    (λ v in_zs. other_in x v xs (λ e. later_differs x zs in_zs.0 v rest_distinct in_zs.1 in_zs.2 (ap (λ (w : WriteView). w.stamp) e)) (back v (Contains-permutation (x ∷ zs) ys v (IsPermutation-sym ys (x ∷ zs) moved) (suc in_zs.0, omega (arith, in_zs.1), in_zs.2))))))
     (IsPermutation-sym ys (x ∷ zs) moved)
   where
     other_in : (x v : WriteView) (zs : List WriteView) → (x ≡ v → ⊥) → Contains (x ∷ zs) v → Contains zs v

@@ -10,7 +10,10 @@ pub enum Delta {
     /// A write at a key of a leaf.
     Put(Write),
     /// The entries from the separator on went to a new right neighbour.
-    Split { sep: Key, to: PageId },
+    Split {
+        sep: Key,
+        to: PageId,
+    },
     /// The right neighbour, whose range began at the separator, was taken over: its base page is named by a mapping
     /// word, and its upper end and right neighbour are this page's now.
     Absorb {
@@ -20,9 +23,16 @@ pub enum Delta {
         side: Option<PageId>,
     },
     /// The page was taken over by its left neighbour.
-    Removed { left: PageId },
+    Removed {
+        left: PageId,
+    },
     /// An inner page has this child at the separator, in place of one that stood there.
-    AddChild { sep: Key, child: PageId },
+    AddChild {
+        sep: Key,
+        child: PageId,
+    },
     /// An inner page no longer has the separator and its child.
-    DropChild { sep: Key },
+    DropChild {
+        sep: Key,
+    },
 }

@@ -1,4 +1,6 @@
 -- Adopting the words that a board was closed with.
+use Rattle.bw_tree.proofs.RowWritesLemmas.{leaf_of, page_has_writes}
+use Rattle.bw_tree.proofs.RowLemmas.{in_row}
 use Rattle.std.proofs.Common.{◌≡◌, ℕ, zero, suc, ◌+◌, ◌<◌, ◌≤◌, ◌^◌, Bool, true, false, ◌&&◌, T, List, [], ◌∷◌, ◌++◌, length, map, take, drop, Some, None, inl, inr, refl, sym, ap, ◌∙◌, subst, arith, length-append}
 use Rattle.std.specs.Prelude.{filter, slice_get, slice_index}
 use Rattle.std.specs.List.{Contains, zip}
@@ -24,12 +26,14 @@ use Rattle.bw_delta.proofs.Filters.{same_filtered}
 use Rattle.bw_delta.proofs.Orders.{distinct_permuted}
 use Rattle.bw_delta.proofs.Stagings.{AreBelow, below_all, distinct_over}
 use Rattle.bw_key.specs.Order.{key_eq}
-use Rattle.bw_tree.specs.Slots.{Slot, PageState, Live, Free, slot_at}
+use Rattle.bw_tree.specs.Slots.{Slot, PageState, Live, Free, slot_at, has_key, is_leaf}
+use Rattle.bw_tree.specs.Reading.{writes_over}
+use Rattle.bw_tree.specs.Turns.{bare}
 use Rattle.bw_tree.specs.Levels.{AreLevels, IsHome, row}
 use Rattle.bw_tree.specs.Chains.{Bases, Records, Ends, slot_of_word}
 use Rattle.bw_tree.specs.Trees.{IsStanding, put_records, writes_in}
 use Rattle.bw_tree.specs.View.{levels_under, row_pairs, row_writes, slots_of}
-use Rattle.bw_tree.proofs.AlikeLemmas.{IsPutOver, AreInside, levels_alike, pairs_alike}
+use Rattle.bw_tree.proofs.AlikeLemmas.{IsPutOver, AreInside, levels_alike, pairs_alike, put_bare}
 use Rattle.bw_tree.proofs.GrowthLemmas.{take_front}
 use Rattle.bw_tree.proofs.LevelLemmas.{levels_now}
 use Rattle.bw_tree.proofs.PlacedLemmas.{named_are, named_pass}
@@ -259,3 +263,15 @@ module _ (heads heads' : List ℕ) (bases : Bases) (first : Records) (root next 
       ∙ ap (λ (es : List (KeyBytes × ValueBytes)). contents_as_of (from_entries es) (row_writes new_slots leaves) stamp) (pairs_alike bases old_slots new_slots over leaves)
       ∙ sym (same_as_of (from_entries (row_pairs old_slots leaves)) (ws ++ row_writes old_slots leaves) (row_writes new_slots leaves) stamp whole_distinct new_distinct
       (λ key u lt. sym (same_filtered (λ w. key_eq key w.key) (ws ++ row_writes old_slots leaves) (row_writes new_slots leaves) u moved whole_distinct)))
+
+  -- each page is as it was, but for its writes
+  pub pages_after : (p : ℕ) → bare (slot_at new_slots p) ≡ bare (slot_at old_slots p)
+  pages_after p = let o = placed p in ap bare o.is ∙ put_bare bases o.writes (slot_at old_slots p)
+
+  -- and a leaf of the leaf level has those of its range
+  pub writes_after : (p : ℕ) → Contains leaves p → IsPermutation (filter (λ w. has_key (slot_at old_slots p) w.key) ws ++ writes_over (slot_at old_slots p)) (writes_over (slot_at new_slots p))
+  writes_after p has =
+      let o = placed p in
+      let st = (in_row old_slots 0 [] leaves has.0 p (t.lawful.rows 0 t.lawful.some) has.1 has.2).stands in
+      page_has_writes bases ws (slot_at old_slots p) (slot_at new_slots p) st.state st.is (ap is_leaf st.is ∙ leaf_of st.state.low st.state.high st.state.side st.state.body st.sound st.at_level)
+      (record { writes = o.writes; is = o.is; are = λ s is. o.are s is has })

@@ -1,22 +1,27 @@
 -- A tree that adopted the words that a board was closed with.
+use Rattle.bw_tree.specs.Stages.{writes_with}
 use Rattle.std.proofs.Common.{◌≡◌, ℕ, zero, suc, ◌+◌, ◌<◌, ◌≤◌, true, false, List, [], ◌∷◌, ◌++◌, length, take, drop, Option, Some, None, refl, sym, ap, ◌∙◌, subst, arith}
-use Rattle.std.specs.Prelude.{slice_get, slice_index}
+use Rattle.std.specs.Prelude.{filter, slice_get, slice_index}
+use Rattle.std.specs.List.{Contains}
+use Rattle.std.specs.List.Sorted.{IsPermutation}
 use Rattle.std.specs.FinMap.{from_entries}
 use Rattle.bw_core.specs.World.{Meets}
 use Rattle.bw_delta.specs.Arenas.{deltas_of, links_of}
 use Rattle.bw_delta.specs.Writes.{WriteView}
 use Rattle.bw_delta.specs.ContentsAsOf.{contents_as_of}
-use Rattle.bw_tree.specs.Slots.{Slot}
+use Rattle.bw_tree.specs.Slots.{Slot, slot_at, has_key}
+use Rattle.bw_tree.specs.Reading.{writes_over}
+use Rattle.bw_tree.specs.Turns.{bare}
 use Rattle.bw_tree.specs.Levels.{IsHome, row}
 use Rattle.bw_tree.specs.Chains.{Bases, Records, slot_of_word}
 use Rattle.bw_tree.specs.Trees.{IsStanding, IsTree, StageWords, put_records, stage_of, view_of, writes_in}
 use Rattle.bw_tree.specs.Stages.{IsPosted, IsPostedStage, adopted}
 use Rattle.bw_tree.specs.View.{TreeView, StageView, contents_at, contents_with, levels_under, row_pairs, row_writes, slots_of}
-use Rattle.bw_tree.proofs.AdoptLemmas.{ChainOf, contents_after_it, levels_after, relinked, standing_after, writes_put_in}
+use Rattle.bw_tree.proofs.AdoptLemmas.{ChainOf, contents_after_it, levels_after, pages_after, relinked, standing_after, writes_after, writes_put_in}
 use Rattle.bw_tree.proofs.GrowthLemmas.{append_extends, drop_front, same_map, still_ends, take_front}
 use Rattle.bw_tree.proofs.PostedLemmas.{posted_length}
 
-take_length : (n : ℕ) (xs : Records) → n ≤ length xs → length (take n xs) ≡ n
+pub take_length : (n : ℕ) (xs : Records) → n ≤ length xs → length (take n xs) ≡ n
 take_length zero [] le = refl
 take_length zero (x ∷ xs) le = refl
 take_length (suc n) [] le = absurd (omega arith)
@@ -27,6 +32,8 @@ pub record IsAdoptedOn (heads : List ℕ) (bases : Bases) (records : Records) (r
   pub tree_is : IsTree heads bases records root next staged
   pub contents : (stamp : ℕ) → contents_at (view_of heads bases records root next staged) stamp ≡ contents_with tree stamp
   pub levels : levels_under (slots_of heads bases records) root ≡ tree.levels
+  pub pages : (p : ℕ) → bare (slot_at (slots_of heads bases records) p) ≡ bare (slot_at tree.slots p)
+  pub writes : (p : ℕ) → Contains (row tree.levels 0) p → IsPermutation (writes_with tree p) (writes_over (slot_at (slots_of heads bases records) p))
   pub staged_is : (view_of heads bases records root next staged).staged ≡ adopted tree.staged
 
 module _ (heads heads' : List ℕ) (bases : Bases) (records : Records) (root next n ops : ℕ) (links : List ℕ) where
@@ -121,6 +128,13 @@ module _ (heads heads' : List ℕ) (bases : Bases) (records : Records) (root nex
           ∙ ap (λ (s : List Slot). contents_as_of (from_entries (row_pairs s (row (levels_under s root) 0))) (ws ++ row_writes s (row (levels_under s root) 0)) stamp) (sym slots_same)
           ∙ ap (λ (l : List WriteView). let s = slots_of heads bases records in contents_as_of (from_entries (row_pairs s (row (levels_under s root) 0))) (l ++ row_writes s (row (levels_under s root) 0)) stamp) (sym writes_are);
       levels = levels_now ∙ ap (λ (s : List Slot). levels_under s root) (sym slots_same);
+      pages = λ q.
+          pages_after heads heads' bases earlier root next (next + ops) ws links linked p.pages t.stage.rising t.stage.below (omega arith) t.stage.before chains q ∙ ap (λ (s : List Slot). bare (slot_at s q)) (sym slots_same);
+      writes = λ q has.
+          subst (λ (s : List Slot). IsPermutation (filter (λ w. has_key (slot_at s q) w.key) (writes_in (drop n records)) ++ writes_over (slot_at s q)) (writes_over (slot_at (slots_of heads' bases after) q))) (sym slots_same)
+          (subst (λ (l : List WriteView). IsPermutation (filter (λ w. has_key (slot_at (slots_of heads bases earlier) q) w.key) l ++ writes_over (slot_at (slots_of heads bases earlier) q)) (writes_over (slot_at (slots_of heads' bases after) q))) (sym writes_are)
+          (writes_after heads heads' bases earlier root next (next + ops) ws links linked p.pages t.stage.rising t.stage.below (omega arith) t.stage.before chains q
+          (subst (λ (s : List Slot). Contains (row (levels_under s root) 0) q) slots_same has)));
       staged_is = ap (λ r. Some (stage_with r (writes_in (drop n after)))) first_same ∙ ap (λ w. Some (stage_with earlier w)) (last_same ∙ sym writes_are);
     }
 

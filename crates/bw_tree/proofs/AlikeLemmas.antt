@@ -13,6 +13,8 @@ use Rattle.bw_tree.specs.Levels.{Stands, SideBySide, AreLevels, StartsWith, Lead
 use Rattle.bw_tree.specs.Chains.{Bases, body_written, change}
 use Rattle.bw_tree.specs.Reading.{body_pairs, pairs_under}
 use Rattle.bw_tree.specs.View.{row_pairs}
+use Rattle.bw_tree.specs.Turns.{bare}
+use Rattle.bw_tree.proofs.ChainLemmas.{bare_put}
 use Rattle.bw_tree.proofs.PostedLemmas.{put_over}
 
 one_state : {s t : PageState} → Live s ≡ Live t → s ≡ t
@@ -160,3 +162,8 @@ module _ (bases : Bases) (old new : List Slot) (over : (p : ℕ) → IsPutOver b
   pairs_alike (p ∷ ps) =
       let o = over p in
       ap (λ (l : List (KeyBytes × ValueBytes)). l ++ row_pairs new ps) (ap pairs_under o.is ∙ put_pairs o.writes (slot_at old p)) ∙ ap (λ (l : List (KeyBytes × ValueBytes)). pairs_under (slot_at old p) ++ l) (pairs_alike ps)
+
+-- a page without the writes over it
+pub put_bare : (bases : Bases) (ws : List WriteView) (slot : Slot) → bare (put_over bases ws slot) ≡ bare slot
+put_bare bases [] slot = refl
+put_bare bases (w ∷ ws) slot = bare_put bases w (put_over bases ws slot) ∙ put_bare bases ws slot

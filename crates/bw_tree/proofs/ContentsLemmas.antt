@@ -19,12 +19,19 @@ use Rattle.bw_tree.specs.View.{TreeView, contents_at, levels_under, slots_of, ro
 use Rattle.bw_tree.specs.Trees.{IsStanding, StageWords, view_of}
 use Rattle.bw_tree.proofs.ReadingLemmas.{read_is, slot_of_head}
 use Rattle.bw_tree.proofs.RouteLemmas.{home_leaf}
-use Rattle.bw_tree.proofs.LeafRowLemmas.{HasAt, row_has}
+use Rattle.bw_tree.proofs.LeafRowLemmas.{HasAt, HasKey, one_has, row_has}
 
 module _ (slots : List Slot) (root : ℕ) (levels : List (List ℕ)) (lawful : AreLevels slots root levels) where
   -- the leaf level has at a key what the key's home has
   pub home_has : (key : KeyBytes) (p : ℕ) → IsHome slots levels key p → HasAt (row_pairs slots (row levels 0)) (pairs_under (slot_at slots p)) (row_writes slots (row levels 0)) (writes_over (slot_at slots p)) key
   home_has key p h = row_has slots 0 [] (row levels 0) p h.reached.state key (lawful.rows 0 h.reached.within) h.reached.in_level h.reached.is h.reached.from_low h.ends_above
+
+  home_key : (key : KeyBytes) (p : ℕ) → IsHome slots levels key p → HasKey slots (row levels 0) key p
+  home_key key p h = record { in_row = h.reached.in_level; state = h.reached.state; is = h.reached.is; from_low = h.reached.from_low; ends_above = h.ends_above }
+
+  -- a key has one home
+  pub one_home : (key : KeyBytes) (p q : ℕ) → IsHome slots levels key p → IsHome slots levels key q → p ≡ q
+  one_home key p q h k = one_has slots 0 [] (row levels 0) key p q (lawful.rows 0 h.reached.within) (home_key key p h) (home_key key q k)
 
   module _ (distinct : HasDistinctStamps (row_writes slots (row levels 0))) where
     pub home_distinct : (key : KeyBytes) (p : ℕ) → IsHome slots levels key p → HasDistinctStamps (writes_to key (writes_over (slot_at slots p)))

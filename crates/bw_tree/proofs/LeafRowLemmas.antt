@@ -71,7 +71,7 @@ outside : (low : KeyBytes) (high : Option KeyBytes) (side : Option ℕ) (b : Bod
 outside low high side (Pairs pairs writes) key out sound = record { pairs = none_outside low high key pairs out sound.page.inside; writes = no_write_outside low high key writes out sound.inside }
 outside low high side (Children level children) key out sound = record { pairs = refl; writes = refl }
 
-page_outside : (slots : List Slot) (level : ℕ) (low : KeyBytes) (high : Option KeyBytes) (side : Option ℕ) (p : ℕ) (key : KeyBytes) → Stands slots level low high side p → (T (is_in_range low high key) → ⊥) → HasNothing (pairs_under (slot_at slots p)) (writes_over (slot_at slots p)) key
+pub page_outside : (slots : List Slot) (level : ℕ) (low : KeyBytes) (high : Option KeyBytes) (side : Option ℕ) (p : ℕ) (key : KeyBytes) → Stands slots level low high side p → (T (is_in_range low high key) → ⊥) → HasNothing (pairs_under (slot_at slots p)) (writes_over (slot_at slots p)) key
 page_outside slots level low high side p key st out =
     subst (λ (o : Slot). HasNothing (pairs_under o) (writes_over o) key) (sym st.is)
     (outside st.state.low st.state.high st.state.side st.state.body key
@@ -87,7 +87,7 @@ nothing_both xs ys ws vs key a b = record {
 below_out : (low : KeyBytes) (high : Option KeyBytes) (key : KeyBytes) → is_lt (key_cmp key low) ≡ true → T (is_in_range low high key) → ⊥
 below_out low high key below inside = different (sym below ∙ holds_not _ (both_left _ _ inside))
 
-wide_of : (low : KeyBytes) (high : Option KeyBytes) (side : Option ℕ) (b : Body) → IsSoundBody low high side b → T (is_below_end high low)
+pub wide_of : (low : KeyBytes) (high : Option KeyBytes) (side : Option ℕ) (b : Body) → IsSoundBody low high side b → T (is_below_end high low)
 wide_of low high side (Pairs pairs writes) sound = sound.page.wide
 wide_of low high side (Children level children) sound = sound.page.wide
 
@@ -173,3 +173,42 @@ row_has slots level low (x ∷ y ∷ ys) p s key h (suc k, lt, at) is upto ends 
     only_rest (pairs_under (slot_at slots x)) (row_pairs slots (y ∷ ys)) (pairs_under (slot_at slots p)) (writes_over (slot_at slots x)) (row_writes slots (y ∷ ys)) (writes_over (slot_at slots p)) key
     (page_outside slots level low (Some h.0) (Some y) x key h.1 (past_out low h.0 key past))
     (row_has slots level h.0 (y ∷ ys) p s key h.2 later is upto ends)
+
+-- a page of a row whose range has the key
+pub record HasKey (slots : List Slot) (ps : List ℕ) (key : KeyBytes) (p : ℕ) : Type 0 where
+  pub in_row : Contains ps p
+  pub state : PageState
+  pub is : slot_at slots p ≡ Live state
+  pub from_low : IsUpto state.low key
+  pub ends_above : T (is_below_end state.high key)
+
+first_below : (slots : List Slot) (level : ℕ) (low high : KeyBytes) (side : Option ℕ) (p : ℕ) (key : KeyBytes) (s : PageState) → Stands slots level low (Some high) side p → slot_at slots p ≡ Live s → T (is_below_end s.high key) → is_lt (key_cmp key high) ≡ true
+first_below slots level low high side p key s st is ends =
+    let same : st.state ≡ s = one_state (sym st.is ∙ is) in
+    holds _ (subst (λ (o : Option KeyBytes). T (is_below_end o key)) (sym (ap (λ (t : PageState). t.high) same) ∙ st.to_high) ends)
+
+-- no later page has a key below where it begins
+later_above : (slots : List Slot) (level : ℕ) (high : KeyBytes) (ps : List ℕ) (key : KeyBytes) (p : ℕ) → SideBySide slots level high ps → (h : HasKey slots ps key p) → is_lt (key_cmp key high) ≡ true → ⊥
+later_above slots level high ps key p row h below = different (sym below ∙ upto_trans high h.state.low key (row_above slots level high ps p h.state row h.in_row h.is) (holds_not _ h.from_low))
+
+-- a row has a key in one page
+pub one_has : (slots : List Slot) (level : ℕ) (low : KeyBytes) (ps : List ℕ) (key : KeyBytes) (p q : ℕ) → SideBySide slots level low ps → HasKey slots ps key p → HasKey slots ps key q → p ≡ q
+one_has slots level low [] key p q row h k = absurd row
+one_has slots level low (x ∷ []) key p q row h k = sym (only h.in_row) ∙ only k.in_row
+  where
+    only : {r : ℕ} → Contains (x ∷ []) r → x ≡ r
+    only (zero, lt, at) = at
+    only (suc n, lt, at) = absurd (omega (arith, lt))
+one_has slots level low (x ∷ y ∷ ys) key p q row h k = by h.in_row k.in_row (λ a b. one_has slots level row.0 (y ∷ ys) key p q row.2 (later h a) (later k b))
+  where
+    later : {r : ℕ} → HasKey slots (x ∷ y ∷ ys) key r → Contains (y ∷ ys) r → HasKey slots (y ∷ ys) key r
+    later h has = record { in_row = has; state = h.state; is = h.is; from_low = h.from_low; ends_above = h.ends_above }
+
+    below : (r : ℕ) → HasKey slots (x ∷ y ∷ ys) key r → x ≡ r → is_lt (key_cmp key row.0) ≡ true
+    below r h at = first_below slots level low row.0 (Some y) x key h.state row.1 (ap (slot_at slots) at ∙ h.is) h.ends_above
+
+    by : Contains (x ∷ y ∷ ys) p → Contains (x ∷ y ∷ ys) q → (Contains (y ∷ ys) p → Contains (y ∷ ys) q → p ≡ q) → p ≡ q
+    by (zero, lt, at) (zero, lt', at') rest = sym at ∙ at'
+    by (zero, lt, at) (suc n, lt', at') rest = absurd (later_above slots level row.0 (y ∷ ys) key q row.2 (later k (n, omega (arith, lt'), at')) (below p h at))
+    by (suc m, lt, at) (zero, lt', at') rest = absurd (later_above slots level row.0 (y ∷ ys) key p row.2 (later h (m, omega (arith, lt), at)) (below q k at'))
+    by (suc m, lt, at) (suc n, lt', at') rest = rest (m, omega (arith, lt), at) (n, omega (arith, lt'), at')

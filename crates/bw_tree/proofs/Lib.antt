@@ -7,6 +7,16 @@ pub mod TurnLemmas
 pub mod ReadingLemmas
 pub mod LeafRowLemmas
 pub mod ContentsLemmas
+pub mod EndLemmas
+pub mod BeforeLemmas
+pub mod BeforeTurns
+pub mod MarkLemmas
+pub mod BeforeRoutes
+pub mod BackLemmas
+pub mod PageScanLemmas
+pub mod RangeLemmas
+pub mod ScanLemmas
+pub mod LeafScanLemmas
 pub mod MakingLemmas
 pub mod OverLemmas
 pub mod GrowthLemmas
@@ -17,3 +27,4 @@ pub mod AlikeLemmas
 pub mod RowWritesLemmas
 pub mod AdoptLemmas
 pub mod AdoptedLemmas
+pub mod StagedLemmas

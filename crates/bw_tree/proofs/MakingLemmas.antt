@@ -66,7 +66,7 @@ pub counted_more : (old new : List ℕ) (k : ℕ) → new ≡ old ++ k ∷ [] �
 counted_more old new k pushed so_far = pushed ∙ ap (λ l. l ++ k ∷ []) so_far ∙ ap (λ m. count_from 0 k ++ m ∷ []) (sym (from_none k)) ∙ sym (counted_further 0 k) ∙ ap (count_from 0) (sym (suc_is k))
 
 -- A tree whose mapping words are the numbers of its base pages.
-slot_based : (bases : Bases) (w : ℕ) → slot_of_word bases [] w ≡ based (slice_get bases w)
+pub slot_based : (bases : Bases) (w : ℕ) → slot_of_word bases [] w ≡ based (slice_get bases w)
 unfolding walked ended
 slot_based bases w = refl
 

@@ -1,4 +1,7 @@
 -- The tree over leaves is lawful.
+use Rattle.std.specs.Prelude.{slice_get}
+use Rattle.bw_tree.specs.Chains.{based, slot_of_word}
+use Rattle.bw_page.specs.declared.pages.Page.{Page}
 use Rattle.std.proofs.Common.{◌≡◌, ℕ, zero, suc, ◌+◌, ◌-◌, ◌<◌, ◌≤◌, ◌^◌, true, false, cond, not, T, List, [], ◌∷◌, ◌++◌, length, map, Option, Some, None, Result, Ok, Err, IfOk, refl, sym, ap, ◌∙◌, subst, arith, nat_lt, length-append}
 use Rattle.std.specs.List.{Contains, AllByRecursion, IsDistinct}
 use Rattle.std.specs.FinMap.{from_entries}
@@ -15,11 +18,11 @@ use Rattle.bw_delta.specs.ContentsAsOf.{contents_as_of}
 use Rattle.bw_tree.specs.Slots.{Slot, PageState, Children, Live, slot_at, left_of_slot, children_of}
 use Rattle.bw_tree.specs.Levels.{AreLevels, SideBySide, Stands, StartsWith, LeadsBelow, BeginsWith, FirstChild, row}
 use Rattle.bw_tree.specs.Chains.{Bases, link_of, linked_word}
-use Rattle.bw_tree.specs.Making.{AreAbutting, HasRules, IsOverLeaves, base_of_leaf, count_from, pages_over, pairs_in, terms_from, tree_over}
+use Rattle.bw_tree.specs.Making.{AreAbutting, HasRules, IsOverLeaves, base_of_leaf, count_from, leaf_slot, pages_over, pairs_in, terms_from, tree_over}
 use Rattle.bw_tree.specs.View.{TreeView, contents_at, row_pairs, row_writes}
 use Rattle.bw_tree.specs.Trees.{IsTree, AllEnd}
 use Rattle.bw_tree.proofs.LevelLemmas.{levels_now}
-use Rattle.bw_tree.proofs.MakingLemmas.{StandAt, over_slots, from_none, there_is, counted_word, counted_length, counted_has, slot_there, leaf_there, root_there, leaf_state, leaf_row, leaf_pairs, leaf_writes, term_named, root_rules}
+use Rattle.bw_tree.proofs.MakingLemmas.{StandAt, over_slots, slot_based, from_none, there_is, counted_word, counted_length, counted_has, slot_there, leaf_there, root_there, leaf_state, leaf_row, leaf_pairs, leaf_writes, term_named, root_rules}
 
 one_state : {s t : PageState} → Live s ≡ Live t → s ≡ t
 one_state e = cc
@@ -62,6 +65,27 @@ over_contents bases levels leaves lawful at stand =
     ∙ ap (λ (ps : List ℕ). from_entries {R = key_cmp} (row_pairs (over_slots bases) ps)) at
     ∙ ap (from_entries {R = key_cmp}) (leaf_pairs (over_slots bases) 0 leaves stand)
 
+all_based : (bases rest : Bases) (n : ℕ) → ((i : ℕ) (o : Option Page) → slice_get rest i ≡ Some o → slice_get bases (n + i) ≡ Some o) → map (slot_of_word bases []) (count_from n (length rest)) ≡ map (λ o. based (Some o)) rest
+all_based bases [] n at = refl
+all_based bases (o ∷ rest) n at =
+    ap (λ (s : Slot). s ∷ map (slot_of_word bases []) (count_from (n + 1) (length rest))) (slot_based bases n ∙ ap based (ap (slice_get bases) (plus_none n) ∙ at 0 o refl))
+    ∙ ap (λ (l : List Slot). based (Some o) ∷ l) (all_based bases rest (n + 1) (λ i k e. ap (slice_get bases) (shifted n i) ∙ at (suc i) k e))
+  where
+    plus_none : (n : ℕ) → n ≡ n + 0
+    plus_none n = omega arith
+
+    shifted : (n i : ℕ) → n + 1 + i ≡ n + suc i
+    shifted n i = omega arith
+
+leaf_slots : (leaves : List (LeafView ValueBytes)) (more : Bases) → map (λ o. based (Some o)) (map base_of_leaf leaves ++ more) ≡ map leaf_slot leaves ++ map (λ o. based (Some o)) more
+leaf_slots [] more = refl
+leaf_slots (l ∷ leaves) more = ap (λ (s : List Slot). leaf_slot l ∷ s) (leaf_slots leaves more)
+
+slots_are : (leaves : List (LeafView ValueBytes)) (more : Bases) → over_slots (map base_of_leaf leaves ++ more) ≡ map leaf_slot leaves ++ map (λ o. based (Some o)) more
+slots_are leaves more =
+    let bases = map base_of_leaf leaves ++ more in
+    all_based bases bases 0 (λ i o e. ap (slice_get bases) (from_none i) ∙ e) ∙ leaf_slots leaves more
+
 -- what a tree is over: it is lawful, and is the one that was asked for
 pub record StandsOver (bases : Bases) (given : List (LeafView ValueBytes)) : Type 0 where
   pub tree : IsTree (count_from 0 (length bases)) bases [] (length bases - 1) 0 None
@@ -88,6 +112,7 @@ alone_over l abut rules =
     record {
       tree = over_tree bases levels lawful (leaf_writes slots 0 (l ∷ []) stand) (omega arith);
       over = record {
+        slots = slots_are (l ∷ []) [];
         contents = over_contents bases levels (l ∷ []) lawful refl stand;
         leaves = ap (λ (ls : List (List ℕ)). row ls 0) (levels_now slots 0 levels lawful);
         root = refl;
@@ -187,6 +212,7 @@ module _ (l k : LeafView ValueBytes) (rest : List (LeafView ValueBytes)) (abut :
   rooted_over few = record {
     tree = over_tree rooted two_levels rooted_lawful (leaf_writes rooted_slots 0 given stand) few;
     over = record {
+      slots = slots_are given (Some (InnerPage (root_of given)) ∷ []);
       contents = over_contents rooted two_levels given rooted_lawful refl stand;
       leaves = ap (λ (ls : List (List ℕ)). row ls 0) (levels_now rooted_slots (length rooted - 1) two_levels rooted_lawful);
       root = omega (arith, rooted_length);

@@ -30,14 +30,14 @@ abbrev pub put_over : Bases → List WriteView → Slot → Slot
 put_over bases [] slot = slot
 put_over bases (w ∷ ws) slot = change bases (Put w) (put_over bases ws slot)
 
-read_both : (ws : List WriteView) (links : List ℕ) (r : ℕ) → r < length links → length links ≡ length ws → (w : WriteView) × (slice_get ws r ≡ Some w) × (slice_get (put_records ws links) r ≡ Some (Put w, slice_index links r))
+pub read_both : (ws : List WriteView) (links : List ℕ) (r : ℕ) → r < length links → length links ≡ length ws → (w : WriteView) × (slice_get ws r ≡ Some w) × (slice_get (put_records ws links) r ≡ Some (Put w, slice_index links r))
 read_both [] [] r lt same = absurd (omega arith)
 read_both [] (l ∷ links) r lt same = absurd (omega (arith, same))
 read_both (w ∷ ws) [] r lt same = absurd (omega arith)
 read_both (w ∷ ws) (l ∷ links) zero lt same = (w, refl, refl)
 read_both (w ∷ ws) (l ∷ links) (suc r) lt same = read_both ws links r (omega arith) (omega (arith, same))
 
-read_behind : (old more : Records) (r : ℕ) → slice_get (old ++ more) (length old + r) ≡ slice_get more r
+pub read_behind : (old more : Records) (r : ℕ) → slice_get (old ++ more) (length old + r) ≡ slice_get more r
 read_behind [] more r = ap (slice_get more) (from_none r)
   where
     from_none : (r : ℕ) → 0 + r ≡ r

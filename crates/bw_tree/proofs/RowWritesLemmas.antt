@@ -9,7 +9,7 @@ use Rattle.bw_key.specs.Order.{KeyBytes, key_cmp}
 use Rattle.bw_model.specs.Contents.{is_in_range}
 use Rattle.bw_page.proofs.KeyOrder.{below_trans}
 use Rattle.bw_delta.specs.Writes.{WriteView}
-use Rattle.bw_tree.specs.Slots.{Slot, PageState, Body, Pairs, Children, Live, slot_at, level_of, is_leaf, body_is_leaf, IsSoundBody}
+use Rattle.bw_tree.specs.Slots.{Slot, PageState, Body, Pairs, Children, Live, slot_at, has_key, level_of, is_leaf, body_is_leaf, IsSoundBody}
 use Rattle.bw_tree.specs.Levels.{Stands, SideBySide}
 use Rattle.bw_tree.specs.Chains.{Bases}
 use Rattle.bw_tree.specs.Reading.{writes_over}
@@ -58,7 +58,7 @@ parted_at low high ws rises =
       | false ↦ λ e. refl
     ] refl
 
-leaf_of : (low : KeyBytes) (high : Option KeyBytes) (side : Option ℕ) (b : Body) → IsSoundBody low high side b → level_of b ≡ 0 → body_is_leaf b ≡ true
+pub leaf_of : (low : KeyBytes) (high : Option KeyBytes) (side : Option ℕ) (b : Body) → IsSoundBody low high side b → level_of b ≡ 0 → body_is_leaf b ≡ true
 leaf_of low high side (Pairs pairs writes) sound e = refl
 leaf_of low high side (Children n children) sound e = absurd (omega (arith, sound.raised, e))
 
@@ -127,3 +127,10 @@ all_from (w ∷ ws) = ap (λ b. cond b (w ∷ filter (is_from []) ws) (filter (i
 -- the row from the least key on has all writes
 pub row_has_all : (bases : Bases) (ws : List WriteView) (old new : List Slot) (ps : List ℕ) → SideBySide old 0 [] ps → ((p : ℕ) → Contains ps p → HasItsWrites bases ws (slot_at old p) (slot_at new p)) → IsPermutation (ws ++ row_writes old ps) (row_writes new ps)
 row_has_all bases ws old new ps row each = subst (λ l. IsPermutation (l ++ row_writes old ps) (row_writes new ps)) (all_from ws) (row_has_writes bases ws old new [] ps row each)
+
+-- a page of the leaf level with its writes
+pub page_has_writes : (bases : Bases) (ws : List WriteView) (old new : Slot) (s : PageState) → old ≡ Live s → is_leaf old ≡ true → HasItsWrites bases ws old new → IsPermutation (filter (λ w. has_key old w.key) ws ++ writes_over old) (writes_over new)
+page_has_writes bases ws old new s is leaf h =
+    subst (λ l. IsPermutation (filter (λ w. has_key old w.key) ws ++ writes_over old) l) (sym (ap writes_over h.is ∙ puts_writes bases h.writes old leaf))
+    (IsPermutation-append (filter (λ w. has_key old w.key) ws) h.writes (writes_over old) (writes_over old)
+    (subst (λ (o : Slot). IsPermutation (filter (λ w. has_key o w.key) ws) h.writes) (sym is) (h.are s is)) (IsPermutation-refl (writes_over old)))

@@ -92,6 +92,19 @@ pub record ChainsView : Type 0 where
   pub bases : Bases
   pub records : Records
 
+-- a change that is a write
+abbrev pub IsPut : Delta → Type 0
+IsPut (Put w) = Unit {0}
+IsPut (Split k to) = ⊥
+IsPut (Absorb k base high side) = ⊥
+IsPut (Removed left) = ⊥
+IsPut (AddChild k child) = ⊥
+IsPut (DropChild k) = ⊥
+
+-- the record at a place is a write
+abbrev pub IsWrite : Records → ℕ → Type 0
+IsWrite records place = (w : WriteView) × ((link : ℕ) × (slice_get records place ≡ Some (Put w, link)))
+
 -- the record that a word names, if it names one
 abbrev pub record_at : Records → ℕ → Option (Delta × ℕ)
 record_at records word = if nat_lt word 4294967296 then None else slice_get records (word - 4294967296)
@@ -114,8 +127,8 @@ abbrev pub slot_of_word : Bases → Records → ℕ → Slot
 slot_of_word bases records word =
     changed bases (deltas_at records (walked (link_of records) (length records) word)) (based (slice_get bases (ended (link_of records) (length records) word)))
 
--- A chain is some writes, then at most one other change, then a base page. No call makes another change than a
--- split yet.
+-- A chain is some writes, then at most one other change, then a base page. No call makes another change than a write
+-- yet; a split is read already.
 abbrev pub IsShaped : List Delta → Type 0
 IsShaped [] = Unit {0}
 IsShaped (Put w ∷ ds) = IsShaped ds

@@ -7,4 +7,6 @@ pub mod Reading
 pub mod View
 pub mod Trees
 pub mod Stages
+pub mod Scans
+pub mod Before
 pub mod Making

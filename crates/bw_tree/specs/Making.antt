@@ -1,5 +1,5 @@
 -- Trees that are made of leaves.
-use Rattle.std.specs.Prelude.{◌≡◌, ℕ, zero, suc, ◌+◌, ◌-◌, List, [], ◌∷◌, length, flat_map, Option, Some, None}
+use Rattle.std.specs.Prelude.{◌≡◌, ℕ, zero, suc, ◌+◌, ◌-◌, List, [], ◌∷◌, ◌++◌, length, map, flat_map, Option, Some, None}
 use Rattle.std.specs.FinMap.{from_entries}
 use Rattle.bw_key.specs.Order.{KeyBytes}
 use Rattle.bw_model.specs.Values.{ValueBytes}
@@ -7,7 +7,8 @@ use Rattle.bw_page.specs.Leaves.{LeafView}
 use Rattle.bw_page.specs.Pages.{IsPage}
 use Rattle.bw_page.specs.declared.pages.Page.{Page}
 use Rattle.bw_page.specs.declared.pages.Page.TheVariants.{Leaf as LeafPage}
-use Rattle.bw_tree.specs.Chains.{Bases}
+use Rattle.bw_tree.specs.Slots.{Slot, Children, Live}
+use Rattle.bw_tree.specs.Chains.{Bases, plain}
 use Rattle.bw_tree.specs.Levels.{row}
 use Rattle.bw_tree.specs.View.{TreeView, contents_at, slots_of, levels_under}
 
@@ -44,6 +45,15 @@ pages_over [] = 0
 pages_over (leaf ∷ []) = 1
 pages_over (leaf ∷ next ∷ leaves) = length leaves + 3
 
+abbrev pub leaf_slot : LeafView ValueBytes → Slot
+leaf_slot leaf = plain (LeafPage leaf)
+
+-- the root over leaves, where they need one
+abbrev pub root_slots : List (LeafView ValueBytes) → List Slot
+root_slots [] = []
+root_slots (leaf ∷ []) = []
+root_slots (leaf ∷ next ∷ leaves) = Live (record { low = []; high = None; side = None; body = Children 1 (terms_from 0 (leaf ∷ next ∷ leaves)) }) ∷ []
+
 -- the tree whose pages are base pages, each named by its place
 abbrev pub tree_over : Bases → TreeView
 tree_over bases =
@@ -52,6 +62,7 @@ tree_over bases =
 
 -- The tree over leaves, each of which is the page of its place.
 pub record IsOverLeaves (tree : TreeView) (given : List (LeafView ValueBytes)) : Type 0 where
+  pub slots : tree.slots ≡ map leaf_slot given ++ root_slots given
   pub contents : contents_at tree 0 ≡ from_entries (pairs_in given)
   pub leaves : row tree.levels 0 ≡ count_from 0 (length given)
   pub root : tree.root + 1 ≡ pages_over given

@@ -68,6 +68,12 @@ is_leaf (Live s) = body_is_leaf s.body
 is_leaf (Gone l) = false
 is_leaf Free = false
 
+-- a page's range has the key
+abbrev pub has_key : Slot → KeyBytes → Bool
+has_key (Live s) key = is_in_range s.low s.high key
+has_key (Gone l) key = false
+has_key Free key = false
+
 -- A leaf's pairs are those of a page, and its writes lie inside its range.
 pub record IsLeafBody (low : KeyBytes) (high : Option KeyBytes) (side : Option ℕ) (pairs : List (KeyBytes × ValueBytes)) (writes : List WriteView) : Type 0 where
   pub page : IsPage low high side pairs

@@ -1,13 +1,16 @@
 -- The life of a batch: staged, adopted, and then accepted or undone.
-use Rattle.std.specs.Prelude.{◌≡◌, ℕ, ◌+◌, ◌^◌, ◌<◌, ◌≤◌, Bool, true, false, List, length, Option, Some, None, slice_get, slice_index}
+use Rattle.std.specs.Prelude.{◌≡◌, ℕ, ◌+◌, ◌^◌, ◌<◌, ◌≤◌, Bool, true, false, List, ◌++◌, length, filter, Option, Some, None, slice_get, slice_index}
 use Rattle.bw_model.specs.declared.operations.Op.{Op}
 use Rattle.bw_core.specs.World.{Meets, times}
 use Rattle.bw_delta.specs.Writes.{WriteView}
 use Rattle.bw_delta.specs.Batches.{writes_of}
 use Rattle.bw_tree.specs.Levels.{IsHome}
-use Rattle.bw_tree.specs.View.{TreeView, StageView}
+use Rattle.bw_tree.specs.Reading.{writes_over}
+use Rattle.bw_tree.specs.Slots.{slot_at, has_key}
+use Rattle.bw_tree.specs.View.{TreeView, StageView, staged_writes}
+use Rattle.bw_tree.specs.declared.staging.Staged.{Staged}
 
--- the tree with a batch staged: its writes are records, and nothing else is another
+-- the tree with a batch staged: there are records for its writes, and all else is as before
 abbrev pub staged_on : TreeView → List Op → TreeView
 staged_on tree ops =
     let writes = writes_of tree.next ops in
@@ -19,6 +22,16 @@ staged_on tree ops =
 abbrev pub is_adopted : Option StageView → Bool
 is_adopted None = false
 is_adopted (Some stage) = stage.adopted
+
+-- what a tree tells of the batch that is staged; until it is adopted each mapping word is below those of its records
+pub record IsStagedAs (tree : TreeView) (batch : Staged) : Type 0 where
+  pub stage : StageView
+  pub is : tree.staged ≡ Some stage
+  pub base : batch.base ≡ tree.next
+  pub floor : batch.floor ≡ 2 ^ 32 + stage.records
+  pub records : batch.records ≡ length stage.writes
+  pub fits : batch.floor + batch.records ≤ 2 ^ 33
+  pub low : stage.adopted ≡ false → (p : ℕ) → p < length tree.heads → slice_index tree.heads p < batch.floor
 
 -- the stage once its writes stand in the chains
 abbrev pub adopted : Option StageView → Option StageView
@@ -34,6 +47,10 @@ undone tree (Some stage) = record tree { slots = stage.slots; levels = stage.lev
 abbrev pub accepted : TreeView → Option StageView → TreeView
 accepted tree None = tree
 accepted tree (Some stage) = record tree { next = tree.next + stage.ops; staged = None }
+
+-- of the staged writes, those of a page's range, with the writes that the page has
+abbrev pub writes_with : TreeView → ℕ → List WriteView
+writes_with tree p = let page = slot_at tree.slots p in filter (λ w. has_key page w.key) (staged_writes tree.staged) ++ writes_over page
 
 -- The new part of a page's chain is some order of the staged records whose keys are at home there, over the word before.
 pub record IsPostedTo (tree : TreeView) (stage : StageView) (links : List ℕ) (head p : ℕ) : Type 0 where

@@ -91,6 +91,7 @@ abbrev pub IsStage : List ℕ → Bases → Records → ℕ → ℕ → Option S
 IsStage heads bases records root next None = Unit {0}
 IsStage heads bases records root next (Some stage) = IsStaged heads bases records root next stage
 
+-- the pages stand, with writes below the end of what is staged, and so does what stood before a staged batch
 pub record IsTree (heads : List ℕ) (bases : Bases) (records : Records) (root next : ℕ) (staged : Option StageWords) : Type 0 where
   pub now : IsStanding heads bases records root (end_of next staged)
   pub stage : IsStage heads bases records root next staged

@@ -1,19 +1,27 @@
 // Base pages and the chains of delta records over them.
-ghost use Rattle.std.specs.Prelude.{◌≡◌, true, slice_get, IfOk};
+ghost use Rattle.std.specs.Prelude.{◌≡◌, ℕ, ◌≤◌, ◌&&◌, true, false, T, length, slice_get, is_some, Some, None, IfOk, MatchOption};
 ghost use Rattle.std.specs.Option.{option_copied, option_map};
+ghost use Rattle.std.specs.FinMap.{find, is_sorted};
+ghost use Rattle.bw_key.specs.Order.{KeyBytes, key_cmp};
+ghost use Rattle.bw_model.specs.Contents.{is_below_end};
 ghost use Rattle.bw_delta.specs.Batches.{writes_to};
-ghost use Rattle.bw_delta.specs.History.{pointed_to};
-ghost use Rattle.bw_tree.specs.Slots.{is_leaf};
+ghost use Rattle.bw_delta.specs.History.{pointed_to, HasDistinctStamps};
+ghost use Rattle.bw_delta.specs.Writes.{WriteView};
+ghost use Rattle.bw_delta.specs.declared.deltas.Delta.TheVariants.{Put};
+ghost use Rattle.bw_page.specs.Inners.{IsLastUpto};
+ghost use Rattle.bw_tree.specs.Slots.{Slot, is_leaf, side_of_slot};
 ghost use Rattle.bw_tree.specs.Reading.{EndsAbove, base_of, writes_over};
-ghost use Rattle.bw_tree.specs.Chains.{Bases, Ends, based, change, plain, record_at, slot_of_word};
+ghost use Rattle.bw_tree.specs.Chains.{Bases, Ends, IsPut, IsWrite, based, change, plain, record_at, slot_of_word};
+ghost use Rattle.bw_tree.specs.Scans.{ArePairsOn, EndsBelow, Reaches, high_of};
+ghost use Rattle.bw_tree.specs.Before.{ChildrenStandFor, IsLinked, StandsFor, StandsForAt, StartsBelow, count_below, low_of};
 ghost use Rattle.bw_tree.specs.Turns.{IsTurn, IsNoWrite, IsOther, IsWithin, StartsUpto, bare, over, plain_at};
 
 use crate::staging::append_writes;
-use bw_delta::{Arena, Delta, Write};
+use bw_delta::{Arena, Delta, Write, leaf_as_of};
 use bw_key::{Key, Memory};
 use bw_memory::Alloc;
-use bw_model::{Op, Value};
-use bw_page::{Page, PageId};
+use bw_model::{Op, Pairs, Value};
+use bw_page::{Inner, Leaf, Page, PageId};
 use std::marker::Model;
 
 /// Mapping words from here on name records.
@@ -77,6 +85,17 @@ impl Chains {
             links_of self.new.records ≡ take start old ++ links.now ++ drop (start + length links.now) old }
     {
         self.arena.set_links(start, links);
+    }
+
+    /// The key of the write that a record is.
+    pub(crate) fn key_at(&self, place: usize) -> &Key
+        requires { IsWrite self.now.records place }
+        ensures { (w : WriteView) → (link : ℕ) → slice_get self.now.records place ≡ Some (Put w, link) → result.now ≡ w.key }
+    {
+        match self.arena.get(place) {
+            Some((delta, _)) => written_key(delta),
+            None => unreachable!(),
+        }
     }
 
     // The record that a word names, if it names one, with the word of what stands under it.
@@ -163,6 +182,145 @@ impl Chains {
             _ => None,
         }
     }
+
+    /// All writes of a leaf's chain, the newest first.
+    pub(crate) fn writes(&self, alloc: Alloc, head: u64) -> Result<Vec<&Write, Alloc>, Memory>
+        requires ends { Ends self.now.bases self.now.records head }
+        requires leaf { is_leaf (slot_of_word self.now.bases self.now.records head) ≡ true }
+        ensures { IfOk result (λ found. pointed_to found.items ≡ writes_over (slot_of_word self.now.bases self.now.records head)) }
+    {
+        let mut found = Vec::new(alloc);
+        let mut word = head;
+        while let Some((delta, under)) = self.record(word) {
+            match delta {
+                Delta::Put(write) => found.push(write)?,
+                _ => return Ok(found),
+            }
+            word = under;
+        }
+        Ok(found)
+    }
+
+    /// Where a leaf's range ends, and its right neighbour.
+    pub(crate) fn end(&self, head: u64) -> (Option<&Key>, Option<PageId>)
+        requires ends { Ends self.now.bases self.now.records head }
+        requires leaf { is_leaf (slot_of_word self.now.bases self.now.records head) ≡ true }
+        ensures high { option_copied result.0 ≡ high_of (slot_of_word self.now.bases self.now.records head) }
+        ensures side { result.1 ≡ side_of_slot (slot_of_word self.now.bases self.now.records head) }
+    {
+        match self.under_writes(head) {
+            (Some(delta), _) => end_over(delta),
+            (None, Some(Page::Leaf(leaf))) => (leaf.high(), leaf.side()),
+            (None, _) => unreachable!(),
+        }
+    }
+
+    /// The pairs of a leaf as of a stamp, from a key on and below another: those of its base page, under the writes
+    /// of its chain.
+    pub(crate) fn pairs_as_of(
+        &self,
+        alloc: Alloc,
+        head: u64,
+        low: &Key,
+        high: Option<&Key>,
+        stamp: u64,
+    ) -> Result<Pairs, Memory>
+        requires ends { Ends self.now.bases self.now.records head }
+        requires leaf { is_leaf (slot_of_word self.now.bases self.now.records head) ≡ true }
+        requires distinct { HasDistinctStamps (writes_over (slot_of_word self.now.bases self.now.records head)) }
+        ensures { IfOk result (ArePairsOn (slot_of_word self.now.bases self.now.records head) low.now (option_copied high.entry) stamp) }
+    {
+        let writes = self.writes(alloc, head)?;
+        let end = lower_end(self.end(head).0, high);
+        leaf_as_of(alloc, &[self.base_leaf(head)], low, end, &writes, stamp)
+    }
+
+    /// Where a leaf's range begins.
+    pub(crate) fn low(&self, head: u64) -> &Key
+        requires ends { Ends self.now.bases self.now.records head }
+        requires leaf { is_leaf (slot_of_word self.now.bases self.now.records head) ≡ true }
+        ensures { result.now ≡ low_of (slot_of_word self.now.bases self.now.records head) }
+    {
+        self.base_leaf(head).low()
+    }
+
+    // The base page under a leaf's chain.
+    fn base_leaf(&self, head: u64) -> &Leaf
+        requires ends { Ends self.now.bases self.now.records head }
+        requires leaf { is_leaf (slot_of_word self.now.bases self.now.records head) ≡ true }
+        ensures values { (key : KeyBytes) → EndsAbove (slot_of_word self.now.bases self.now.records head) key →
+            base_of (slot_of_word self.now.bases self.now.records head) key ≡ find key_cmp key result.now.pairs }
+        ensures low { result.now.low ≡ low_of (slot_of_word self.now.bases self.now.records head) }
+    {
+        let Some(base) = self.under_writes(head).1 else {
+            unreachable!();
+        };
+        match base {
+            Page::Leaf(leaf) => leaf,
+            _ => unreachable!(),
+        }
+    }
+
+    /// Where a search for the leaf before an end goes on from a page.
+    pub(crate) fn turn_before(&self, head: u64, end: Option<&Key>) -> Turn
+        requires ends { Ends self.now.bases self.now.records head }
+        requires starts { StartsBelow (slot_of_word self.now.bases self.now.records head) (option_copied end) }
+        requires linked { IsLinked (slot_of_word self.now.bases self.now.records head) }
+        ensures { (key : KeyBytes) → StandsForAt (option_copied end.entry) key (slot_of_word self.now.bases self.now.records head) →
+            IsTurn (slot_of_word self.now.bases self.now.records head) key result }
+    {
+        match self.under_writes(head) {
+            (Some(delta), Some(base)) => turn_over_before(delta, base, end),
+            (None, Some(base)) => turn_plain_before(base, end),
+            (_, None) => unreachable!(),
+        }
+    }
+}
+
+// Where the range of a changed leaf ends, and its right neighbour.
+fn end_over(delta: &Delta) -> (Option<&Key>, Option<PageId>)
+    requires { IsOther delta.now }
+    ensures { (bases : Bases) (slot : Slot) → is_leaf slot ≡ true →
+        (option_copied result.0 ≡ high_of (change bases delta.now slot)) × (result.1 ≡ side_of_slot (change bases delta.now slot)) }
+{
+    match delta {
+        Delta::Split { sep, to } => (Some(sep), Some(*to)),
+        _ => unreachable!(),
+    }
+}
+
+// The upper end of the keys that are below both ends.
+fn lower_end<'a>(left: Option<&'a Key>, right: Option<&'a Key>) -> Option<&'a Key>
+    ensures { (key : KeyBytes) → is_below_end (option_copied result) key ≡ (is_below_end (option_copied left.entry) key && is_below_end (option_copied right.entry) key) }
+{
+    match (left, right) {
+        (Some(a), Some(b)) => Some(if *a < *b { a } else { b }),
+        (Some(a), None) => Some(a),
+        (None, b) => b,
+    }
+}
+
+/// Whether the first range doesn't end before the second.
+pub(crate) fn reaches(high: Option<&Key>, to: Option<&Key>) -> bool
+    ensures reached { result ≡ true → Reaches (option_copied high.entry) (option_copied to.entry) }
+    ensures missed { result ≡ false → EndsBelow (option_copied high.entry) (option_copied to.entry) }
+{
+    match (high, to) {
+        (Some(high), Some(to)) => *to <= *high,
+        (Some(_), None) => false,
+        (None, _) => true,
+    }
+}
+
+// The key of a write.
+fn written_key(delta: &Delta) -> &Key
+    requires { IsPut delta.now }
+    ensures { (w : WriteView) → delta.now ≡ Put w → result.now ≡ w.key }
+{
+    match delta {
+        Delta::Put(write) => &write.key,
+        _ => unreachable!(),
+    }
 }
 
 // Where it goes on from a changed page.
@@ -210,5 +368,88 @@ fn turn_within(base: &Page, key: &Key) -> Turn
         Page::Leaf(_) => Turn::Here,
         Page::Inner(inner) => Turn::Down(inner.child_for(key)),
         Page::Gone(left) => Turn::Left(*left),
+    }
+}
+
+// Where a search for the leaf before an end goes on from a changed page.
+fn turn_over_before(delta: &Delta, base: &Page, end: Option<&Key>) -> Turn
+    requires starts { StartsBelow (plain base.now) (option_copied end) }
+    requires other { IsOther delta.now }
+    ensures { (bases : Bases) (key : KeyBytes) → StandsForAt (option_copied end.entry) key (change bases delta.now (plain base.now)) →
+        IsTurn (change bases delta.now (plain base.now)) key result }
+{
+    match delta {
+        Delta::Split { sep, to } => {
+            if reaches(Some(sep), end) {
+                return turn_within_before(base, end);
+            }
+            match base {
+                Page::Gone(left) => Turn::Left(*left),
+                _ => Turn::Right(*to),
+            }
+        }
+        _ => unreachable!(),
+    }
+}
+
+// Where it goes on from a plain base page.
+fn turn_plain_before(base: &Page, end: Option<&Key>) -> Turn
+    requires starts { StartsBelow (plain base.now) (option_copied end) }
+    requires linked { IsLinked (plain base.now) }
+    ensures { (key : KeyBytes) → StandsForAt (option_copied end.entry) key (plain base.now) → IsTurn (plain base.now) key result }
+{
+    let next = match base {
+        Page::Leaf(leaf) => side_before(leaf.high(), leaf.side(), end),
+        Page::Inner(inner) => side_before(inner.high(), inner.side(), end),
+        Page::Gone(_) => None,
+    };
+    match next {
+        Some(next) => Turn::Right(next),
+        None => turn_within_before(base, end),
+    }
+}
+
+// The right neighbour of a page that ends before another end.
+fn side_before(high: Option<&Key>, side: Option<PageId>, end: Option<&Key>) -> Option<PageId>
+    requires { is_some side ≡ is_some high }
+    ensures { MatchOption result (Reaches (option_copied high.entry) (option_copied end.entry))
+        (λ next. (side ≡ Some next) × EndsBelow (option_copied high.entry) (option_copied end.entry)) }
+{
+    if reaches(high, end) {
+        return None;
+    }
+    side
+}
+
+// Where it goes on from a base page that reaches the end.
+fn turn_within_before(base: &Page, end: Option<&Key>) -> Turn
+    requires { StartsBelow (plain base.now) (option_copied end) }
+    ensures { (key : KeyBytes) → ChildrenStandFor (option_copied end.entry) key (plain base.now) → IsWithin (plain base.now) key result }
+{
+    match base {
+        Page::Leaf(_) => Turn::Here,
+        Page::Inner(inner) => Turn::Down(child_before(inner, end)),
+        Page::Gone(left) => Turn::Left(*left),
+    }
+}
+
+// The child with the greatest separator below an end, in about log2 n key comparisons for n children.
+fn child_before(inner: &Inner, end: Option<&Key>) -> PageId
+    requires { T (is_below_end (option_copied end) inner.now.low) }
+    ensures { (key : KeyBytes) → StandsFor (option_copied end.entry) key None inner.now.children → IsLastUpto key inner.now.children result }
+{
+    let children = inner.children();
+    children[count_before(children, end) - 1].1
+}
+
+// How many children have a separator below an end.
+fn count_before(children: &[(Key, PageId)], end: Option<&Key>) -> usize
+    requires { T (is_sorted key_cmp children.now) }
+    ensures value { result ≡ count_below (option_copied end.entry) children.now }
+    ensures bound { result ≤ length children.now }
+{
+    match end {
+        Some(end) => children.partition_point(|child| child.0 < *end),
+        None => children.len(),
     }
 }

@@ -2,4 +2,5 @@
 // refused in turn.
 mod making;
 mod refused;
+mod scans;
 mod trees;

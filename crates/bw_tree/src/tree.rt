@@ -1,15 +1,21 @@
 // The tree.
-ghost use Rattle.std.specs.Prelude.{◌≡◌, ℕ, ◌<◌, ◌≤◌, ◌+◌, ◌-◌, ◌^◌, [], ◌∷◌, true, None, length, take, IfOk, OnOk, OnErr};
+ghost use Rattle.std.specs.Prelude.{◌≡◌, ℕ, ◌<◌, ◌≤◌, ◌+◌, ◌-◌, ◌^◌, [], ◌∷◌, ◌++◌, true, Some, None, T, length, min, reverse, slice_get, take, IfOk, OnOk, OnErr, MatchOption};
+ghost use Rattle.std.specs.List.{Contains};
+ghost use Rattle.std.specs.List.Sorted.{IsPermutation};
+ghost use Rattle.std.specs.Option.{option_copied, option_map};
 ghost use Rattle.std.specs.FinMap.{empty, get};
+ghost use Rattle.std.specs.FinMap.Entries.{where_key};
+ghost use Rattle.bw_key.specs.Order.{KeyBytes, key_cmp};
+ghost use Rattle.bw_model.specs.Contents.{first_of_range, is_below_end, last_of_range, pairs_of_range};
 
-use crate::chains::{Chains, FLOOR, Turn};
+use crate::chains::{Chains, FLOOR, Turn, reaches};
 use crate::making::{base_pages, separators, words};
 use crate::staging::{Stage, Staged};
 use bw_board::Closed;
 use bw_delta::{Arena, value_as_of};
 use bw_key::{Key, Memory};
 use bw_memory::Alloc;
-use bw_model::{Op, Value};
+use bw_model::{Op, Pairs, Value};
 use bw_page::{Inner, Leaf, Page, PageId};
 use std::marker::Model;
 use std::mem;
@@ -41,12 +47,15 @@ impl Model for Tree {
 }
 
 impl Tree {
-    ghost use Rattle.bw_tree.specs.Slots.{slot_at, is_leaf};
-    ghost use Rattle.bw_tree.specs.Levels.{IsHome};
-    ghost use Rattle.bw_tree.specs.Turns.{IsTurn, StartsUpto};
+    ghost use Rattle.bw_tree.specs.Slots.{slot_at, is_leaf, side_of_slot};
+    ghost use Rattle.bw_tree.specs.Levels.{IsHome, row};
+    ghost use Rattle.bw_tree.specs.Reading.{writes_over};
+    ghost use Rattle.bw_tree.specs.Turns.{IsTurn, StartsUpto, bare};
     ghost use Rattle.bw_tree.specs.Trees.{IsTree};
-    ghost use Rattle.bw_tree.specs.View.{contents_at, contents_with};
-    ghost use Rattle.bw_tree.specs.Stages.{IsPostedStage, accepted, adopted, is_adopted, staged_on, undone};
+    ghost use Rattle.bw_tree.specs.View.{contents_at, contents_with, staged_writes};
+    ghost use Rattle.bw_tree.specs.Scans.{Reaches, high_of, is_on};
+    ghost use Rattle.bw_tree.specs.Before.{IsBefore, IsLinked, StandsForAt, StartsBelow, low_of};
+    ghost use Rattle.bw_tree.specs.Stages.{IsPostedStage, IsStagedAs, accepted, adopted, is_adopted, staged_on, undone, writes_with};
     ghost use Rattle.bw_model.specs.Model.{contents_after};
     ghost use Rattle.bw_delta.specs.Batches.{writes_of};
     ghost use Rattle.bw_tree.specs.Making.{AreAbutting, IsOverLeaves, count_from, tree_over};
@@ -141,6 +150,8 @@ impl Tree {
     /// for each page. It takes no memory.
     pub fn route(&self, key: &Key) -> PageId
         ensures home { IsHome self.now.slots self.now.levels key.now result }
+        ensures only { (page : ℕ) → IsHome self.now.slots self.now.levels key.now page → page ≡ result }
+        ensures there { result < length self.now.heads }
         ensures leaf { is_leaf (slot_at self.now.slots result) ≡ true }
     {
         let mut page = self.root;
@@ -209,12 +220,37 @@ impl Tree {
         })
     }
 
+    /// The batch that is staged, if one is.
+    pub fn staged(&self) -> Option<Staged>
+        ensures { MatchOption result (self.now.staged ≡ None) (IsStagedAs self.now) }
+    {
+        let stage = self.staged.as_ref()?;
+        Some(Staged {
+            base: self.next,
+            floor: FLOOR + stage.records as u64,
+            records: (self.chains.len() - stage.records) as u64,
+        })
+    }
+
+    /// The key of a staged record, by its place among them. A worker routes it and posts the record there.
+    pub fn staged_key(&self, place: u64) -> &Key
+        requires { place < length (staged_writes self.now.staged) }
+        ensures { option_map (λ w. w.key) (slice_get (staged_writes self.now.staged) place) ≡ Some result.now }
+    {
+        match &self.staged {
+            Some(stage) => self.chains.key_at(stage.records + place as usize),
+            None => unreachable!(),
+        }
+    }
+
     /// Takes the words that a board was closed with, on which each staged record was posted to the page of its key: its
     /// `route`. From now on the staged writes stand in the chains, in whatever order each page got them. It takes no
     /// memory.
     pub fn adopt(&mut self, closed: Closed)
         requires { IsPostedStage self.old self.old.staged closed.heads closed.links }
         ensures contents { (stamp : ℕ) → contents_at self.new stamp ≡ contents_with self.old stamp }
+        ensures pages { (p : ℕ) → bare (slot_at self.new.slots p) ≡ bare (slot_at self.old.slots p) }
+        ensures writes { (p : ℕ) → Contains (row self.old.levels 0) p → IsPermutation (writes_with self.old p) (writes_over (slot_at self.new.slots p)) }
         ensures root { self.new.root ≡ self.old.root }
         ensures levels { self.new.levels ≡ self.old.levels }
         ensures heads { self.new.heads ≡ closed.heads }
@@ -255,4 +291,201 @@ impl Tree {
             }
         }
     }
+
+    /// The first pairs of a range of keys as of a stamp, in the order of their keys: those from `from` on and below
+    /// `to`, and no more than `most` of them.
+    ///
+    /// From the leaf of `from` on it reads leaf after leaf along the side links, until there are enough pairs or a leaf
+    /// ends the range. Of each leaf it reads all pairs of the range, whatever `most` is, and sorts the writes of its
+    /// chain: `leaf_as_of` has the cost. Memory is taken for the pairs that are read and for one leaf more, and none by
+    /// `most`. `Memory` is answered where a list, a map or a copy finds none.
+    pub fn scan_at(
+        &self,
+        from: &Key,
+        to: Option<&Key>,
+        most: u64,
+        stamp: u64,
+    ) -> Result<Pairs, Memory>
+        ensures { IfOk result (λ pairs. pairs ≡ first_of_range (contents_at self.now stamp) from.now (option_copied to.entry) most) }
+    {
+        let mut pairs = self.read_range(from, to, most, stamp)?;
+        pairs.truncate(first(pairs.len(), most));
+        Ok(Pairs::from_vec(pairs))
+    }
+
+    /// The last pairs of a range of keys as of a stamp, the greatest key first: those from `from` on and below `to`,
+    /// and no more than `most` of them.
+    ///
+    /// From the leaf that has the last of the range on it reads leaf after leaf back, until there are enough pairs or a
+    /// leaf begins the range. Side links lead to the right alone, so it searches for each leaf from the root. Else the
+    /// costs are those of `scan_at`. `Memory` is answered where a list, a map or a copy finds none.
+    pub fn rscan_at(
+        &self,
+        from: &Key,
+        to: Option<&Key>,
+        most: u64,
+        stamp: u64,
+    ) -> Result<Pairs, Memory>
+        ensures { IfOk result (λ pairs. pairs ≡ last_of_range (contents_at self.now stamp) from.now (option_copied to.entry) most) }
+    {
+        if !is_below(from, to) {
+            return Ok(Pairs::from_vec(Vec::new(*self.heads.allocator())));
+        }
+        let mut pairs = self.read_back(from, to, most, stamp)?;
+        pairs.truncate(first(pairs.len(), most));
+        Ok(Pairs::from_vec(pairs))
+    }
+
+    // The pairs of a range as of a stamp, in the order of their keys, those of whole leaves: all, or at least so many.
+    fn read_range(
+        &self,
+        from: &Key,
+        to: Option<&Key>,
+        most: u64,
+        stamp: u64,
+    ) -> Result<Vec<(Key, Value), Alloc>, Memory>
+        ensures { IfOk result (λ read. take most read.items ≡ first_of_range (contents_at self.now stamp) from.now (option_copied to.entry) most) }
+    {
+        let mut read = Vec::new(*self.heads.allocator());
+        let mut page = self.route(from);
+        loop {
+            self.read_leaf(page, from, to, stamp, &mut read)?;
+            let Some(next) = self.leaf_after(page, to) else {
+                return Ok(read);
+            };
+            if read.len() as u64 >= most {
+                return Ok(read);
+            }
+            page = next;
+        }
+    }
+
+    // Adds the pairs of a range that lie on a leaf, as of a stamp.
+    fn read_leaf(
+        &self,
+        page: PageId,
+        from: &Key,
+        to: Option<&Key>,
+        stamp: u64,
+        read: &mut Vec<(Key, Value), Alloc>,
+    ) -> Result<(), Memory>
+        requires { Contains (row self.now.levels 0) page }
+        ensures { OnOk result (read.new.items ≡ read.old.items ++ where_key key_cmp (is_on (slot_at self.now.slots page)) (pairs_of_range (contents_at self.now stamp) from.now (option_copied to.entry))) }
+    {
+        let head = self.heads[page.0 as usize];
+        let alloc = *self.heads.allocator();
+        let mut pairs = self
+            .chains
+            .pairs_as_of(alloc, head, from, to, stamp)?
+            .into_vec();
+        read.append(&mut pairs)?;
+        Ok(())
+    }
+
+    // The right neighbour of a leaf, where the leaf doesn't reach the end of a range.
+    fn leaf_after(&self, page: PageId, to: Option<&Key>) -> Option<PageId>
+        requires { Contains (row self.now.levels 0) page }
+        ensures { MatchOption result (Reaches (high_of (slot_at self.now.slots page)) (option_copied to.entry)) (λ next. side_of_slot (slot_at self.now.slots page) ≡ Some next) }
+    {
+        let (high, side) = self.chains.end(self.heads[page.0 as usize]);
+        if reaches(high, to) {
+            return None;
+        }
+        side
+    }
+
+    // The pairs of a range as of a stamp, the greatest key first, those of whole leaves: all, or at least so many.
+    fn read_back(
+        &self,
+        from: &Key,
+        to: Option<&Key>,
+        most: u64,
+        stamp: u64,
+    ) -> Result<Vec<(Key, Value), Alloc>, Memory>
+        requires { T (is_below_end (option_copied to) from.now) }
+        ensures { IfOk result (λ read. take most read.items ≡ last_of_range (contents_at self.now stamp) from.now (option_copied to.entry) most) }
+    {
+        let mut read = Vec::new(*self.heads.allocator());
+        let mut end = to;
+        loop {
+            let page = self.route_before(end);
+            self.read_leaf_back(page, from, end, stamp, &mut read)?;
+            let low = self.low(page);
+            if *low <= *from {
+                return Ok(read);
+            }
+            if read.len() as u64 >= most {
+                return Ok(read);
+            }
+            end = Some(low);
+        }
+    }
+
+    // Adds the pairs of a range that lie on a leaf, as of a stamp, the greatest key first.
+    fn read_leaf_back(
+        &self,
+        page: PageId,
+        from: &Key,
+        to: Option<&Key>,
+        stamp: u64,
+        read: &mut Vec<(Key, Value), Alloc>,
+    ) -> Result<(), Memory>
+        requires { Contains (row self.now.levels 0) page }
+        ensures { OnOk result (read.new.items ≡ read.old.items ++ reverse (where_key key_cmp (is_on (slot_at self.now.slots page)) (pairs_of_range (contents_at self.now stamp) from.now (option_copied to.entry)))) }
+    {
+        let mut pairs = Vec::new(*self.heads.allocator());
+        self.read_leaf(page, from, to, stamp, &mut pairs)?;
+        pairs.reverse();
+        read.append(&mut pairs)?;
+        Ok(())
+    }
+
+    // Where a leaf's range begins.
+    fn low(&self, page: PageId) -> &Key
+        requires { Contains (row self.now.levels 0) page }
+        ensures { result.now ≡ low_of (slot_at self.now.slots page) }
+    {
+        self.chains.low(self.heads[page.0 as usize])
+    }
+
+    // The leaf whose range has the keys right below an end: the search is that of `route`, by the greatest separator
+    // below the end.
+    fn route_before(&self, end: Option<&Key>) -> PageId
+        requires { T (is_below_end (option_copied end) []) }
+        ensures { IsBefore self.now.slots self.now.levels (option_copied end.entry) result }
+    {
+        let mut page = self.root;
+        loop {
+            match self.turn_before(page, end) {
+                Turn::Here => return page,
+                Turn::Right(next) => page = next,
+                Turn::Down(next) => page = next,
+                Turn::Left(next) => page = next,
+            }
+        }
+    }
+
+    // Where a search for the leaf before an end goes on from a page.
+    fn turn_before(&self, page: PageId, end: Option<&Key>) -> Turn
+        requires there { page < length self.now.slots }
+        requires starts { StartsBelow (slot_at self.now.slots page) (option_copied end) }
+        requires linked { IsLinked (slot_at self.now.slots page) }
+        ensures { (key : KeyBytes) → StandsForAt (option_copied end.entry) key (slot_at self.now.slots page) → IsTurn (slot_at self.now.slots page) key result }
+    {
+        self.chains.turn_before(self.heads[page.0 as usize], end)
+    }
+}
+
+// Whether a key is below the end of a range.
+fn is_below(key: &Key, end: Option<&Key>) -> bool
+    ensures { result ≡ is_below_end (option_copied end.entry) key.now }
+{
+    end.is_none_or(|end| *key < *end)
+}
+
+// How many of so many pairs a scan answers.
+fn first(pairs: usize, most: u64) -> usize
+    ensures { result ≡ min pairs most }
+{
+    (pairs as u64).min(most) as usize
 }

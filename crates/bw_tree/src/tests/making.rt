@@ -101,12 +101,20 @@ pub fn one_leaf<R: Abort>(rt: &R, alloc: Alloc) -> Vec<Leaf, Alloc>
     vec![in alloc; leaf].expect(rt, "the leaf")
 }
 
-/// The tree over the three leaves.
-pub fn three<R: Abort>(rt: &R, alloc: Alloc, bytes: &[u8]) -> Tree
+/// The tree over these three leaves.
+pub fn three_with<R: Abort>(rt: &R, alloc: Alloc, bytes: &[u8]) -> Tree
     ensures next { result.next ≡ 0 }
     ensures staged { result.staged ≡ None }
 {
-    Tree::from_level(alloc, leaves(rt, alloc, bytes)).expect(rt, "memory")
+    Tree::from_level(alloc, leaves(rt, alloc, bytes)).expect(rt, "a tree")
+}
+
+/// The tree of three leaves: a 1, b 2 up to `c`, c 3 up to `e`, and e 5.
+pub fn three_leaves<R: Abort>(rt: &R, alloc: Alloc) -> Tree
+    ensures next { result.next ≡ 0 }
+    ensures staged { result.staged ≡ None }
+{
+    three_with(rt, alloc, b"3")
 }
 
 /// Compares the identifiers of a tree's root, its mapping words, and how many records it has. Its next stamp is 0.

@@ -1,5 +1,5 @@
 // Each growth of memory refused in turn.
-use super::making::{LONG, has, heap, key, leaves, stands, three, value};
+use super::making::{LONG, has, heap, key, leaves, stands, three_leaves, three_with, value};
 use crate::{Memory, Tree};
 use bw_memory::Alloc;
 use bw_model::Op;
@@ -43,7 +43,7 @@ fn batch<R: Abort>(rt: &R, alloc: Alloc) -> [Op; 2] {
 
 // Stages a batch where this growth is refused, and compares the tree after that. Whether it was.
 fn stage_refused<R: Abort>(rt: &R, alloc: Alloc, growth: u64) -> bool {
-    let mut tree = three(rt, alloc, b"3");
+    let mut tree = three_leaves(rt, alloc);
     let ops = batch(rt, alloc);
     alloc.refuse(growth);
     let staged = tree.stage(&ops);
@@ -69,7 +69,7 @@ fn each_growth_of_a_stage_is_refused(rt: HostRuntime) {
 #[test]
 fn a_refused_batch_is_staged_again(rt: HostRuntime) {
     let alloc = heap(&rt, rt.alloc());
-    let mut tree = three(&rt, alloc, b"3");
+    let mut tree = three_leaves(&rt, alloc);
     let ops = batch(&rt, alloc);
     alloc.refuse(4);
     if tree.stage(&ops).is_err() {
@@ -87,7 +87,7 @@ fn a_refused_batch_is_staged_again(rt: HostRuntime) {
 #[test]
 fn the_copy_of_a_value_is_refused(rt: HostRuntime) {
     let alloc = heap(&rt, rt.alloc());
-    let tree = three(&rt, alloc, LONG);
+    let tree = three_with(&rt, alloc, LONG);
     let at = key(&rt, alloc, b"c");
     alloc.refuse(1);
     assert_eq!(rt; tree.value_at(&at, 0).err(), Some(Memory));

@@ -1,5 +1,5 @@
 // Trees of one leaf and of three, and a batch that is staged and undone.
-use super::making::{has, heap, key, leaves, one_leaf, stands, three, value};
+use super::making::{has, heap, key, leaves, one_leaf, stands, three_leaves, value};
 use crate::{PageId, Staged, Tree};
 use bw_memory::Alloc;
 use bw_model::Op;
@@ -26,7 +26,7 @@ fn three_leaves_have_a_root_behind_them(rt: HostRuntime) {
 #[test]
 fn each_key_is_sought_in_the_leaf_whose_range_has_it(rt: HostRuntime) {
     let alloc = heap(&rt, rt.alloc());
-    let tree = three(&rt, alloc, b"3");
+    let tree = three_leaves(&rt, alloc);
     alloc.refuse(1);
     let wanted: [(&[u8], u32); 7] = [
         (b"", 0),
@@ -77,7 +77,7 @@ fn batch<R: Abort>(rt: &R, alloc: Alloc) -> [Op; 3] {
 #[test]
 fn a_staged_batch_is_undone(rt: HostRuntime) {
     let alloc = heap(&rt, rt.alloc());
-    let mut tree = three(&rt, alloc, b"3");
+    let mut tree = three_leaves(&rt, alloc);
     let staged = tree.stage(&batch(&rt, alloc)).expect(&rt, "memory");
     assert_eq!(rt;
         staged,
@@ -102,7 +102,7 @@ fn a_staged_batch_is_undone(rt: HostRuntime) {
 #[test]
 fn a_batch_of_reads_has_no_record(rt: HostRuntime) {
     let alloc = heap(&rt, rt.alloc());
-    let mut tree = three(&rt, alloc, b"3");
+    let mut tree = three_leaves(&rt, alloc);
     let staged = tree.stage(&[Op::Get(key(&rt, alloc, b"a"))]);
     assert_eq!(rt;
         staged,
@@ -118,7 +118,7 @@ fn a_batch_of_reads_has_no_record(rt: HostRuntime) {
 #[test]
 fn undo_without_a_batch_changes_nothing(rt: HostRuntime) {
     let alloc = heap(&rt, rt.alloc());
-    let mut tree = three(&rt, alloc, b"3");
+    let mut tree = three_leaves(&rt, alloc);
     tree.undo();
     stands(&rt, &tree, 3, &[0, 1, 2, 3], 0);
     has(&rt, alloc, &tree, 0, &AT_FIRST);

@@ -1,0 +1,163 @@
+-- What was posted to the pages of the records' keys is what a tree adopts.
+use Rattle.std.proofs.Common.{◌≡◌, ◌≢◌, ℕ, zero, suc, ◌+◌, ◌<◌, ◌≤◌, ◌^◌, Bool, true, false, cond, ◌&&◌, eqb, ltb, List, [], ◌∷◌, ◌++◌, length, map, replicate, Option, Some, None, inl, inr, refl, sym, ap, ◌∙◌, subst, arith}
+use Rattle.std.specs.Prelude.{slice_get, slice_index, slice_index_or, Result, Ok, Err, IfOk, OnOk, MatchOption}
+use Rattle.std.specs.Option.{option_map}
+use Rattle.std.proofs.lemmas.Bool.{cases_eq}
+use Rattle.std.proofs.lemmas.Bool.Decides.{nat_tests}
+use Rattle.bw_key.specs.Order.{KeyBytes}
+use Rattle.bw_core.specs.declared.Post.{Post}
+use Rattle.bw_core.specs.World.{IsLast, Meets, one_if, posts_at, posts_in, times, total}
+use Rattle.bw_core.specs.Events.{post}
+use Rattle.bw_core.proofs.Lists.{total-append}
+use Rattle.bw_board.specs.Public.{BoardView, ClosedView, SeatView, HasEach, IsClosed, posted_over}
+use Rattle.bw_delta.specs.Writes.{WriteView}
+use Rattle.bw_tree.specs.Levels.{IsHome}
+use Rattle.bw_tree.specs.Stages.{IsPosted, IsPostedStage, IsPostedTo, IsStagedAs}
+use Rattle.bw_tree.specs.View.{TreeView, StageView, staged_writes}
+use Rattle.bw_tree.specs.declared.staging.Staged.{Staged}
+use Rattle.bw_post.specs.Posting.{ArePostedHome, IsOneHome, IsOver, IsWaiting}
+
+no_write : {w : WriteView} → None ≡ Some w → ⊥
+no_write e = cc
+
+one_write : {v w : WriteView} → Some v ≡ Some w → v ≡ w
+one_write e = cc
+
+-- nothing posted yet
+pub none_home : (tree : TreeView) (v : SeatView) → v.book.posted ≡ [] → ArePostedHome tree v
+none_home tree v none p r w some at = absurd (omega (arith, some, ap (posts_at p r) none))
+
+-- the posts of the same seat, or of one that posted the same
+pub same_home : (tree : TreeView) (v w : SeatView) → w.book.posted ≡ v.book.posted → ArePostedHome tree v → ArePostedHome tree w
+same_home tree v w same h p r x some at = h p r x (omega (arith, some, ap (posts_at p r) same)) at
+
+-- one more post, to the home of its key
+pub home_more : (tree : TreeView) (v w : SeatView) (r page lost : ℕ) (s : List ℕ) (x : ℕ) (key : KeyBytes) → w ≡ posted_over v r page lost s x → option_map (λ (u : WriteView). u.key) (slice_get (staged_writes tree.staged) r) ≡ Some key →
+    IsHome tree.slots tree.levels key page → ((q : ℕ) → IsHome tree.slots tree.levels key q → q ≡ page) → ArePostedHome tree v → ArePostedHome tree w
+home_more tree v w r page lost s x key posted has home only h p q u some at = elim (cases_eq q r) [
+  | inr other ↦ h p q u (omega (arith, before, less (eqb page p) (eqb r q) (other_test q r other), some)) at
+  | inl same ↦ elim (cases_eq p page) [
+    | inl here ↦ subst (λ (z : ℕ). IsOneHome tree u z) (sym here) (at_home (one_key (sym (ap (option_map (λ (u : WriteView). u.key)) (sym (ap (slice_get (staged_writes tree.staged)) same) ∙ at)) ∙ has)))
+    | inr away ↦ h p q u (omega (arith, before, elsewhere (eqb page p) (eqb r q) (other_test p page away), some)) at
+  ]
+]
+  where
+    before : posts_at p q w.book.posted ≡ posts_at p q v.book.posted + (one_if (eqb page p && eqb r q) + 0)
+    before = ap (λ (z : SeatView). posts_at p q z.book.posted) posted ∙ total-append (λ (y : Post). one_if (eqb y.page p && eqb y.rec q)) v.book.posted (post r page lost ∷ [])
+
+    other_test : (m n : ℕ) → (m ≡ n → ⊥) → eqb n m ≡ false
+    other_test m n e = grind (arith, nat_tests)
+
+    less : (a b : Bool) → b ≡ false → one_if (a && b) ≡ 0
+    less true b e = ap one_if e
+    less false b e = refl
+
+    elsewhere : (a b : Bool) → a ≡ false → one_if (a && b) ≡ 0
+    elsewhere a b e = ap (λ c. one_if (c && b)) e
+
+    one_key : {j k : KeyBytes} → Some j ≡ Some k → j ≡ k
+    one_key e = cc
+
+    at_home : u.key ≡ key → IsOneHome tree u page
+    at_home e = (subst (λ (k : KeyBytes). IsHome tree.slots tree.levels k page) (sym e) home, λ z there. only z (subst (λ (k : KeyBytes). IsHome tree.slots tree.levels k z) e there))
+
+-- a record that was posted was posted to some page
+posted_somewhere : (r : ℕ) (ps : List Post) → 0 < posts_in r ps → (p : ℕ) × (0 < posts_at p r ps)
+posted_somewhere r [] some = absurd (omega (arith, some))
+posted_somewhere r (x ∷ ps) some = elim (cases_eq x.rec r) [
+  | inl same ↦ (x.page, omega (arith, both (eqb x.page x.page) (eqb x.rec r) (itself x.page) (test x.rec r same)))
+  | inr other ↦ let more = posted_somewhere r ps (omega (arith, some, ap one_if (no_test x.rec r other))) in (more.0, omega (arith, more.1))
+]
+  where
+    itself : (n : ℕ) → eqb n n ≡ true
+    itself n = grind (arith, nat_tests)
+
+    test : (m n : ℕ) → m ≡ n → eqb m n ≡ true
+    test m n e = grind (arith, nat_tests)
+
+    no_test : (m n : ℕ) → (m ≡ n → ⊥) → eqb m n ≡ false
+    no_test m n e = grind (arith, nat_tests)
+
+    both : (a b : Bool) → a ≡ true → b ≡ true → one_if (a && b) ≡ 1
+    both a b e f = ap (λ c. one_if (c && b)) e ∙ ap one_if f
+
+-- without a spare a chain ends in the page's first word
+first_last : (first : List ℕ) (spares : List (Option ℕ)) (p x : ℕ) → slice_index_or spares p None ≡ None → IsLast first spares p x → x ≡ slice_index first p
+first_last first spares p x none (inl e) = e
+first_last first spares p x none (inr e) = absurd (different (sym none ∙ e))
+  where
+    different : {x : ℕ} → None ≡ Some x → ⊥
+    different e = cc
+
+read_within : (ws : List WriteView) (i : ℕ) (w : WriteView) → slice_get ws i ≡ Some w → i < length ws
+read_within [] i w e = absurd (no_write e)
+read_within (x ∷ ws) zero w e = omega arith
+read_within (x ∷ ws) (suc i) w e = let more = read_within ws i w e in omega (arith, more)
+
+posted_at : (tree : TreeView) (stage : StageView) (v : SeatView) (hs ls sw : List ℕ) → IsOver tree v.board → tree.staged ≡ Some stage → v.board.floor ≡ 2 ^ 32 + stage.records → ArePostedHome tree v → HasEach v → IsClosed v hs ls sw → IsPosted tree stage hs ls
+posted_at tree stage v hs ls sw over staged floor homes each closed =
+    let writes_are : staged_writes tree.staged ≡ stage.writes = ap staged_writes staged in
+    record {
+      pages = closed.0 ∙ ap (λ (l : List ℕ). length l) over.first;
+      records = closed.1 ∙ over.records ∙ ap (λ (l : List WriteView). length l) writes_are;
+      chains = λ p lt. chain p (omega (arith, lt, ap (λ (l : List ℕ). length l) over.first));
+    }
+  where
+    in_stage : (r : ℕ) (w : WriteView) → slice_get stage.writes r ≡ Some w → slice_get (staged_writes tree.staged) r ≡ Some w
+    in_stage r w at = ap (λ (l : List WriteView). slice_get l r) (ap staged_writes staged) ∙ at
+
+    within : (r : ℕ) (w : WriteView) → slice_get stage.writes r ≡ Some w → r < v.board.records
+    within r w at = omega (arith, over.records, read_within (staged_writes tree.staged) r w (in_stage r w at))
+
+    chain : (p : ℕ) → p < length v.board.first → IsPostedTo tree stage ls (slice_index hs p) p
+    chain p lt =
+        let t = closed.5 p lt in
+        let last : t.1 ≡ slice_index tree.heads p = first_last v.board.first v.board.spares p t.1 (over.spareless p) t.3 ∙ ap (λ (l : List ℕ). slice_index l p) over.first in
+        record {
+          chain = t.0;
+          way = subst (λ x. Meets (2 ^ 32 + stage.records) ls (slice_index hs p) t.0 x) last (subst (λ f. Meets f ls (slice_index hs p) t.0 t.1) floor t.2);
+          once = t.7;
+          here = λ r w at home.
+              let somewhere = posted_somewhere r v.book.posted (omega (arith, closed.4 r (within r w at))) in
+              let one = homes somewhere.0 r w somewhere.1 (in_stage r w at) in
+              let same : p ≡ somewhere.0 = one.1 p home in
+              omega (arith, t.6 r, subst (λ q. 0 < posts_at q r v.book.posted) (sym same) somewhere.1);
+          only = λ r w at some. (homes p r w (omega (arith, some, t.6 r)) (in_stage r w at)).0;
+        }
+
+-- so a closed board is what the tree adopts
+pub posted_stage : (tree : TreeView) (v : SeatView) (hs ls sw : List ℕ) (batch : Staged) → IsWaiting tree.staged → IsStagedAs tree batch → v.board.floor ≡ batch.floor → IsOver tree v.board → ArePostedHome tree v → HasEach v → IsClosed v hs ls sw → IsPostedStage tree tree.staged hs ls
+posted_stage tree v hs ls sw batch waiting told floor over homes each closed =
+    subst (λ (o : Option StageView). IsPostedStage tree o hs ls) (sym told.is)
+    (subst IsWaiting told.is waiting, posted_at tree told.stage v hs ls sw over told.is (floor ∙ told.floor) homes each closed)
+
+pub spareless : (n p : ℕ) → ◌≡◌ {A = Option ℕ} (slice_index_or (replicate n None) p None) None
+spareless zero p = refl
+spareless (suc n) zero = refl
+spareless (suc n) (suc p) = spareless n p
+
+-- a board over a tree's words, with so many records and no spares
+pub is_over : (tree : TreeView) (board seated : BoardView) (batch : Staged) (heads : List ℕ) (spares : List (Option ℕ)) (pages : ℕ) → IsStagedAs tree batch → seated ≡ board → board.first ≡ heads → heads ≡ tree.heads → board.records ≡ batch.records → board.spares ≡ spares → spares ≡ replicate pages None → IsOver tree seated
+is_over tree board seated batch heads spares pages told same first heads_are records spares_are none =
+    subst (IsOver tree) (sym same) (record {
+      first = first ∙ heads_are;
+      records = records ∙ told.records ∙ ap (λ (o : Option StageView). length (staged_writes o)) (sym told.is);
+      spareless = λ p. ap (λ (l : List (Option ℕ)). slice_index_or l p None) (spares_are ∙ none) ∙ spareless pages p;
+    })
+
+-- where a board is closed, it is what the tree adopts
+pub closed_stage : {E : Type 0} (r : Result ClosedView E) (tree : TreeView) (v : SeatView) (batch : Staged) → IsWaiting tree.staged → IsStagedAs tree batch → v.board.floor ≡ batch.floor → IsOver tree v.board → ArePostedHome tree v → OnOk r (HasEach v) → IfOk r (λ c. IsClosed v c.heads c.links c.swapped) →
+    IfOk r (λ c. IsPostedStage tree tree.staged c.heads c.links)
+closed_stage (Ok c) tree v batch waiting told floor over homes each closed = posted_stage tree v c.heads c.links c.swapped batch waiting told floor over homes each closed
+closed_stage (Err e) tree v batch waiting told floor over homes each closed = tt
+
+-- the batch that a call told of
+pub told_batch : (o : Option Staged) (tree : TreeView) (batch : Staged) → MatchOption o (tree.staged ≡ None) (IsStagedAs tree) → o ≡ Some batch → IsStagedAs tree batch
+told_batch None tree batch told e = absurd (none e)
+  where
+    none : None ≡ Some batch → ⊥
+    none e = cc
+told_batch (Some b) tree batch told e = subst (IsStagedAs tree) (same e) told
+  where
+    same : Some b ≡ Some batch → b ≡ batch
+    same e = cc

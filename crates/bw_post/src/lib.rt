@@ -1,0 +1,14 @@
+//! Posting a staged batch: each of its records is put before the chain of its key's page, by exchanges on the words of a
+//! board.
+#![tactic(auto)]
+
+mod posting;
+
+pub use posting::post_all;
+
+/// The tree whose batch is posted, and the words that posting leaves for it to adopt.
+pub use bw_board::Closed;
+pub use bw_tree::Tree;
+
+#[cfg(test)]
+mod tests;

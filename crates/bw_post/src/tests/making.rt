@@ -1,0 +1,143 @@
+// Keys, values, leaves and trees from bytes.
+ghost use Rattle.std.specs.Prelude.{◌≡◌, [], ◌∷◌, None, Some};
+ghost use Rattle.bw_tree.specs.Making.{AreAbutting};
+
+use crate::Tree;
+use bw_key::Key;
+use bw_memory::{Alloc, Heap};
+use bw_model::{Op, Pairs, Value};
+use bw_page::{Leaf, PageId};
+use std::alloc::Global;
+use std::process::Abort;
+
+/// A heap of its own, which is never freed.
+pub fn heap<R: Abort>(rt: &R, global: Global) -> Alloc {
+    Box::leak(Box::new(global, Heap::counted(global)).expect(rt, "a heap"))
+}
+
+pub fn key<R: Abort>(rt: &R, alloc: Alloc, bytes: &[u8]) -> Key
+    ensures { result ≡ bytes.now }
+{
+    Key::new(alloc, bytes).expect(rt, "a key")
+}
+
+pub fn value<R: Abort>(rt: &R, alloc: Alloc, bytes: &[u8]) -> Value {
+    Value::new(alloc, bytes).expect(rt, "a value")
+}
+
+// The leaf up to `c`, with page 1 at its right: a 1, b 2.
+fn up_to_c<R: Abort>(rt: &R, alloc: Alloc) -> Leaf
+    ensures low { result.low ≡ [] }
+    ensures high { result.high ≡ Some (99 ∷ []) }
+    ensures side { result.side ≡ Some 1 }
+{
+    let pairs = vec![in alloc;
+        (key(rt, alloc, b"a"), value(rt, alloc, b"1")),
+        (key(rt, alloc, b"b"), value(rt, alloc, b"2")),
+    ];
+    Leaf::from_pairs(
+        key(rt, alloc, b""),
+        Some(key(rt, alloc, b"c")),
+        Some(PageId(1)),
+        Pairs::from_vec(pairs.expect(rt, "the pairs")),
+    )
+}
+
+// The leaf from `c` on and below `e`, with page 2 at its right: c 3.
+fn from_c<R: Abort>(rt: &R, alloc: Alloc) -> Leaf
+    ensures low { result.low ≡ 99 ∷ [] }
+    ensures high { result.high ≡ Some (101 ∷ []) }
+    ensures side { result.side ≡ Some 2 }
+{
+    let pairs = vec![in alloc; (key(rt, alloc, b"c"), value(rt, alloc, b"3"))];
+    Leaf::from_pairs(
+        key(rt, alloc, b"c"),
+        Some(key(rt, alloc, b"e")),
+        Some(PageId(2)),
+        Pairs::from_vec(pairs.expect(rt, "the pair")),
+    )
+}
+
+// The leaf from `e` on: e 5.
+fn from_e<R: Abort>(rt: &R, alloc: Alloc) -> Leaf
+    ensures low { result.low ≡ 101 ∷ [] }
+    ensures high { result.high ≡ None }
+    ensures side { result.side ≡ None }
+{
+    let pairs = vec![in alloc; (key(rt, alloc, b"e"), value(rt, alloc, b"5"))];
+    Leaf::from_pairs(
+        key(rt, alloc, b"e"),
+        None,
+        None,
+        Pairs::from_vec(pairs.expect(rt, "the pair")),
+    )
+}
+
+// Three leaves: a 1 and b 2; c 3; e 5.
+fn leaves<R: Abort>(rt: &R, alloc: Alloc) -> Vec<Leaf, Alloc>
+    ensures { AreAbutting 0 [] result.items }
+{
+    let all = vec![in alloc; up_to_c(rt, alloc), from_c(rt, alloc), from_e(rt, alloc)];
+    all.expect(rt, "the leaves")
+}
+
+/// The tree over the three leaves.
+pub fn three<R: Abort>(rt: &R, alloc: Alloc) -> Tree
+    ensures next { result.next ≡ 0 }
+    ensures staged { result.staged ≡ None }
+{
+    Tree::from_level(alloc, leaves(rt, alloc)).expect(rt, "memory")
+}
+
+/// Compares a tree's mapping words, how many records it has, and its next stamp.
+pub fn stands<R: Abort>(rt: &R, tree: &Tree, heads: &[u64], records: usize, next: u64) {
+    assert_eq!(rt; tree.heads(), heads);
+    assert_eq!(rt; tree.records(), records);
+    assert_eq!(rt; tree.next_stamp(), next);
+}
+
+/// A put of a value at a key.
+pub fn upsert<R: Abort>(rt: &R, alloc: Alloc, bytes: &[u8], put: &[u8]) -> Op {
+    Op::Upsert(key(rt, alloc, bytes), value(rt, alloc, put))
+}
+
+/// Two writes and a read: upsert c 9, delete e, get a.
+pub fn batch<R: Abort>(rt: &R, alloc: Alloc) -> [Op; 3] {
+    [
+        upsert(rt, alloc, b"c", b"9"),
+        Op::Delete(key(rt, alloc, b"e")),
+        Op::Get(key(rt, alloc, b"a")),
+    ]
+}
+
+// Compares the value at a key as of a stamp.
+fn has_at<R: Abort>(
+    rt: &R,
+    alloc: Alloc,
+    tree: &Tree,
+    stamp: u64,
+    bytes: &[u8],
+    wanted: Option<&'static [u8]>,
+) {
+    let found = tree
+        .value_at(&key(rt, alloc, bytes), stamp)
+        .expect(rt, "memory");
+    assert_eq!(rt;
+        found.as_ref().map(|value| value.bytes()),
+        wanted,
+        "as of {stamp}"
+    );
+}
+
+/// Compares the values at keys as of a stamp.
+pub fn has<R: Abort>(
+    rt: &R,
+    alloc: Alloc,
+    tree: &Tree,
+    stamp: u64,
+    wanted: &[(&'static [u8], Option<&'static [u8]>)],
+) {
+    for (bytes, value) in wanted {
+        has_at(rt, alloc, tree, stamp, bytes, *value);
+    }
+}

@@ -1,0 +1,120 @@
+-- A leaf of a tree, from its mapping word, and what a scan makes of it.
+use Rattle.std.proofs.Common.{◌≡◌, ℕ, ◌<◌, ◌≤◌, Bool, true, false, T, List, [], ◌++◌, length, take, get_or, Option, Some, None, MatchOption, refl, sym, ap, ◌∙◌, subst, arith}
+use Rattle.std.proofs.lemmas.List.{length-map}
+use Rattle.std.specs.List.{Contains}
+use Rattle.std.specs.FinMap.{entries, entries_sorted, is_sorted}
+use Rattle.std.specs.FinMap.Entries.{where_key}
+use Rattle.bw_key.specs.Order.{KeyBytes, key_cmp}
+use Rattle.bw_model.specs.Contents.{is_below_end, pairs_of_range}
+use Rattle.bw_model.specs.Values.{ValueBytes}
+use Rattle.bw_delta.specs.History.{HasDistinctStamps}
+use Rattle.bw_delta.proofs.Maps.{sorted_in_range}
+use Rattle.bw_tree.specs.Slots.{Slot, slot_at, is_leaf, side_of_slot}
+use Rattle.bw_tree.specs.Levels.{AreLevels, IsHome, row}
+use Rattle.bw_tree.specs.Reading.{writes_over}
+use Rattle.bw_tree.specs.Scans.{ArePairsOn, Reaches, high_of, is_on}
+use Rattle.bw_tree.specs.Chains.{Bases, Records, Ends, slot_of_word}
+use Rattle.bw_tree.specs.View.{TreeView, contents_at, slots_of, row_writes}
+use Rattle.bw_tree.specs.Trees.{IsStanding, StageWords, view_of}
+use Rattle.bw_tree.proofs.RowLemmas.{InRow}
+use Rattle.bw_tree.proofs.RouteLemmas.{home_leaf}
+use Rattle.bw_tree.proofs.ContentsLemmas.{found_at}
+use Rattle.bw_tree.proofs.ScanLemmas.{Scanning, HasPassed, NextLeaf, page_distinct, leaf_in_row, own_home, leaf_pairs, begins_scan, passes, ends_scan, goes_on, enough_read}
+
+holds : (b : Bool) → T b → b ≡ true
+holds true t = refl
+holds false t = absurd t
+
+true_holds : (a : Bool) → a ≡ true → T a
+true_holds a e = subst T (sym e) tt
+
+different : false ≡ true → ⊥
+different e = cc
+
+-- what is known of a leaf's mapping word
+pub record LeafAt (tree : TreeView) (bases : Bases) (records : Records) (p head : ℕ) : Type 0 where
+  pub slot : slot_at tree.slots p ≡ slot_of_word bases records head
+  pub ends : Ends bases records head
+  pub leaf : is_leaf (slot_of_word bases records head) ≡ true
+  pub distinct : HasDistinctStamps (writes_over (slot_of_word bases records head))
+
+module _ (heads : List ℕ) (bases : Bases) (records : Records) (root next bound : ℕ) (staged : Option StageWords) (tree : TreeView) (is : view_of heads bases records root next staged ≡ tree) (t : IsStanding heads bases records root bound) where
+  pub lawful_here : AreLevels tree.slots root tree.levels
+  lawful_here = subst (λ (v : TreeView). AreLevels v.slots root v.levels) is t.lawful
+
+  pub distinct_here : HasDistinctStamps (row_writes tree.slots (row tree.levels 0))
+  distinct_here = subst (λ (v : TreeView). HasDistinctStamps (row_writes v.slots (row v.levels 0))) is t.distinct
+
+  -- a leaf has a mapping word
+  pub leaf_held : (p : ℕ) → Contains (row tree.levels 0) p → p < length heads
+  leaf_held p has =
+      let own = own_home tree.slots root tree.levels lawful_here p has in
+      let lt = (home_leaf tree.slots root tree.levels lawful_here own.0 p own.1).0 in
+      let size : length (slots_of heads bases records) ≡ length tree.slots = ap (λ (v : TreeView). length v.slots) is in
+      omega (arith, lt, size, length-map heads (slot_of_word bases records))
+
+  pub leaf_at : (p head : ℕ) → Contains (row tree.levels 0) p → head ≡ get_or heads p head → LeafAt tree bases records p head
+  leaf_at p head has read =
+      let own = own_home tree.slots root tree.levels lawful_here p has in
+      let at = found_at heads bases records root next bound staged tree own.0 p head is t own.1 read in
+      record {
+        slot = at.slot;
+        ends = at.ends;
+        leaf = at.leaf;
+        distinct = subst (λ (o : Slot). HasDistinctStamps (writes_over o)) at.slot (page_distinct tree.slots (row tree.levels 0) p has distinct_here);
+      }
+
+  -- the pairs of a leaf's chain, behind those that were read before
+  pub leaf_read : (p head stamp : ℕ) (from : KeyBytes) (to : Option KeyBytes) (pairs old new : List (KeyBytes × ValueBytes)) → Contains (row tree.levels 0) p → head ≡ get_or heads p head →
+      ArePairsOn (slot_of_word bases records head) from to stamp pairs → new ≡ old ++ pairs → new ≡ old ++ where_key key_cmp (is_on (slot_at tree.slots p)) (pairs_of_range (contents_at tree stamp) from to)
+  leaf_read p head stamp from to pairs old new has read so more =
+      more ∙ ap (λ (l : List (KeyBytes × ValueBytes)). old ++ l)
+      (leaf_pairs tree.slots root tree.levels lawful_here distinct_here stamp p from to pairs has (subst (λ (o : Slot). ArePairsOn o from to stamp pairs) (sym (leaf_at p head has read).slot) so))
+
+  -- a leaf without a right neighbour has no end
+  pub side_or_end : (p : ℕ) (side : Option ℕ) (to : Option KeyBytes) → Contains (row tree.levels 0) p → side ≡ side_of_slot (slot_at tree.slots p) →
+      MatchOption side (Reaches (high_of (slot_at tree.slots p)) to) (λ next. side_of_slot (slot_at tree.slots p) ≡ Some next)
+  side_or_end p (Some next) to has e = sym e
+  side_or_end p None to has e = by (leaf_in_row tree.slots root tree.levels lawful_here p has)
+    where
+      by : InRow tree.slots 0 (row tree.levels 0) has.0 p → Reaches (high_of (slot_at tree.slots p)) to
+      by at = from at.high refl
+        where
+          no_side : {q : ℕ} → None ≡ Some q → ⊥
+          no_side e = cc
+
+          side_is : None ≡ at.side
+          side_is = e ∙ ap side_of_slot at.stands.is ∙ at.stands.linked
+
+          high_is : high_of (slot_at tree.slots p) ≡ at.high
+          high_is = ap high_of at.stands.is ∙ at.stands.to_high
+
+          from : (h : Option KeyBytes) → at.high ≡ h → Reaches (high_of (slot_at tree.slots p)) to
+          from None none = λ key below. subst (λ (o : Option KeyBytes). T (is_below_end o key)) (sym (high_is ∙ none)) tt
+          from (Some k) some = let g = at.goes_on k some in absurd (no_side (side_is ∙ g.1))
+
+  module _ (stamp : ℕ) (from : KeyBytes) (to : Option KeyBytes) where
+    range_sorted : T (is_sorted key_cmp (pairs_of_range (contents_at tree stamp) from to))
+    range_sorted = sorted_in_range from to (entries (contents_at tree stamp)) (entries_sorted (contents_at tree stamp))
+
+    abbrev pub all_pairs : List (KeyBytes × ValueBytes)
+    all_pairs = pairs_of_range (contents_at tree stamp) from to
+
+    pub begins : (p : ℕ) (read : List (KeyBytes × ValueBytes)) → read ≡ [] → IsHome tree.slots tree.levels from p → Scanning tree.slots tree.levels all_pairs read p
+    begins p read none home =
+        subst (λ (l : List (KeyBytes × ValueBytes)). Scanning tree.slots tree.levels all_pairs l p) (sym none)
+        (begins_scan tree.slots root tree.levels lawful_here distinct_here stamp from to p home)
+
+    has_passed : (p : ℕ) (found new : List (KeyBytes × ValueBytes)) → Scanning tree.slots tree.levels all_pairs found p → new ≡ found ++ where_key key_cmp (is_on (slot_at tree.slots p)) all_pairs → HasPassed tree.slots all_pairs new p
+    has_passed p found new h more = passes tree.slots root tree.levels lawful_here all_pairs found new p range_sorted h more
+
+    pub ends_read : (p most : ℕ) (found new : List (KeyBytes × ValueBytes)) → Scanning tree.slots tree.levels all_pairs found p → new ≡ found ++ where_key key_cmp (is_on (slot_at tree.slots p)) all_pairs → Reaches (high_of (slot_at tree.slots p)) to →
+        take most new ≡ take most all_pairs
+    ends_read p most found new h more reaches = ap (take most) (ends_scan tree.slots root tree.levels lawful_here distinct_here stamp from to p new (has_passed p found new h more) reaches)
+
+    pub is_enough_read : (p most : ℕ) (found new : List (KeyBytes × ValueBytes)) → Scanning tree.slots tree.levels all_pairs found p → new ≡ found ++ where_key key_cmp (is_on (slot_at tree.slots p)) all_pairs → most ≤ length new → take most new ≡ take most all_pairs
+    is_enough_read p most found new h more enough = enough_read tree.slots all_pairs new p most (has_passed p found new h more) range_sorted enough
+
+    pub next_read : (p q : ℕ) (found new : List (KeyBytes × ValueBytes)) → Scanning tree.slots tree.levels all_pairs found p → new ≡ found ++ where_key key_cmp (is_on (slot_at tree.slots p)) all_pairs →
+        side_of_slot (slot_at tree.slots p) ≡ Some q → NextLeaf tree.slots tree.levels all_pairs new p q
+    next_read p q found new h more step = goes_on tree.slots root tree.levels lawful_here all_pairs new p q h.has (has_passed p found new h more) step

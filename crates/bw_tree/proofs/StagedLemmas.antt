@@ -1,0 +1,129 @@
+-- What is known of a staged batch.
+use Rattle.std.proofs.Common.{◌≡◌, ℕ, zero, suc, ◌+◌, ◌-◌, ◌<◌, ◌≤◌, ◌^◌, true, false, cond, List, [], ◌∷◌, ◌++◌, length, take, drop, Option, Some, None, nat_lt, is_some, refl, sym, ap, ◌∙◌, subst, arith, inl, inr}
+use Rattle.std.specs.Prelude.{slice_get, slice_index}
+use Rattle.std.specs.Option.{option_map}
+use Rattle.std.proofs.lemmas.Bool.{cases_lt}
+use Rattle.std.proofs.lemmas.Bool.Decides.{nat_tests}
+use Rattle.bw_key.specs.Order.{KeyBytes}
+use Rattle.bw_delta.specs.Writes.{WriteView}
+use Rattle.bw_delta.specs.declared.deltas.Delta.{Delta}
+use Rattle.bw_delta.specs.declared.deltas.Delta.TheVariants.{Put}
+use Rattle.bw_tree.specs.Chains.{Bases, Records, Ends, EndsAt, record_at}
+use Rattle.bw_tree.specs.Trees.{IsTree, IsStaged, StageWords, put_records, stage_of, view_of, words_before, writes_in}
+use Rattle.bw_tree.specs.Stages.{IsStagedAs}
+use Rattle.bw_tree.specs.View.{TreeView, staged_writes}
+use Rattle.bw_tree.specs.declared.staging.Staged.{Staged}
+use Rattle.bw_tree.proofs.AdoptLemmas.{writes_put_in}
+use Rattle.bw_tree.proofs.AdoptedLemmas.{take_length}
+use Rattle.bw_tree.proofs.ChainLemmas.{linked}
+use Rattle.bw_tree.proofs.GrowthLemmas.{drop_front}
+use Rattle.bw_tree.proofs.PostedLemmas.{posted_length, read_behind, read_both}
+
+no_record : {r : Delta × ℕ} → None ≡ Some r → ⊥
+no_record e = cc
+
+read_within : (xs : Records) (i : ℕ) (r : Delta × ℕ) → slice_get xs i ≡ Some r → i < length xs
+read_within [] i r e = absurd (no_record e)
+read_within (x ∷ xs) zero r e = omega arith
+read_within (x ∷ xs) (suc i) r e = let more = read_within xs i r e in omega (arith, more)
+
+-- a word that leads to a base page names that page or a record
+ends_low : (bases : Bases) (records : Records) (word : ℕ) → Ends bases records word → word < 4294967296 + length records
+ends_low bases records word ends = by ends.0 ends.1.0 ends.1.1
+  where
+    named : (r : Delta × ℕ) → record_at records word ≡ Some r → word < 4294967296 + length records
+    named r at = elim (cases_lt word 4294967296) [
+      | inl lt ↦ omega (arith, lt)
+      | inr ge ↦
+          let test : nat_lt word 4294967296 ≡ false = grind (arith, nat_tests) in
+          let there = read_within records (word - 4294967296) r (sym (ap (λ b. cond b None (slice_get records (word - 4294967296))) test) ∙ at) in
+          omega (arith, there, ge)
+    ]
+
+    by : (ws : List ℕ) (e : ℕ) → EndsAt bases records word ws e → word < 4294967296 + length records
+    by [] e h = omega (arith, h.way.0, h.limit)
+    by (w ∷ ws) e h = let r = linked records word h.way.1.0 h.way.1.1 in named r.0 r.1
+
+module _ (heads : List ℕ) (bases : Bases) (records : Records) (root next : ℕ) (s : StageWords) (st : IsStaged heads bases records root next s) where
+  abbrev earlier : Records
+  earlier = take s.records records
+
+  count : length earlier ≡ s.records
+  count = take_length s.records records st.earlier
+
+  whole : length records ≡ s.records + length st.writes
+  whole = omega (arith, ap length st.parts, posted_length bases earlier st.writes st.links st.linked, count)
+
+  pub writes_staged : writes_in (drop s.records records) ≡ st.writes
+  writes_staged =
+      ap (λ (r : Records). writes_in (drop s.records r)) st.parts ∙ ap (λ k. writes_in (drop k (earlier ++ put_records st.writes st.links))) (sym count)
+      ∙ ap writes_in (drop_front earlier (put_records st.writes st.links)) ∙ writes_put_in st.writes st.links st.linked
+
+  -- the record of a staged write
+  pub staged_there : (place : ℕ) → place < length (writes_in (drop s.records records)) →
+      (w : WriteView) × (link : ℕ) × (slice_get records (s.records + place) ≡ Some (Put w, link)) × (slice_get (writes_in (drop s.records records)) place ≡ Some w) × (s.records + place < length records)
+  staged_there place lt =
+      let within : place < length st.writes = omega (arith, lt, ap length writes_staged) in
+      let both = read_both st.writes st.links place (omega (arith, within, st.linked)) st.linked in (
+        both.0,
+        slice_index st.links place,
+        ap (λ (r : Records). slice_get r (s.records + place)) st.parts ∙ ap (λ k. slice_get (earlier ++ put_records st.writes st.links) (k + place)) (sym count) ∙ read_behind earlier (put_records st.writes st.links) place ∙ both.2,
+        ap (λ (l : List WriteView). slice_get l place) writes_staged ∙ both.1,
+        omega (arith, whole, within),
+      )
+
+  no_word : (b : Option (List ℕ)) → s.before ≡ b → is_some s.before ≡ false → words_before s.before heads ≡ heads
+  no_word None e none = ap (λ b. words_before b heads) e
+  no_word (Some b) e none = absurd (different (sym (ap is_some e) ∙ none))
+    where
+      different : true ≡ false → ⊥
+      different e = cc
+
+  there : (xs : List ℕ) (i : ℕ) → i < length xs → slice_get xs i ≡ Some (slice_index xs i)
+  there [] i lt = absurd (omega arith)
+  there (x ∷ xs) zero lt = refl
+  there (x ∷ xs) (suc i) lt = there xs i (omega arith)
+
+  words_low : is_some s.before ≡ false → (p : ℕ) → p < length heads → slice_index heads p < 4294967296 + s.records
+  words_low none p lt =
+      let same = no_word s.before refl none in
+      let at : slice_get (words_before s.before heads) p ≡ Some (slice_index heads p) = ap (λ (l : List ℕ). slice_get l p) same ∙ there heads p lt in
+      omega (arith, ends_low bases earlier (slice_index heads p) (st.before.ends p (slice_index heads p) at), count)
+
+  pub staged_is : (batch : Staged) → length records ≤ 2 ^ 32 → batch.base ≡ next → batch.floor ≡ 4294967296 + s.records → batch.records ≡ length records - s.records → IsStagedAs (view_of heads bases records root next (Some s)) batch
+  staged_is batch few base floor records_are = record {
+    stage = stage_of heads bases records root s;
+    is = refl;
+    base = base;
+    floor = floor;
+    records = omega (arith, records_are, whole, ap length writes_staged);
+    fits = omega (arith, floor, records_are, few, st.earlier);
+    low = λ none p lt. omega (arith, words_low none p lt, floor);
+  }
+
+pub staged_as : (heads : List ℕ) (bases : Bases) (records : Records) (root next : ℕ) (staged : Option StageWords) (tree : TreeView) (s : StageWords) (batch : Staged) → IsTree heads bases records root next staged → view_of heads bases records root next staged ≡ tree → Some s ≡ staged →
+    batch.base ≡ next → batch.floor ≡ 4294967296 + s.records → batch.records ≡ length records - s.records → IsStagedAs tree batch
+staged_as heads bases records root next staged tree s batch t is some base floor records_are =
+    let t' = subst (IsTree heads bases records root next) (sym some) t in
+    subst (λ (v : TreeView). IsStagedAs v batch) (ap (view_of heads bases records root next) some ∙ is) (staged_is heads bases records root next s t'.stage batch t'.now.few_records base floor records_are)
+
+-- a staged record, as a call sees it
+pub record StagedRecord (records : Records) (tree : TreeView) (at place : ℕ) : Type 0 where
+  pub write : WriteView
+  pub link : ℕ
+  pub record_is : slice_get records at ≡ Some (Put write, link)
+  pub write_is : slice_get (staged_writes tree.staged) place ≡ Some write
+  pub within : at < length records
+  pub few : length records ≤ 2 ^ 32
+
+pub staged_record : (heads : List ℕ) (bases : Bases) (records : Records) (root next : ℕ) (staged : Option StageWords) (tree : TreeView) (s : StageWords) (place : ℕ) → IsTree heads bases records root next staged → view_of heads bases records root next staged ≡ tree → Some s ≡ staged →
+    place < length (staged_writes tree.staged) → StagedRecord records tree (s.records + place) place
+staged_record heads bases records root next staged tree s place t is some lt =
+    let t' = subst (IsTree heads bases records root next) (sym some) t in
+    let same : view_of heads bases records root next (Some s) ≡ tree = ap (view_of heads bases records root next) some ∙ is in
+    let r = staged_there heads bases records root next s t'.stage place (subst (λ (v : TreeView). place < length (staged_writes v.staged)) (sym same) lt) in
+    subst (λ (v : TreeView). StagedRecord records v (s.records + place) place) same (record { write = r.0; link = r.1; record_is = r.2; write_is = r.3; within = r.4; few = t'.now.few_records })
+
+-- so its key is the one that the record has
+pub key_of_record : (records : Records) (tree : TreeView) (at place : ℕ) (key : KeyBytes) → StagedRecord records tree at place → ((w : WriteView) (link : ℕ) → slice_get records at ≡ Some (Put w, link) → key ≡ w.key) → option_map (λ (w : WriteView). w.key) (slice_get (staged_writes tree.staged) place) ≡ Some key
+key_of_record records tree at place key r key_is = ap (option_map (λ (w : WriteView). w.key)) r.write_is ∙ ap Some (sym (key_is r.write r.link r.record_is))

@@ -1,0 +1,126 @@
+// Scans over three leaves.
+use super::making::{heap, key, three_leaves};
+use crate::Memory;
+use bw_memory::Alloc;
+use bw_model::Pairs;
+use std::process::Abort;
+
+// Compares pairs with the bytes of the wanted ones.
+fn are<R: Abort>(rt: &R, pairs: &Pairs, wanted: &[(&'static [u8], &'static [u8])]) {
+    assert_eq!(rt; pairs.as_slice().len(), wanted.len());
+    for (pair, (key, value)) in pairs.as_slice().iter().zip(wanted) {
+        assert_eq!(rt; pair.0.bytes(), *key);
+        assert_eq!(rt; pair.1.bytes(), *value);
+    }
+}
+
+// The same of the pairs that a scan answered.
+fn has_pairs<R: Abort>(
+    rt: &R,
+    pairs: Result<Pairs, Memory>,
+    wanted: &[(&'static [u8], &'static [u8])],
+) {
+    let pairs = pairs.expect(rt, "the pairs");
+    are(rt, &pairs, wanted);
+}
+
+#[test]
+fn a_scan_goes_on_from_leaf_to_leaf(rt: HostRuntime) {
+    let alloc = heap(&rt, rt.alloc());
+    let tree = three_leaves(&rt, alloc);
+    let from = key(&rt, alloc, b"b");
+    has_pairs(
+        &rt,
+        tree.scan_at(&from, None, 2, 0),
+        &[(b"b", b"2"), (b"c", b"3")],
+    );
+}
+
+#[test]
+fn a_scan_stops_before_its_end(rt: HostRuntime) {
+    let alloc = heap(&rt, rt.alloc());
+    let tree = three_leaves(&rt, alloc);
+    let from = key(&rt, alloc, b"");
+    let to = key(&rt, alloc, b"c");
+    has_pairs(
+        &rt,
+        tree.scan_at(&from, Some(&to), 9, 0),
+        &[(b"a", b"1"), (b"b", b"2")],
+    );
+}
+
+#[test]
+fn a_scan_back_goes_on_from_leaf_to_leaf(rt: HostRuntime) {
+    let alloc = heap(&rt, rt.alloc());
+    let tree = three_leaves(&rt, alloc);
+    let from = key(&rt, alloc, b"b");
+    has_pairs(
+        &rt,
+        tree.rscan_at(&from, None, u64::MAX, 0),
+        &[(b"e", b"5"), (b"c", b"3"), (b"b", b"2")],
+    );
+}
+
+#[test]
+fn a_scan_back_begins_below_its_end(rt: HostRuntime) {
+    let alloc = heap(&rt, rt.alloc());
+    let tree = three_leaves(&rt, alloc);
+    let from = key(&rt, alloc, b"");
+    let to = key(&rt, alloc, b"e");
+    has_pairs(
+        &rt,
+        tree.rscan_at(&from, Some(&to), 2, 0),
+        &[(b"c", b"3"), (b"b", b"2")],
+    );
+}
+
+#[test]
+fn a_scan_back_of_no_range_has_no_pairs(rt: HostRuntime) {
+    let alloc = heap(&rt, rt.alloc());
+    let tree = three_leaves(&rt, alloc);
+    let from = key(&rt, alloc, b"c");
+    has_pairs(&rt, tree.rscan_at(&from, Some(&from), 9, 0), &[]);
+}
+
+// Whether the growth of this number was refused. From now on none is.
+fn was_refused(alloc: Alloc, growth: u64) -> bool {
+    let left = alloc.left();
+    alloc.refuse(0);
+    left == 0 || left > growth
+}
+
+#[test]
+fn each_growth_of_a_scan_is_refused(rt: HostRuntime) {
+    let alloc = heap(&rt, rt.alloc());
+    let tree = three_leaves(&rt, alloc);
+    let from = key(&rt, alloc, b"b");
+    for growth in 1..100 {
+        alloc.refuse(growth);
+        let pairs = tree.scan_at(&from, None, 9, 0);
+        if !was_refused(alloc, growth) {
+            has_pairs(&rt, pairs, &[(b"b", b"2"), (b"c", b"3"), (b"e", b"5")]);
+            assert!(rt; growth > 3);
+            return;
+        }
+        assert!(rt; pairs.is_err(), "growth {growth}");
+    }
+    panic!(rt; "no run met no refusal")
+}
+
+#[test]
+fn each_growth_of_a_scan_back_is_refused(rt: HostRuntime) {
+    let alloc = heap(&rt, rt.alloc());
+    let tree = three_leaves(&rt, alloc);
+    let from = key(&rt, alloc, b"b");
+    for growth in 1..100 {
+        alloc.refuse(growth);
+        let pairs = tree.rscan_at(&from, None, 9, 0);
+        if !was_refused(alloc, growth) {
+            has_pairs(&rt, pairs, &[(b"e", b"5"), (b"c", b"3"), (b"b", b"2")]);
+            assert!(rt; growth > 3);
+            return;
+        }
+        assert!(rt; pairs.is_err(), "growth {growth}");
+    }
+    panic!(rt; "no run met no refusal")
+}
