@@ -1,5 +1,6 @@
-// Keys, values and trees from bytes.
+// Keys, values, leaves and trees from bytes.
 ghost use Rattle.std.specs.Prelude.{◌≡◌, [], ◌∷◌, None, Some};
+ghost use Rattle.bw_tree.specs.Making.{AreAbutting};
 
 use crate::{Leaf, PageId, Tree};
 use bw_key::Key;
@@ -7,6 +8,9 @@ use bw_memory::{Alloc, Heap};
 use bw_model::{Pairs, Value};
 use std::alloc::Global;
 use std::process::Abort;
+
+/// Longer than a key or a value that takes no memory.
+pub const LONG: &[u8] = b"a text of more than 24 bytes";
 
 /// A heap of its own, which is never freed.
 pub fn heap<R: Abort>(rt: &R, global: Global) -> Alloc {
@@ -19,11 +23,11 @@ pub fn key<R: Abort>(rt: &R, alloc: Alloc, bytes: &[u8]) -> Key
     Key::new(alloc, bytes).expect(rt, "a key")
 }
 
-fn value<R: Abort>(rt: &R, alloc: Alloc, bytes: &[u8]) -> Value {
+pub fn value<R: Abort>(rt: &R, alloc: Alloc, bytes: &[u8]) -> Value {
     Value::new(alloc, bytes).expect(rt, "a value")
 }
 
-// The first leaf, up to `c`: a 1, b 2.
+// The leaf up to `c`, with page 1 at its right: a 1, b 2.
 fn up_to_c<R: Abort>(rt: &R, alloc: Alloc) -> Leaf
     ensures low { result.low ≡ [] }
     ensures high { result.high ≡ Some (99 ∷ []) }
@@ -41,13 +45,13 @@ fn up_to_c<R: Abort>(rt: &R, alloc: Alloc) -> Leaf
     )
 }
 
-// The leaf from `c` to `e`: c 3.
-fn c_to_e<R: Abort>(rt: &R, alloc: Alloc) -> Leaf
+// The leaf from `c` on and below `e`, with page 2 at its right: c and this value.
+fn from_c<R: Abort>(rt: &R, alloc: Alloc, bytes: &[u8]) -> Leaf
     ensures low { result.low ≡ 99 ∷ [] }
     ensures high { result.high ≡ Some (101 ∷ []) }
     ensures side { result.side ≡ Some 2 }
 {
-    let pairs = vec![in alloc; (key(rt, alloc, b"c"), value(rt, alloc, b"3"))];
+    let pairs = vec![in alloc; (key(rt, alloc, b"c"), value(rt, alloc, bytes))];
     Leaf::from_pairs(
         key(rt, alloc, b"c"),
         Some(key(rt, alloc, b"e")),
@@ -56,7 +60,7 @@ fn c_to_e<R: Abort>(rt: &R, alloc: Alloc) -> Leaf
     )
 }
 
-// The last leaf, from `e` on: e 5.
+// The leaf from `e` on: e 5.
 fn from_e<R: Abort>(rt: &R, alloc: Alloc) -> Leaf
     ensures low { result.low ≡ 101 ∷ [] }
     ensures high { result.high ≡ None }
@@ -71,8 +75,84 @@ fn from_e<R: Abort>(rt: &R, alloc: Alloc) -> Leaf
     )
 }
 
+/// Three leaves: a 1 and b 2; c and this value; e 5.
+pub fn leaves<R: Abort>(rt: &R, alloc: Alloc, bytes: &[u8]) -> Vec<Leaf, Alloc>
+    ensures { AreAbutting 0 [] result.items }
+{
+    let all = vec![in alloc;
+        up_to_c(rt, alloc),
+        from_c(rt, alloc, bytes),
+        from_e(rt, alloc),
+    ];
+    all.expect(rt, "the leaves")
+}
+
+/// The leaf of all keys: a 1.
+pub fn one_leaf<R: Abort>(rt: &R, alloc: Alloc) -> Vec<Leaf, Alloc>
+    ensures { AreAbutting 0 [] result.items }
+{
+    let pairs = vec![in alloc; (key(rt, alloc, b"a"), value(rt, alloc, b"1"))];
+    let leaf = Leaf::from_pairs(
+        key(rt, alloc, b""),
+        None,
+        None,
+        Pairs::from_vec(pairs.expect(rt, "the pair")),
+    );
+    vec![in alloc; leaf].expect(rt, "the leaf")
+}
+
+/// The tree over these three leaves.
+pub fn three_with<R: Abort>(rt: &R, alloc: Alloc, bytes: &[u8]) -> Tree
+    ensures next { result.next ≡ 0 }
+    ensures staged { result.staged ≡ None }
+{
+    Tree::from_level(alloc, leaves(rt, alloc, bytes)).expect(rt, "a tree")
+}
+
 /// The tree of three leaves: a 1, b 2 up to `c`, c 3 up to `e`, and e 5.
-pub fn three_leaves<R: Abort>(rt: &R, alloc: Alloc) -> Tree {
-    let leaves = vec![in alloc; up_to_c(rt, alloc), c_to_e(rt, alloc), from_e(rt, alloc)];
-    Tree::from_level(alloc, leaves.expect(rt, "the leaves")).expect(rt, "a tree")
+pub fn three_leaves<R: Abort>(rt: &R, alloc: Alloc) -> Tree
+    ensures next { result.next ≡ 0 }
+    ensures staged { result.staged ≡ None }
+{
+    three_with(rt, alloc, b"3")
+}
+
+/// Compares the identifiers of a tree's root, its mapping words, and how many records it has. Its next stamp is 0.
+pub fn stands<R: Abort>(rt: &R, tree: &Tree, root: u32, heads: &[u64], records: usize) {
+    assert_eq!(rt; tree.root(), PageId(root));
+    assert_eq!(rt; tree.heads(), heads);
+    assert_eq!(rt; tree.records(), records);
+    assert_eq!(rt; tree.next_stamp(), 0);
+}
+
+// Compares the value at a key as of a stamp.
+fn has_at<R: Abort>(
+    rt: &R,
+    alloc: Alloc,
+    tree: &Tree,
+    stamp: u64,
+    bytes: &[u8],
+    wanted: Option<&'static [u8]>,
+) {
+    let found = tree
+        .value_at(&key(rt, alloc, bytes), stamp)
+        .expect(rt, "memory");
+    assert_eq!(rt;
+        found.as_ref().map(|value| value.bytes()),
+        wanted,
+        "as of {stamp}"
+    );
+}
+
+/// Compares the values at keys as of a stamp.
+pub fn has<R: Abort>(
+    rt: &R,
+    alloc: Alloc,
+    tree: &Tree,
+    stamp: u64,
+    wanted: &[(&'static [u8], Option<&'static [u8]>)],
+) {
+    for (bytes, value) in wanted {
+        has_at(rt, alloc, tree, stamp, bytes, *value);
+    }
 }

@@ -1,0 +1,101 @@
+// Each growth of memory refused in turn.
+use super::making::{LONG, has, heap, key, leaves, stands, three_leaves, three_with, value};
+use crate::{Memory, Tree};
+use bw_memory::Alloc;
+use bw_model::Op;
+use std::process::Abort;
+
+// Whether the growth of this number was refused. From now on none is.
+fn was_refused(alloc: Alloc, growth: u64) -> bool {
+    let left = alloc.left();
+    alloc.refuse(0);
+    left == 0 || left > growth
+}
+
+#[test]
+fn each_growth_of_a_tree_is_refused(rt: HostRuntime) {
+    let alloc = heap(&rt, rt.alloc());
+    for growth in 1..100 {
+        let all = leaves(&rt, alloc, b"3");
+        alloc.refuse(growth);
+        let made = Tree::from_level(alloc, all);
+        let refused = was_refused(alloc, growth);
+        match made {
+            Ok(tree) => {
+                assert!(rt; !refused);
+                assert!(rt; growth > 3);
+                stands(&rt, &tree, 3, &[0, 1, 2, 3], 0);
+                return;
+            }
+            Err(Memory) => assert!(rt; refused, "growth {growth}"),
+        }
+    }
+    panic!(rt; "no run met no refusal")
+}
+
+// Two writes of a long key and long values.
+fn batch<R: Abort>(rt: &R, alloc: Alloc) -> [Op; 2] {
+    [
+        Op::Upsert(key(rt, alloc, LONG), value(rt, alloc, LONG)),
+        Op::Update(key(rt, alloc, b"c"), value(rt, alloc, LONG)),
+    ]
+}
+
+// Stages a batch where this growth is refused, and compares the tree after that. Whether it was.
+fn stage_refused<R: Abort>(rt: &R, alloc: Alloc, growth: u64) -> bool {
+    let mut tree = three_leaves(rt, alloc);
+    let ops = batch(rt, alloc);
+    alloc.refuse(growth);
+    let staged = tree.stage(&ops);
+    let refused = was_refused(alloc, growth);
+    assert_eq!(rt; staged.is_err(), refused, "growth {growth}");
+    stands(rt, &tree, 3, &[0, 1, 2, 3], if refused { 0 } else { 2 });
+    has(rt, alloc, &tree, 9, &[(b"c", Some(b"3")), (LONG, None)]);
+    refused
+}
+
+#[test]
+fn each_growth_of_a_stage_is_refused(rt: HostRuntime) {
+    let alloc = heap(&rt, rt.alloc());
+    for growth in 1..100 {
+        if !stage_refused(&rt, alloc, growth) {
+            assert!(rt; growth > 4);
+            return;
+        }
+    }
+    panic!(rt; "no run met no refusal")
+}
+
+#[test]
+fn a_refused_batch_is_staged_again(rt: HostRuntime) {
+    let alloc = heap(&rt, rt.alloc());
+    let mut tree = three_leaves(&rt, alloc);
+    let ops = batch(&rt, alloc);
+    alloc.refuse(4);
+    if tree.stage(&ops).is_err() {
+        alloc.refuse(0);
+        let staged = tree.stage(&ops).expect(&rt, "memory");
+        assert_eq!(rt;
+            (staged.base, staged.floor, staged.records),
+            (0, 4294967296, 2)
+        );
+        return;
+    }
+    panic!(rt; "the growth was not refused")
+}
+
+#[test]
+fn the_copy_of_a_value_is_refused(rt: HostRuntime) {
+    let alloc = heap(&rt, rt.alloc());
+    let tree = three_with(&rt, alloc, LONG);
+    let at = key(&rt, alloc, b"c");
+    alloc.refuse(1);
+    assert_eq!(rt; tree.value_at(&at, 0).err(), Some(Memory));
+    assert_eq!(rt; alloc.left(), 0);
+    alloc.refuse(2);
+    let found = tree.value_at(&at, 0).expect(&rt, "memory");
+    assert_eq!(rt; alloc.left(), 1);
+    alloc.refuse(0);
+    assert_eq!(rt; found, Some(value(&rt, alloc, LONG)));
+    stands(&rt, &tree, 3, &[0, 1, 2, 3], 0);
+}

@@ -1,0 +1,125 @@
+// Trees of one leaf and of three, and a batch that is staged and undone.
+use super::making::{has, heap, key, leaves, one_leaf, stands, three_leaves, value};
+use crate::{PageId, Staged, Tree};
+use bw_memory::Alloc;
+use bw_model::Op;
+use std::process::Abort;
+
+// What the three leaves hold, and two keys that are in none.
+const AT_FIRST: [(&[u8], Option<&[u8]>); 6] = [
+    (b"a", Some(b"1")),
+    (b"b", Some(b"2")),
+    (b"c", Some(b"3")),
+    (b"e", Some(b"5")),
+    (b"d", None),
+    (b"", None),
+];
+
+#[test]
+fn three_leaves_have_a_root_behind_them(rt: HostRuntime) {
+    let alloc = heap(&rt, rt.alloc());
+    let tree = Tree::from_level(alloc, leaves(&rt, alloc, b"3")).expect(&rt, "memory");
+    stands(&rt, &tree, 3, &[0, 1, 2, 3], 0);
+    has(&rt, alloc, &tree, 0, &AT_FIRST);
+}
+
+#[test]
+fn each_key_is_sought_in_the_leaf_whose_range_has_it(rt: HostRuntime) {
+    let alloc = heap(&rt, rt.alloc());
+    let tree = three_leaves(&rt, alloc);
+    alloc.refuse(1);
+    let wanted: [(&[u8], u32); 7] = [
+        (b"", 0),
+        (b"bzz", 0),
+        (b"c", 1),
+        (b"d", 1),
+        (b"dz", 1),
+        (b"e", 2),
+        (b"z", 2),
+    ];
+    for (bytes, page) in wanted {
+        assert_eq!(rt; tree.route(&key(&rt, alloc, bytes)), PageId(page));
+    }
+    assert_eq!(rt; alloc.left(), 1);
+}
+
+#[test]
+fn one_leaf_is_the_root(rt: HostRuntime) {
+    let alloc = heap(&rt, rt.alloc());
+    let tree = Tree::from_level(alloc, one_leaf(&rt, alloc)).expect(&rt, "memory");
+    stands(&rt, &tree, 0, &[0], 0);
+    has(&rt, alloc, &tree, 0, &[(b"a", Some(b"1")), (b"b", None)]);
+    assert_eq!(rt; tree.route(&key(&rt, alloc, b"b")), PageId(0));
+}
+
+#[test]
+fn a_new_tree_is_empty(rt: HostRuntime) {
+    let alloc = heap(&rt, rt.alloc());
+    let tree = Tree::new(alloc).expect(&rt, "memory");
+    stands(&rt, &tree, 0, &[0], 0);
+    has(&rt, alloc, &tree, 0, &[(b"", None), (b"a", None)]);
+    assert_eq!(rt; tree.route(&key(&rt, alloc, b"")), PageId(0));
+}
+
+// Two writes and a scan: upsert c 9, delete e, scan % * 9.
+fn batch<R: Abort>(rt: &R, alloc: Alloc) -> [Op; 3] {
+    [
+        Op::Upsert(key(rt, alloc, b"c"), value(rt, alloc, b"9")),
+        Op::Delete(key(rt, alloc, b"e")),
+        Op::Scan {
+            from: key(rt, alloc, b""),
+            to: None,
+            most: 9,
+        },
+    ]
+}
+
+#[test]
+fn a_staged_batch_is_undone(rt: HostRuntime) {
+    let alloc = heap(&rt, rt.alloc());
+    let mut tree = three_leaves(&rt, alloc);
+    let staged = tree.stage(&batch(&rt, alloc)).expect(&rt, "memory");
+    assert_eq!(rt;
+        staged,
+        Staged {
+            base: 0,
+            floor: 4294967296,
+            records: 2
+        }
+    );
+    stands(&rt, &tree, 3, &[0, 1, 2, 3], 2);
+    has(&rt, alloc, &tree, 2, &AT_FIRST);
+
+    alloc.refuse(1);
+    tree.undo();
+    assert_eq!(rt; alloc.left(), 1);
+    alloc.refuse(0);
+    stands(&rt, &tree, 3, &[0, 1, 2, 3], 0);
+    has(&rt, alloc, &tree, 2, &AT_FIRST);
+    assert_eq!(rt; tree.stage(&batch(&rt, alloc)), Ok(staged));
+}
+
+#[test]
+fn a_batch_of_reads_has_no_record(rt: HostRuntime) {
+    let alloc = heap(&rt, rt.alloc());
+    let mut tree = three_leaves(&rt, alloc);
+    let staged = tree.stage(&[Op::Get(key(&rt, alloc, b"a"))]);
+    assert_eq!(rt;
+        staged,
+        Ok(Staged {
+            base: 0,
+            floor: 4294967296,
+            records: 0
+        })
+    );
+    stands(&rt, &tree, 3, &[0, 1, 2, 3], 0);
+}
+
+#[test]
+fn undo_without_a_batch_changes_nothing(rt: HostRuntime) {
+    let alloc = heap(&rt, rt.alloc());
+    let mut tree = three_leaves(&rt, alloc);
+    tree.undo();
+    stands(&rt, &tree, 3, &[0, 1, 2, 3], 0);
+    has(&rt, alloc, &tree, 0, &AT_FIRST);
+}
