@@ -142,6 +142,15 @@ pub fn has<R: Abort>(
     }
 }
 
+// Compares pairs with the bytes of the wanted ones.
+fn are<R: Abort>(rt: &R, pairs: &Pairs, wanted: &[(&'static [u8], &'static [u8])]) {
+    assert_eq!(rt; pairs.as_slice().len(), wanted.len());
+    for (pair, (key, value)) in pairs.as_slice().iter().zip(wanted) {
+        assert_eq!(rt; pair.0.bytes(), *key);
+        assert_eq!(rt; pair.1.bytes(), *value);
+    }
+}
+
 /// Compares the pairs of all keys as of a stamp.
 pub fn holds<R: Abort>(
     rt: &R,
@@ -150,12 +159,7 @@ pub fn holds<R: Abort>(
     stamp: u64,
     wanted: &[(&'static [u8], &'static [u8])],
 ) {
-    let pairs = tree
-        .scan_at(&key(rt, alloc, b""), None, 9, stamp)
-        .expect(rt, "memory");
-    assert_eq!(rt; pairs.as_slice().len(), wanted.len());
-    for (pair, (key, value)) in pairs.as_slice().iter().zip(wanted) {
-        assert_eq!(rt; pair.0.bytes(), *key);
-        assert_eq!(rt; pair.1.bytes(), *value);
-    }
+    let from = key(rt, alloc, b"");
+    let pairs = tree.scan_at(&from, None, 9, stamp).expect(rt, "memory");
+    are(rt, &pairs, wanted);
 }
