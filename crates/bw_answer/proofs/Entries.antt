@@ -8,7 +8,7 @@ use Rattle.bw_key.specs.Order.{KeyBytes, key_eq, key_eq_equiv}
 use Rattle.bw_model.specs.declared.operations.Op.{Op}
 use Rattle.bw_answer.specs.Points.{key_of, Entry, entry_at, entries_from, entries_of, entries_at, HasKey, HasRisingPlaces, IsEntryOf}
 use Rattle.bw_answer.specs.declared.points.Point.{Point}
-use Rattle.bw_answer.proofs.Lists.{part_more, all_append, all_at, get_within}
+use Rattle.bw_answer.proofs.Lists.{part_more, all_append, all_at, all_same, get_within}
 
 -- the points of one operation more
 entries_further : (n : ℕ) (ops : List Op) (i : ℕ) (op : Op) → i < length ops → op ≡ get_or ops i op → entries_from n (take (suc i) ops) ≡ entries_from n (take i ops) ++ entry_at (n + i) (key_of op)
@@ -88,6 +88,36 @@ group_rises key ps n m le rising so =
     ∙ ap (λ l. entries_at key front ++ l) (filter-append at (entries_of part) back ∙ ap (λ l. l ++ entries_at key back) (all_stay key (entries_of part) so)) in
     rising_front 0 (entries_of part) (entries_at key back)
     (rising_back 0 (entries_at key front) (entries_of part ++ entries_at key back) (subst (HasRisingPlaces 0) picked rising))
+
+-- the places of each key rise in a part
+pub part_rises : (ps : List Point) (n k : ℕ) → ((key : KeyBytes) → HasRisingPlaces 0 (entries_at key (entries_of ps))) → (key : KeyBytes) → HasRisingPlaces 0 (entries_at key (entries_of (take k (drop n ps))))
+part_rises ps n k rising key =
+    let part = take k (drop n ps) in
+    let at = λ (x : Entry). key_eq key x.0 in
+    let seen : Point → Entry = λ q. (q.key.now, q.place) in
+    let front = entries_of (take n ps) in
+    let back = entries_of (drop k (drop n ps)) in
+    let split : entries_of ps ≡ front ++ (entries_of part ++ back) =
+    ap entries_of (sym (take-append-drop n ps) ∙ ap (λ l. take n ps ++ l) (sym (take-append-drop k (drop n ps))))
+    ∙ map-append seen (take n ps) (part ++ drop k (drop n ps)) ∙ ap (λ l. front ++ l) (map-append seen part (drop k (drop n ps))) in
+    let picked : entries_at key (entries_of ps) ≡ entries_at key front ++ (entries_at key (entries_of part) ++ entries_at key back) =
+    ap (entries_at key) split ∙ filter-append at front (entries_of part ++ back) ∙ ap (λ l. entries_at key front ++ l) (filter-append at (entries_of part) back) in
+    rising_front 0 (entries_at key (entries_of part)) (entries_at key back)
+    (rising_back 0 (entries_at key front) (entries_at key (entries_of part) ++ entries_at key back) (subst (HasRisingPlaces 0) picked (rising key)))
+
+-- the entries of a part are among those of the whole
+pub part_holds : (P : Entry → Type 0) (ps : List Point) (n k : ℕ) → AllByRecursion P (entries_of ps) → AllByRecursion P (entries_of (take k (drop n ps)))
+part_holds P ps n k all = front k (drop n ps) (rest n ps all)
+  where
+    rest : (n : ℕ) (ps : List Point) → AllByRecursion P (entries_of ps) → AllByRecursion P (entries_of (drop n ps))
+    rest zero ps all = all
+    rest (suc n) [] all = all
+    rest (suc n) (p ∷ ps) all = rest n ps all.1
+
+    front : (k : ℕ) (ps : List Point) → AllByRecursion P (entries_of ps) → AllByRecursion P (entries_of (take k ps))
+    front zero ps all = tt
+    front (suc k) [] all = tt
+    front (suc k) (p ∷ ps) all = (all.0, front k ps all.1)
 
 -- the points of a batch are those of its operations, and their places rise
 pub entries_rise : (n : ℕ) (ops : List Op) → HasRisingPlaces n (entries_from n ops)
@@ -183,3 +213,14 @@ place_within ops e entry = go (slice_get ops e.1) refl entry
         none : None ≡ Some (Some e.0) → ⊥
         none e = cc
     go (Some op) is has = get_within ops e.1 op is
+
+-- the operation at an entry's place is one on its key
+pub entry_key : (ops : List Op) (e : Entry) (op : Op) → IsEntryOf ops e → slice_get ops e.1 ≡ Some op → key_of op ≡ Some e.0
+entry_key ops e op entry is = one (sym (ap (option_map key_of) is) ∙ entry)
+  where
+    one : Some (key_of op) ≡ Some (Some e.0) → key_of op ≡ Some e.0
+    one e = cc
+
+-- the places of entries are those of operations
+pub places_within : (ops : List Op) (n : ℕ) (es : List Entry) → length ops ≡ n → AllByRecursion (IsEntryOf ops) es → AllByRecursion (λ e. e.1 < n) es
+places_within ops n es is = all_same (IsEntryOf ops) (λ e. e.1 < n) (λ e entry. subst (λ (m : ℕ). e.1 < m) is (place_within ops e entry)) es

@@ -2,5 +2,7 @@ mod Lists
 mod Entries
 mod Groups
 pub mod ReplyLemmas
-pub mod Ranges
 mod Wholes
+mod RunLemmas
+mod HomeLemmas
+mod ReadOnly

@@ -6,7 +6,7 @@ use Rattle.bw_key.specs.Order.{KeyBytes, key_eq, key_eq_equiv}
 use Rattle.bw_model.specs.declared.operations.Op.{Op}
 use Rattle.bw_model.specs.declared.operations.Reply.{Reply}
 use Rattle.bw_answer.specs.Points.{key_of, Entry, entry_at, entries_from, entries_at, IsEntryOf}
-use Rattle.bw_answer.specs.Page.{PageView, contents_before, replies_to, IsAnswered}
+use Rattle.bw_answer.specs.Standing.{StandingView, contents_before, replies_to, IsAnswered}
 use Rattle.bw_answer.proofs.Lists.{same_list}
 use Rattle.bw_answer.proofs.ReplyLemmas.{replies_length}
 
@@ -86,17 +86,17 @@ batch_entries ops es same = all_by_key (IsEntryOf ops) es (λ key.
     from_none i = omega arith
 
 -- where each point and each scan is answered, the batch is
-pub all_replied : (page : PageView) (es : List Entry) (before replies : List Reply) → ((key : KeyBytes) → entries_at key es ≡ entries_at key (entries_from 0 page.ops)) → length replies ≡ length page.ops →
-    AllByRecursion (λ e. IsAnswered page before e.1) es → ((place : ℕ) → IsAnswered page before place → IsAnswered page replies place) →
-    ((place : ℕ) → option_map key_of (slice_get page.ops place) ≡ Some None → IsAnswered page replies place) → replies ≡ replies_to page
-all_replied page es before replies same len points keeps scans =
-    same_list replies (replies_to page) (len ∙ sym (replies_length page.ops (contents_before page.pairs page.writes page.base))) (λ i lt. at i (slice_get page.ops i) refl (omega (arith, lt, len)))
+pub all_replied : (batch : StandingView) (es : List Entry) (before replies : List Reply) → ((key : KeyBytes) → entries_at key es ≡ entries_at key (entries_from 0 batch.ops)) → length replies ≡ length batch.ops →
+    AllByRecursion (λ e. IsAnswered batch before e.1) es → ((place : ℕ) → IsAnswered batch before place → IsAnswered batch replies place) →
+    ((place : ℕ) → option_map key_of (slice_get batch.ops place) ≡ Some None → IsAnswered batch replies place) → replies ≡ replies_to batch
+all_replied batch es before replies same len points keeps scans =
+    same_list replies (replies_to batch) (len ∙ sym (replies_length batch.ops (contents_before batch))) (λ i lt. at i (slice_get batch.ops i) refl (omega (arith, lt, len)))
   where
     answered : Entry → Type 0
-    answered e = IsAnswered page before e.1
+    answered e = IsAnswered batch before e.1
 
-    in_batch : AllByRecursion answered (entries_from 0 page.ops)
-    in_batch = all_by_key answered (entries_from 0 page.ops) (λ key. subst (AllByRecursion answered) (same key) (all_at_key answered key es points))
+    in_batch : AllByRecursion answered (entries_from 0 batch.ops)
+    in_batch = all_by_key answered (entries_from 0 batch.ops) (λ key. subst (AllByRecursion answered) (same key) (all_at_key answered key es points))
 
     from_none : (i : ℕ) → 0 + i ≡ i
     from_none i = omega arith
@@ -109,13 +109,13 @@ all_replied page es before replies same len points keeps scans =
         none e = cc
     past (o ∷ ops) (suc i) is lt = past ops i is (omega (arith, lt))
 
-    at : (i : ℕ) (o : Option Op) → slice_get page.ops i ≡ o → i < length page.ops → IsAnswered page replies i
-    at i None is lt = absurd (past page.ops i is lt)
+    at : (i : ℕ) (o : Option Op) → slice_get batch.ops i ≡ o → i < length batch.ops → IsAnswered batch replies i
+    at i None is lt = absurd (past batch.ops i is lt)
     at i (Some op) is lt = by (key_of op) refl
       where
-        by : (k : Option KeyBytes) → key_of op ≡ k → IsAnswered page replies i
+        by : (k : Option KeyBytes) → key_of op ≡ k → IsAnswered batch replies i
         by None has = scans i (ap (option_map key_of) is ∙ ap Some has)
-        by (Some key) has = keeps i (subst (IsAnswered page before) (from_none i) (entry_of answered 0 page.ops i op key is has in_batch))
+        by (Some key) has = keeps i (subst (IsAnswered batch before) (from_none i) (entry_of answered 0 batch.ops i op key is has in_batch))
 
 pub both_on_ok : {X E P Q R : Type 0} (r : Result X E) → (P → Q → R) → OnOk r P → OnOk r Q → OnOk r R
 both_on_ok (Ok x) makes p q = makes p q

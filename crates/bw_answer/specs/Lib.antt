@@ -1,2 +1,3 @@
 pub mod Points
-pub mod Page
+pub mod Homes
+pub mod Standing

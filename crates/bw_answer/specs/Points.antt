@@ -1,7 +1,9 @@
 -- The operations of a batch that read or write one key each, with their places in the batch.
 use Rattle.std.specs.Prelude.{◌≡◌, ℕ, ◌+◌, ◌≤◌, List, [], ◌∷◌, ◌++◌, Option, Some, None, filter, map, slice_get, true}
 use Rattle.std.specs.Option.{option_map}
-use Rattle.bw_key.specs.Order.{KeyBytes, key_eq}
+use Rattle.std.specs.Ordering.{is_lt}
+use Rattle.std.specs.List.Sorted.{IsSortedBy}
+use Rattle.bw_key.specs.Order.{KeyBytes, key_cmp, key_eq}
 use Rattle.bw_model.specs.declared.operations.Op.{Op}
 use Rattle.bw_model.specs.declared.operations.Op.TheVariants.{Get, Insert, Upsert, Update, Delete, SwapIf, Scan, Rscan}
 use Rattle.bw_answer.specs.declared.points.Point.{Point}
@@ -50,3 +52,13 @@ HasRisingPlaces low (e ∷ es) = (low ≤ e.1) × HasRisingPlaces (e.1 + 1) es
 -- each entry is that of an operation of the batch
 abbrev pub IsEntryOf : List Op → Entry → Type 0
 IsEntryOf ops e = option_map key_of (slice_get ops e.1) ≡ Some (Some e.0)
+
+-- the operations of a batch, and those on one key each
+pub record GroupingView : Type 0 where
+  pub ops : List Op
+  pub points : List Entry
+
+-- The points are those of the operations, in the order of their keys; those of one key are in the order of the batch.
+pub record AreGrouped (batch : GroupingView) : Type 0 where
+  pub sorted : IsSortedBy (λ d e. is_lt (key_cmp d.0 e.0)) batch.points
+  pub same : (key : KeyBytes) → entries_at key batch.points ≡ entries_at key (entries_from 0 batch.ops)

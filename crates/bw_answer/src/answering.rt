@@ -1,41 +1,39 @@
 // The replies to a batch.
-ghost use Rattle.std.specs.Prelude.{◌≡◌, ◌+◌, ◌≤◌, ◌^◌, length, IfOk};
-ghost use Rattle.bw_model.specs.Model.{replies_of};
-ghost use Rattle.bw_delta.specs.History.{pointed_to};
-ghost use Rattle.bw_delta.specs.ContentsAsOf.{HoldsBatch};
-ghost use Rattle.bw_answer.specs.Page.{contents_before};
+ghost use Rattle.std.specs.Prelude.{◌≡◌, ℕ, ◌+◌, ◌≤◌, ◌^◌, length, take, IfOk};
+ghost use Rattle.bw_model.specs.Model.{contents_after, replies_of};
+ghost use Rattle.bw_tree.specs.View.{contents_at};
 
-use crate::pages::Page;
-use crate::points::{group, points_of};
-use bw_delta::Write;
+use crate::points::Grouping;
+use crate::standing::StandingBatch;
 use bw_key::Memory;
 use bw_memory::Alloc;
-use bw_model::{Op, Replies, Reply};
-use bw_page::Leaf;
+use bw_model::{Replies, Reply};
+use bw_tree::Tree;
 
-/// The replies to a batch, in its order, by a page that holds all keys. The writes are those of the page's chain, in
-/// any order: those of the batch, which have the stamps from `base` on, and those before it.
+/// The replies to a batch, in its order, by a tree in which its writes stand: as of `base + i` the tree has the map
+/// that the first i operations leave.
 ///
-/// The n operations and m writes are sorted once by key, in about (n + m) log2 (n + m) key comparisons; each key's
-/// writes are then passed once, beside the operations on the key. So the cost doesn't depend on how many of them are
-/// on one key. Each scan besides reads the page as of its stamp, at the cost of `leaf_as_of`. `Memory` is answered
-/// where a list or a reply finds none.
+/// Each leaf that has a key of the batch is searched for once. The writes over it are sorted by key, and each key's
+/// are then passed once, beside the operations on the key. So the cost doesn't depend on how many of them are on one
+/// key. Each scan besides costs a `scan_at`, and each scan back an `rscan_at`. `Memory` is answered where a list or a
+/// reply finds none.
 pub fn replies(
     alloc: Alloc,
-    ops: &[Op],
+    tree: &Tree,
     base: u64,
-    leaf: &Leaf,
-    writes: &[&Write],
+    batch: &Grouping<'_>,
 ) -> Result<Replies, Memory>
-    requires batch { HoldsBatch base ops.now (pointed_to writes.now) }
-    requires fits { base + length ops.now ≤ 2 ^ 40 }
-    ensures { IfOk result (λ replies. replies ≡ replies_of ops.now (contents_before leaf.now.pairs (pointed_to writes.now) base)) }
+    requires reads { (i : ℕ) → contents_at tree.now (base + i) ≡ contents_after (take i batch.now.ops) (contents_at tree.now base) }
+    requires fits { base + length batch.now.ops ≤ 2 ^ 40 }
+    ensures { IfOk result (λ replies. replies ≡ replies_of batch.now.ops (contents_at tree.now base)) }
 {
-    let page = Page::new(alloc, ops, base, leaf, writes)?;
-    let mut points = points_of(alloc, ops)?;
-    group(&mut points)?;
-    let mut replies = unanswered(alloc, ops.len())?;
-    page.answer(alloc, &points, &mut replies)?;
+    let mut replies = unanswered(alloc, batch.ops.len())?;
+    let standing = StandingBatch {
+        tree,
+        ops: batch.ops,
+        base,
+    };
+    standing.answer(alloc, &batch.points, &mut replies)?;
     Ok(Replies::from_vec(replies))
 }
 

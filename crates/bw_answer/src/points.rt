@@ -1,4 +1,4 @@
-// The operations of a batch that read or write one key each.
+// The operations of a batch, and those that read or write one key each.
 ghost use Rattle.std.specs.Prelude.{◌≡◌, ℕ, ◌<◌, ◌≤◌, false, length, IfOk, OnOk, ◌-◌, take, drop, slice_index_or};
 ghost use Rattle.std.specs.List.{AllByRecursion};
 ghost use Rattle.std.specs.List.Sorted.{IsSortedBy};
@@ -10,6 +10,36 @@ ghost use Rattle.bw_answer.specs.Points.{key_of, entries_from, entries_of, entri
 use bw_key::{Key, Memory};
 use bw_memory::Alloc;
 use bw_model::Op;
+use std::marker::Model;
+
+/// The operations of a batch, those on one key each grouped by key.
+#[derive(Drop)]
+pub struct Grouping<'a> {
+    pub(crate) ops: &'a [Op],
+    pub(crate) points: Vec<Point<'a>, Alloc>,
+}
+
+impl<'a> Model for Grouping<'a> {
+    ghost use Rattle.bw_answer.specs.Points.{AreGrouped, GroupingView, entries_of};
+
+    ghost Value = { GroupingView };
+
+    ghost view = { λ g. record { ops = g.ops.now; points = entries_of g.points.items } };
+
+    ghost invariant = { λ g. AreGrouped (record { ops = g.ops.now; points = entries_of g.points.items }) };
+}
+
+impl<'a> Grouping<'a> {
+    /// Groups the operations of a batch by key, in about n log2 n key comparisons for n operations. It copies no key.
+    /// `Memory` is answered where the list finds none.
+    pub fn new(alloc: Alloc, ops: &'a [Op]) -> Result<Grouping<'a>, Memory>
+        ensures { IfOk result (λ grouping. grouping.ops ≡ ops.now) }
+    {
+        let mut points = points_of(alloc, ops)?;
+        group(&mut points)?;
+        Ok(Grouping { ops, points })
+    }
+}
 
 /// An operation's key, and its place in the batch.
 #[derive(Drop)]

@@ -1,3 +1,3 @@
 pub mod RunsLemmas
-mod ChainLemmas
-mod IndexLemmas
+pub mod RunningLemmas
+pub mod ContentsLemmas

@@ -1,6 +1,6 @@
 pub mod Settings
 pub mod SettingFaults
 pub mod Codes
-pub mod Chains
+pub mod Stages
 pub mod View
 pub mod Outcomes

@@ -1,10 +1,13 @@
 // Worked examples of what the contracts say, and what no contract says: that batches are accepted, the printed
 // texts, and each growth of memory refused in turn.
 mod batches;
+mod gates;
 mod largest;
+mod leaves;
 pub(crate) mod making;
 mod options;
 mod randomly;
 mod refusals;
 mod refused;
+mod storms;
 mod tracing;

@@ -1,44 +1,40 @@
 -- What was posted to the pages of the records' keys is what a tree adopts.
 use Rattle.std.proofs.Common.{◌≡◌, ◌≢◌, ℕ, zero, suc, ◌+◌, ◌<◌, ◌≤◌, ◌^◌, Bool, true, false, cond, ◌&&◌, eqb, ltb, List, [], ◌∷◌, ◌++◌, length, map, replicate, Option, Some, None, inl, inr, refl, sym, ap, ◌∙◌, subst, arith}
 use Rattle.std.specs.Prelude.{slice_get, slice_index, slice_index_or, Result, Ok, Err, IfOk, OnOk, MatchOption}
-use Rattle.std.specs.Option.{option_map}
 use Rattle.std.proofs.lemmas.Bool.{cases_eq}
 use Rattle.std.proofs.lemmas.Bool.Decides.{nat_tests}
-use Rattle.bw_key.specs.Order.{KeyBytes}
 use Rattle.bw_core.specs.declared.Post.{Post}
 use Rattle.bw_core.specs.World.{IsLast, Meets, one_if, posts_at, posts_in, times, total}
 use Rattle.bw_core.specs.Events.{post}
 use Rattle.bw_core.proofs.Lists.{total-append}
 use Rattle.bw_board.specs.Public.{BoardView, ClosedView, SeatView, HasEach, IsClosed, posted_over}
+use Rattle.bw_model.specs.declared.operations.Op.{Op}
 use Rattle.bw_delta.specs.Writes.{WriteView}
 use Rattle.bw_tree.specs.Levels.{IsHome}
 use Rattle.bw_tree.specs.Stages.{IsPosted, IsPostedStage, IsPostedTo, IsStagedAs}
 use Rattle.bw_tree.specs.View.{TreeView, StageView, staged_writes}
 use Rattle.bw_tree.specs.declared.staging.Staged.{Staged}
-use Rattle.bw_post.specs.Posting.{ArePostedHome, IsOneHome, IsOver, IsWaiting}
+use Rattle.bw_tree.specs.Levels.{IsOneHome}
+use Rattle.bw_post.specs.Posting.{ArePostedHome, IsHomeOf, IsOver, IsWaiting}
 
 no_write : {w : WriteView} → None ≡ Some w → ⊥
 no_write e = cc
 
-one_write : {v w : WriteView} → Some v ≡ Some w → v ≡ w
-one_write e = cc
-
 -- nothing posted yet
 pub none_home : (tree : TreeView) (v : SeatView) → v.book.posted ≡ [] → ArePostedHome tree v
-none_home tree v none p r w some at = absurd (omega (arith, some, ap (posts_at p r) none))
+none_home tree v none p r some = absurd (omega (arith, some, ap (posts_at p r) none))
 
 -- the posts of the same seat, or of one that posted the same
 pub same_home : (tree : TreeView) (v w : SeatView) → w.book.posted ≡ v.book.posted → ArePostedHome tree v → ArePostedHome tree w
-same_home tree v w same h p r x some at = h p r x (omega (arith, some, ap (posts_at p r) same)) at
+same_home tree v w same h p r some = h p r (omega (arith, some, ap (posts_at p r) same))
 
--- one more post, to the home of its key
-pub home_more : (tree : TreeView) (v w : SeatView) (r page lost : ℕ) (s : List ℕ) (x : ℕ) (key : KeyBytes) → w ≡ posted_over v r page lost s x → option_map (λ (u : WriteView). u.key) (slice_get (staged_writes tree.staged) r) ≡ Some key →
-    IsHome tree.slots tree.levels key page → ((q : ℕ) → IsHome tree.slots tree.levels key q → q ≡ page) → ArePostedHome tree v → ArePostedHome tree w
-home_more tree v w r page lost s x key posted has home only h p q u some at = elim (cases_eq q r) [
-  | inr other ↦ h p q u (omega (arith, before, less (eqb page p) (eqb r q) (other_test q r other), some)) at
+-- one more post, to the home of its record
+pub home_more : (tree : TreeView) (v w : SeatView) (r page lost : ℕ) (s : List ℕ) (x : ℕ) → w ≡ posted_over v r page lost s x → IsHomeOf tree r page → ArePostedHome tree v → ArePostedHome tree w
+home_more tree v w r page lost s x posted home h p q some = elim (cases_eq q r) [
+  | inr other ↦ h p q (omega (arith, before, less (eqb page p) (eqb r q) (other_test q r other), some))
   | inl same ↦ elim (cases_eq p page) [
-    | inl here ↦ subst (λ (z : ℕ). IsOneHome tree u z) (sym here) (at_home (one_key (sym (ap (option_map (λ (u : WriteView). u.key)) (sym (ap (slice_get (staged_writes tree.staged)) same) ∙ at)) ∙ has)))
-    | inr away ↦ h p q u (omega (arith, before, elsewhere (eqb page p) (eqb r q) (other_test p page away), some)) at
+    | inl here ↦ subst (λ (z : ℕ). IsHomeOf tree z p) (sym same) (subst (IsHomeOf tree r) (sym here) home)
+    | inr away ↦ h p q (omega (arith, before, elsewhere (eqb page p) (eqb r q) (other_test p page away), some))
   ]
 ]
   where
@@ -54,12 +50,6 @@ home_more tree v w r page lost s x key posted has home only h p q u some at = el
 
     elsewhere : (a b : Bool) → a ≡ false → one_if (a && b) ≡ 0
     elsewhere a b e = ap (λ c. one_if (c && b)) e
-
-    one_key : {j k : KeyBytes} → Some j ≡ Some k → j ≡ k
-    one_key e = cc
-
-    at_home : u.key ≡ key → IsOneHome tree u page
-    at_home e = (subst (λ (k : KeyBytes). IsHome tree.slots tree.levels k page) (sym e) home, λ z there. only z (subst (λ (k : KeyBytes). IsHome tree.slots tree.levels k z) e there))
 
 -- a record that was posted was posted to some page
 posted_somewhere : (r : ℕ) (ps : List Post) → 0 < posts_in r ps → (p : ℕ) × (0 < posts_at p r ps)
@@ -119,17 +109,17 @@ posted_at tree stage v hs ls sw over staged floor homes each closed =
           once = t.7;
           here = λ r w at home.
               let somewhere = posted_somewhere r v.book.posted (omega (arith, closed.4 r (within r w at))) in
-              let one = homes somewhere.0 r w somewhere.1 (in_stage r w at) in
+              let one : IsOneHome tree.slots tree.levels w.key somewhere.0 = homes somewhere.0 r somewhere.1 w (in_stage r w at) in
               let same : p ≡ somewhere.0 = one.1 p home in
               omega (arith, t.6 r, subst (λ q. 0 < posts_at q r v.book.posted) (sym same) somewhere.1);
-          only = λ r w at some. (homes p r w (omega (arith, some, t.6 r)) (in_stage r w at)).0;
+          only = λ r w at some. (homes p r (omega (arith, some, t.6 r)) w (in_stage r w at)).0;
         }
 
 -- so a closed board is what the tree adopts
-pub posted_stage : (tree : TreeView) (v : SeatView) (hs ls sw : List ℕ) (batch : Staged) → IsWaiting tree.staged → IsStagedAs tree batch → v.board.floor ≡ batch.floor → IsOver tree v.board → ArePostedHome tree v → HasEach v → IsClosed v hs ls sw → IsPostedStage tree tree.staged hs ls
-posted_stage tree v hs ls sw batch waiting told floor over homes each closed =
+pub posted_stage : (tree : TreeView) (v : SeatView) (hs ls sw : List ℕ) (batch : Staged) (ops : List Op) → IsWaiting tree tree.staged ops → IsStagedAs tree batch → v.board.floor ≡ batch.floor → IsOver tree v.board → ArePostedHome tree v → HasEach v → IsClosed v hs ls sw → IsPostedStage tree tree.staged hs ls
+posted_stage tree v hs ls sw batch ops waiting told floor over homes each closed =
     subst (λ (o : Option StageView). IsPostedStage tree o hs ls) (sym told.is)
-    (subst IsWaiting told.is waiting, posted_at tree told.stage v hs ls sw over told.is (floor ∙ told.floor) homes each closed)
+    ((subst (λ (o : Option StageView). IsWaiting tree o ops) told.is waiting).0, posted_at tree told.stage v hs ls sw over told.is (floor ∙ told.floor) homes each closed)
 
 pub spareless : (n p : ℕ) → ◌≡◌ {A = Option ℕ} (slice_index_or (replicate n None) p None) None
 spareless zero p = refl
@@ -142,14 +132,9 @@ is_over tree board seated batch heads spares pages told same first heads_are rec
     subst (IsOver tree) (sym same) (record {
       first = first ∙ heads_are;
       records = records ∙ told.records ∙ ap (λ (o : Option StageView). length (staged_writes o)) (sym told.is);
+      few = omega (arith, records, told.fits, told.floor);
       spareless = λ p. ap (λ (l : List (Option ℕ)). slice_index_or l p None) (spares_are ∙ none) ∙ spareless pages p;
     })
-
--- where a board is closed, it is what the tree adopts
-pub closed_stage : {E : Type 0} (r : Result ClosedView E) (tree : TreeView) (v : SeatView) (batch : Staged) → IsWaiting tree.staged → IsStagedAs tree batch → v.board.floor ≡ batch.floor → IsOver tree v.board → ArePostedHome tree v → OnOk r (HasEach v) → IfOk r (λ c. IsClosed v c.heads c.links c.swapped) →
-    IfOk r (λ c. IsPostedStage tree tree.staged c.heads c.links)
-closed_stage (Ok c) tree v batch waiting told floor over homes each closed = posted_stage tree v c.heads c.links c.swapped batch waiting told floor over homes each closed
-closed_stage (Err e) tree v batch waiting told floor over homes each closed = tt
 
 -- the batch that a call told of
 pub told_batch : (o : Option Staged) (tree : TreeView) (batch : Staged) → MatchOption o (tree.staged ≡ None) (IsStagedAs tree) → o ≡ Some batch → IsStagedAs tree batch

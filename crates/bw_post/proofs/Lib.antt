@@ -1,2 +1,5 @@
 pub mod Held
 pub mod Homes
+pub mod Staged
+pub mod Lost
+pub mod Joined

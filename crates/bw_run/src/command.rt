@@ -18,6 +18,7 @@ use clap::error::{Error, ErrorKind};
 use std::alloc::Global;
 use std::fs;
 use std::rt::Files;
+use std::thread::Threads;
 
 /// Does what the words of a command line ask for, the name of the program left out: `run` and `dump` with their
 /// options and the path of a trace, `--help` and `--version`. The path `-`, and none, is `input`. Texts go to `output`,
@@ -28,7 +29,7 @@ use std::rt::Files;
 /// 2 for other words and for an option out of its range, 3 at a faulty line, and 4 where the trace was read to its end
 /// and a batch was refused. Options are tested before a file is opened. A message that can't be written leaves the
 /// status as it is.
-pub fn run_words<'a, F: Files + AllocGlobal, R: Inlet, W: Outlet, E: Outlet>(
+pub fn run_words<'a, F: Files + AllocGlobal + Threads + Sync, R: Inlet, W: Outlet, E: Outlet>(
     rt: &F,
     alloc: Alloc,
     words: &'a [&'a str],
@@ -48,7 +49,7 @@ pub fn run_words<'a, F: Files + AllocGlobal, R: Inlet, W: Outlet, E: Outlet>(
 }
 
 // Does a job.
-fn run_request<F: Files, R: Inlet, W: Outlet, E: Outlet>(
+fn run_request<F: Files + Threads + Sync, R: Inlet, W: Outlet, E: Outlet>(
     rt: &F,
     alloc: Alloc,
     request: &Request<'_>,
@@ -73,12 +74,12 @@ fn run_request<F: Files, R: Inlet, W: Outlet, E: Outlet>(
         }
     };
     let Some(path) = request.file else {
-        return run_input(alloc, input, output, errors, options, request.job, turns);
+        return run_input(rt, alloc, input, output, errors, options, request.job, turns);
     };
     match fs::open(rt, path) {
         Ok(file) => {
             let input = FromRead::new(file);
-            run_input(alloc, input, output, errors, options, request.job, turns)
+            run_input(rt, alloc, input, output, errors, options, request.job, turns)
         }
         Err(_) => {
             report(alloc, errors, TraceFault::Read);
@@ -88,7 +89,8 @@ fn run_request<F: Files, R: Inlet, W: Outlet, E: Outlet>(
 }
 
 // Does a job on a trace that is read from an input, and reports its fault.
-fn run_input<R: Inlet, W: Outlet, E: Outlet>(
+fn run_input<F: Threads + Sync, R: Inlet, W: Outlet, E: Outlet>(
+    rt: &F,
     alloc: Alloc,
     input: R,
     output: &mut W,
@@ -99,14 +101,15 @@ fn run_input<R: Inlet, W: Outlet, E: Outlet>(
 ) -> u8
     ensures { Tells result options job (R.remaining input) (W.contents output.old) (W.contents output.new) (W.failures output.old) (W.failures output.new) }
 {
-    let outcome = run(alloc, input, output, options, job, turns);
+    let outcome = run(rt, alloc, input, output, options, job, turns);
     if let Err(fault) = outcome {
         report(alloc, errors, fault);
     }
     status(&outcome)
 }
 
-fn run<R: Inlet, W: Outlet>(
+fn run<F: Threads + Sync, R: Inlet, W: Outlet>(
+    rt: &F,
     alloc: Alloc,
     input: R,
     output: &mut W,
@@ -122,7 +125,7 @@ fn run<R: Inlet, W: Outlet>(
     ensures write { IsErrOf result TraceFault.Write → HasRisenBy 1 (W.failures output.old) (W.failures output.new) }
 {
     let mut source = Source::new(alloc, input, turns)?;
-    run_trace(alloc, &mut source, output, options, job)
+    run_trace(rt, alloc, &mut source, output, options, job)
 }
 
 // Shows a text of clap's: help and the version as an output, and what is wrong with the words as a message.

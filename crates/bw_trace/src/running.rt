@@ -20,6 +20,7 @@ use crate::sources::{Source, read_batch};
 use crate::summaries::Summary;
 use bw_batch::{Done, Index, Op, OpenGate, Options, Refusal};
 use bw_memory::Alloc;
+use std::thread::Threads;
 
 /// What is done with a trace.
 #[derive(Clone, Copy, Debug, PartialEq, Eq)]
@@ -30,12 +31,13 @@ pub enum Job {
     Dump,
 }
 
-/// Runs a trace on an empty index, batch by batch. A batch's text is written before the next line is judged, and what
+/// Runs a trace on an empty index, batch by batch, with threads that `rt` starts. A batch's text is written before the next line is judged, and what
 /// the job prints at the end is written once the reader has told its end.
 ///
 /// Its faults are those of `read_batch`, `Write`, and `Memory` where the index or a text finds none. A refused batch is
 /// no fault: the summary counts it.
-pub fn run_trace<R: Inlet, W: Outlet>(
+pub fn run_trace<T: Threads + Sync, R: Inlet, W: Outlet>(
+    rt: &T,
     alloc: Alloc,
     source: &mut Source<R>,
     out: &mut W,
@@ -70,7 +72,7 @@ pub fn run_trace<R: Inlet, W: Outlet>(
     source.know_budget();
     let mut summary = Summary::default();
     while let Some(ops) = read_batch(source)? {
-        let refusal = answer(alloc, &mut index, out, &ops, job)?;
+        let refusal = answer(rt, alloc, &mut index, out, &ops, job)?;
         summary.count(refusal);
     }
     print_end(alloc, &index, out, job)?;
@@ -78,7 +80,8 @@ pub fn run_trace<R: Inlet, W: Outlet>(
 }
 
 // Runs a batch, prints what the job prints of it, and answers why it was refused, if it was.
-fn answer<W: Outlet>(
+fn answer<T: Threads + Sync, W: Outlet>(
+    rt: &T,
     alloc: Alloc,
     index: &mut Index,
     out: &mut W,
@@ -95,7 +98,7 @@ fn answer<W: Outlet>(
     ensures write { IsErrOf result TraceFault.Write → HasRisenBy 1 (W.failures out.old) (W.failures out.new) }
     ensures faults { IfErr result (λ fault. IsOfWriting fault) }
 {
-    let outcome = index.run(ops, &OpenGate);
+    let outcome = index.run(rt, ops, &OpenGate);
     print_outcome(alloc, out, &outcome, job)?;
     Ok(outcome.err())
 }

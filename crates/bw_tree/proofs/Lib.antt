@@ -28,3 +28,4 @@ pub mod RowWritesLemmas
 pub mod AdoptLemmas
 pub mod AdoptedLemmas
 pub mod StagedLemmas
+pub mod FoldLemmas

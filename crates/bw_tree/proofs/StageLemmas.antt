@@ -1,8 +1,10 @@
 -- Staging a batch.
-use Rattle.std.proofs.Common.{◌≡◌, ℕ, ◌+◌, ◌<◌, ◌≤◌, ◌^◌, false, List, [], ◌∷◌, ◌++◌, length, map, take, drop, get_or, Option, Some, None, refl, sym, ap, ◌∙◌, subst, arith, length-append}
+use Rattle.std.proofs.Common.{◌≡◌, ℕ, ◌+◌, ◌<◌, ◌≤◌, ◌^◌, Bool, cond, false, List, [], ◌∷◌, ◌++◌, length, map, take, drop, get_or, Option, Some, None, is_some, refl, sym, ap, ◌∙◌, subst, arith, length-append}
 use Rattle.std.specs.FinMap.{from_entries}
 use Rattle.std.proofs.lemmas.List.{map-append, length-map}
+use Rattle.bw_key.specs.Order.{KeyBytes}
 use Rattle.bw_model.specs.Model.{contents_after}
+use Rattle.bw_model.specs.declared.operations.Action.{Action}
 use Rattle.bw_model.specs.declared.operations.Op.{Op}
 use Rattle.bw_delta.specs.Writes.{WriteView}
 use Rattle.bw_delta.specs.Batches.{write_of, stamped, writes_of}
@@ -30,6 +32,17 @@ appended_more before old new n ops i op lt is so more =
     ∙ parted before (unlinked (writes_of n (take i ops))) (unlinked (stamped (n + i) (write_of op)))
     ∙ ap (λ l. before ++ l) (sym (map-append (λ (w : WriteView). (Put w, 0)) (writes_of n (take i ops)) (stamped (n + i) (write_of op))))
     ∙ ap (λ l. before ++ unlinked l) (sym (writes_further n ops i op lt is))
+
+-- the number of writes with those of an operation more
+pub counted_more : (ops : List Op) (i : ℕ) (op : Op) (writes : Bool) (old new : ℕ) → i < length ops → op ≡ get_or ops i op → writes ≡ is_some (write_of op) → new ≡ old + cond writes 1 0 → old ≡ length (writes_of 0 (take i ops)) → new ≡ length (writes_of 0 (take (i + 1) ops))
+counted_more ops i op writes old new lt is result more so =
+    let whole : length (writes_of 0 (take (i + 1) ops)) ≡ length (writes_of 0 (take i ops)) + length (stamped (0 + i) (write_of op)) =
+    ap length (writes_further 0 ops i op lt is) ∙ length-append (writes_of 0 (take i ops)) (stamped (0 + i) (write_of op)) in
+    omega (arith, whole, so, more ∙ ap (λ b. old + cond b 1 0) result, one (write_of op))
+  where
+    one : (write : Option (KeyBytes × Action)) → length (stamped (0 + i) write) ≡ cond (is_some write) 1 0
+    one None = refl
+    one (Some write) = refl
 
 -- records without links yet
 unlinked_put : (ws : List WriteView) → unlinked ws ≡ put_records ws (map (λ w. 0) ws)

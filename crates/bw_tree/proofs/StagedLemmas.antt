@@ -1,10 +1,8 @@
 -- What is known of a staged batch.
 use Rattle.std.proofs.Common.{◌≡◌, ℕ, zero, suc, ◌+◌, ◌-◌, ◌<◌, ◌≤◌, ◌^◌, true, false, cond, List, [], ◌∷◌, ◌++◌, length, take, drop, Option, Some, None, nat_lt, is_some, refl, sym, ap, ◌∙◌, subst, arith, inl, inr}
 use Rattle.std.specs.Prelude.{slice_get, slice_index}
-use Rattle.std.specs.Option.{option_map}
 use Rattle.std.proofs.lemmas.Bool.{cases_lt}
 use Rattle.std.proofs.lemmas.Bool.Decides.{nat_tests}
-use Rattle.bw_key.specs.Order.{KeyBytes}
 use Rattle.bw_delta.specs.Writes.{WriteView}
 use Rattle.bw_delta.specs.declared.deltas.Delta.{Delta}
 use Rattle.bw_delta.specs.declared.deltas.Delta.TheVariants.{Put}
@@ -123,7 +121,3 @@ staged_record heads bases records root next staged tree s place t is some lt =
     let same : view_of heads bases records root next (Some s) ≡ tree = ap (view_of heads bases records root next) some ∙ is in
     let r = staged_there heads bases records root next s t'.stage place (subst (λ (v : TreeView). place < length (staged_writes v.staged)) (sym same) lt) in
     subst (λ (v : TreeView). StagedRecord records v (s.records + place) place) same (record { write = r.0; link = r.1; record_is = r.2; write_is = r.3; within = r.4; few = t'.now.few_records })
-
--- so its key is the one that the record has
-pub key_of_record : (records : Records) (tree : TreeView) (at place : ℕ) (key : KeyBytes) → StagedRecord records tree at place → ((w : WriteView) (link : ℕ) → slice_get records at ≡ Some (Put w, link) → key ≡ w.key) → option_map (λ (w : WriteView). w.key) (slice_get (staged_writes tree.staged) place) ≡ Some key
-key_of_record records tree at place key r key_is = ap (option_map (λ (w : WriteView). w.key)) r.write_is ∙ ap Some (sym (key_is r.write r.link r.record_is))

@@ -76,3 +76,7 @@ pub record IsHomeAt (slots : List Slot) (levels : List (List ℕ)) (key : KeyByt
 -- the page of the leaf level whose range has the key
 abbrev pub IsHome : List Slot → List (List ℕ) → KeyBytes → ℕ → Type 0
 IsHome slots levels key p = IsHomeAt slots levels key 0 p
+
+-- the one page of the leaf level whose range has the key
+abbrev pub IsOneHome : List Slot → List (List ℕ) → KeyBytes → ℕ → Type 0
+IsOneHome slots levels key p = IsHome slots levels key p × ((q : ℕ) → IsHome slots levels key q → q ≡ p)

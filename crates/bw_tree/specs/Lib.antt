@@ -10,3 +10,4 @@ pub mod Stages
 pub mod Scans
 pub mod Before
 pub mod Making
+pub mod Folding

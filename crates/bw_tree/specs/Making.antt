@@ -54,19 +54,19 @@ root_slots [] = []
 root_slots (leaf ∷ []) = []
 root_slots (leaf ∷ next ∷ leaves) = Live (record { low = []; high = None; side = None; body = Children 1 (terms_from 0 (leaf ∷ next ∷ leaves)) }) ∷ []
 
--- the tree whose pages are base pages, each named by its place
-abbrev pub tree_over : Bases → TreeView
-tree_over bases =
+-- the tree whose pages are base pages, each named by its place, with this next stamp
+abbrev pub tree_over : Bases → ℕ → TreeView
+tree_over bases stamp =
     let slots = slots_of (count_from 0 (length bases)) bases [] in
-    record { slots = slots; root = length bases - 1; levels = levels_under slots (length bases - 1); heads = count_from 0 (length bases); records = 0; next = 0; staged = None }
+    record { slots = slots; root = length bases - 1; levels = levels_under slots (length bases - 1); heads = count_from 0 (length bases); records = 0; next = stamp; staged = None }
 
--- The tree over leaves, each of which is the page of its place.
-pub record IsOverLeaves (tree : TreeView) (given : List (LeafView ValueBytes)) : Type 0 where
+-- The tree over leaves, each of which is the page of its place, with this next stamp. It has no writes.
+pub record IsOverLeaves (tree : TreeView) (given : List (LeafView ValueBytes)) (stamp : ℕ) : Type 0 where
   pub slots : tree.slots ≡ map leaf_slot given ++ root_slots given
-  pub contents : contents_at tree 0 ≡ from_entries (pairs_in given)
+  pub contents : (as_of : ℕ) → contents_at tree as_of ≡ from_entries (pairs_in given)
   pub leaves : row tree.levels 0 ≡ count_from 0 (length given)
   pub root : tree.root + 1 ≡ pages_over given
   pub heads : tree.heads ≡ count_from 0 (pages_over given)
   pub records : tree.records ≡ 0
-  pub next : tree.next ≡ 0
+  pub next : tree.next ≡ stamp
   pub staged : tree.staged ≡ None

@@ -74,7 +74,8 @@ abbrev pub staged_writes : Option StageView → List WriteView
 staged_writes None = []
 staged_writes (Some stage) = stage.writes
 
--- the same with the staged writes among them
+-- The same with the staged writes among them, for a batch that is staged and not adopted: once it is adopted, the leaves
+-- have these writes too, and they would be listed twice.
 abbrev pub contents_with : TreeView → ℕ → Contents ValueBytes
 contents_with tree stamp =
     contents_as_of (from_entries (row_pairs tree.slots (row tree.levels 0))) (staged_writes tree.staged ++ row_writes tree.slots (row tree.levels 0)) stamp

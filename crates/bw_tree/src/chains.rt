@@ -87,13 +87,13 @@ impl Chains {
         self.arena.set_links(start, links);
     }
 
-    /// The key of the write that a record is.
-    pub(crate) fn key_at(&self, place: usize) -> &Key
+    /// The write that a record is.
+    pub(crate) fn write_at(&self, place: usize) -> &Write
         requires { IsWrite self.now.records place }
-        ensures { (w : WriteView) → (link : ℕ) → slice_get self.now.records place ≡ Some (Put w, link) → result.now ≡ w.key }
+        ensures { (w : WriteView) → (link : ℕ) → slice_get self.now.records place ≡ Some (Put w, link) → result.now ≡ w }
     {
         match self.arena.get(place) {
-            Some((delta, _)) => written_key(delta),
+            Some((delta, _)) => put_write(delta),
             None => unreachable!(),
         }
     }
@@ -244,8 +244,8 @@ impl Chains {
         self.base_leaf(head).low()
     }
 
-    // The base page under a leaf's chain.
-    fn base_leaf(&self, head: u64) -> &Leaf
+    /// The base page under a leaf's chain.
+    pub(crate) fn base_leaf(&self, head: u64) -> &Leaf
         requires ends { Ends self.now.bases self.now.records head }
         requires leaf { is_leaf (slot_of_word self.now.bases self.now.records head) ≡ true }
         ensures values { (key : KeyBytes) → EndsAbove (slot_of_word self.now.bases self.now.records head) key →
@@ -312,13 +312,13 @@ pub(crate) fn reaches(high: Option<&Key>, to: Option<&Key>) -> bool
     }
 }
 
-// The key of a write.
-fn written_key(delta: &Delta) -> &Key
+// A change that is a write.
+fn put_write(delta: &Delta) -> &Write
     requires { IsPut delta.now }
-    ensures { (w : WriteView) → delta.now ≡ Put w → result.now ≡ w.key }
+    ensures { (w : WriteView) → delta.now ≡ Put w → result.now ≡ w }
 {
     match delta {
-        Delta::Put(write) => &write.key,
+        Delta::Put(write) => write,
         _ => unreachable!(),
     }
 }

@@ -1,5 +1,5 @@
 // The records of a staged batch.
-ghost use Rattle.std.specs.Prelude.{◌≡◌, ℕ, ◌+◌, ◌^◌, ◌≤◌, ◌<◌, ◌∷◌, [], ◌++◌, length, take, replicate, IfOk, OnOk, OnErr};
+ghost use Rattle.std.specs.Prelude.{◌≡◌, ℕ, ◌+◌, ◌^◌, ◌≤◌, ◌<◌, ◌∷◌, [], ◌++◌, length, is_some, take, replicate, IfOk, OnOk, OnErr};
 ghost use Rattle.bw_delta.specs.Batches.{stamped, write_of, writes_of};
 ghost use Rattle.bw_tree.specs.Trees.{unlinked};
 
@@ -41,7 +41,8 @@ impl Model for Stage {
     ghost view = { λ s. record { records = s.records; ops = s.ops; before = option_map (λ v. v.items) s.before } };
 }
 
-/// Appends the writes of a batch, each with its stamp and with no link yet. After `Memory` the arena is as before.
+/// Appends the writes of a batch, each with its stamp and with no link yet. Room for their records is made at once. After
+/// `Memory` the records are as before.
 pub(crate) fn append_writes(arena: &mut Arena, ops: &[Op], base: u64) -> Result<(), Memory>
     requires fits { base + length ops.now ≤ 2 ^ 40 }
     requires few { length arena.old.records ≤ 2 ^ 32 }
@@ -49,6 +50,7 @@ pub(crate) fn append_writes(arena: &mut Arena, ops: &[Op], base: u64) -> Result<
     ensures err { OnErr result (arena.new.records ≡ arena.old.records) }
     ensures few { length arena.new.records ≤ 2 ^ 32 }
 {
+    arena.reserve(count_writes(ops))?;
     let before = arena.len();
     let appended = append_all(arena, ops, base);
     if appended.is_err() {
@@ -86,4 +88,31 @@ fn append_op(arena: &mut Arena, op: &Op, stamp: u64) -> Result<(), Memory>
         arena.append(Delta::Put(write), 0);
     }
     Ok(())
+}
+
+// How many of the operations write.
+fn count_writes(ops: &[Op]) -> usize
+    ensures { result ≡ length (writes_of 0 ops.now) }
+{
+    let mut count = 0;
+    for op in ops {
+        if is_write(op) {
+            count += 1;
+        }
+    }
+    count
+}
+
+// Whether an operation writes.
+fn is_write(op: &Op) -> bool
+    ensures { result ≡ is_some (write_of op.now) }
+{
+    match op {
+        Op::Get(_) | Op::Scan { .. } | Op::Rscan { .. } => false,
+        Op::Insert(_, _)
+        | Op::Upsert(_, _)
+        | Op::Update(_, _)
+        | Op::Delete(_)
+        | Op::SwapIf(_, _, _) => true,
+    }
 }

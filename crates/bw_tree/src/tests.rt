@@ -1,6 +1,9 @@
 // Worked examples of what the contracts say, and what no contract says: that calls succeed, and each growth of memory
 // refused in turn.
+mod chains;
+mod folding;
 mod making;
+mod pages;
 mod refused;
 mod scans;
 mod trees;

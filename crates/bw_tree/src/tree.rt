@@ -2,8 +2,8 @@
 ghost use Rattle.std.specs.Prelude.{◌≡◌, ℕ, ◌<◌, ◌≤◌, ◌+◌, ◌-◌, ◌^◌, [], ◌∷◌, ◌++◌, true, Some, None, T, length, min, reverse, slice_get, take, IfOk, OnOk, OnErr, MatchOption};
 ghost use Rattle.std.specs.List.{Contains};
 ghost use Rattle.std.specs.List.Sorted.{IsPermutation};
-ghost use Rattle.std.specs.Option.{option_copied, option_map};
-ghost use Rattle.std.specs.FinMap.{empty, get};
+ghost use Rattle.std.specs.Option.{option_copied};
+ghost use Rattle.std.specs.FinMap.{empty, find, get};
 ghost use Rattle.std.specs.FinMap.Entries.{where_key};
 ghost use Rattle.bw_key.specs.Order.{KeyBytes, key_cmp};
 ghost use Rattle.bw_model.specs.Contents.{first_of_range, is_below_end, last_of_range, pairs_of_range};
@@ -12,13 +12,15 @@ use crate::chains::{Chains, FLOOR, Turn, reaches};
 use crate::making::{base_pages, separators, words};
 use crate::staging::{Stage, Staged};
 use bw_board::Closed;
-use bw_delta::{Arena, value_as_of};
+use bw_delta::{Arena, Write, value_as_of};
 use bw_key::{Key, Memory};
 use bw_memory::Alloc;
 use bw_model::{Op, Pairs, Value};
 use bw_page::{Inner, Leaf, Page, PageId};
 use std::marker::Model;
 use std::mem;
+
+mod folding;
 
 /// Pages, named by identifiers, whose present states are chains of delta records over base pages.
 ///
@@ -49,7 +51,7 @@ impl Model for Tree {
 impl Tree {
     ghost use Rattle.bw_tree.specs.Slots.{slot_at, is_leaf, side_of_slot};
     ghost use Rattle.bw_tree.specs.Levels.{IsHome, row};
-    ghost use Rattle.bw_tree.specs.Reading.{writes_over};
+    ghost use Rattle.bw_tree.specs.Reading.{base_of, value_in, writes_over};
     ghost use Rattle.bw_tree.specs.Turns.{IsTurn, StartsUpto, bare};
     ghost use Rattle.bw_tree.specs.Trees.{IsTree};
     ghost use Rattle.bw_tree.specs.View.{contents_at, contents_with, staged_writes};
@@ -58,6 +60,7 @@ impl Tree {
     ghost use Rattle.bw_tree.specs.Stages.{IsPostedStage, IsStagedAs, accepted, adopted, is_adopted, staged_on, undone, writes_with};
     ghost use Rattle.bw_model.specs.Model.{contents_after};
     ghost use Rattle.bw_delta.specs.Batches.{writes_of};
+    ghost use Rattle.bw_delta.specs.History.{HasDistinctStamps, pointed_to};
     ghost use Rattle.bw_tree.specs.Making.{AreAbutting, IsOverLeaves, count_from, tree_over};
 
     /// The tree of one empty leaf, page 0, which is the root.
@@ -81,7 +84,16 @@ impl Tree {
     /// of them as its children. After `Memory` the leaves are gone.
     pub fn from_level(alloc: Alloc, leaves: Vec<Leaf, Alloc>) -> Result<Tree, Memory>
         requires { AreAbutting 0 [] leaves.items }
-        ensures { IfOk result (λ tree. IsOverLeaves tree leaves.entry.items) }
+        ensures { IfOk result (λ tree. IsOverLeaves tree leaves.entry.items 0) }
+    {
+        Tree::made_of(alloc, leaves, 0)
+    }
+
+    // The same with this next stamp.
+    fn made_of(alloc: Alloc, leaves: Vec<Leaf, Alloc>, next: u64) -> Result<Tree, Memory>
+        requires leaves { AreAbutting 0 [] leaves.items }
+        requires fits { next ≤ 2 ^ 40 }
+        ensures { IfOk result (λ tree. IsOverLeaves tree leaves.entry.items next) }
     {
         if leaves.len() as u64 >= FLOOR {
             return Err(Memory);
@@ -92,15 +104,15 @@ impl Tree {
             let low = Key::new(alloc, &[]).unwrap();
             let root = Inner::from_children(1, low, None, None, children);
             bases.push(Some(Page::Inner(root)))?;
-            return Tree::over(alloc, bases);
+            return Tree::over(alloc, bases, next);
         }
-        Tree::over(alloc, bases)
+        Tree::over(alloc, bases, next)
     }
 
     // The tree whose pages are base pages, each named by its place. The last one is the root.
-    fn over(alloc: Alloc, bases: Vec<Option<Page>, Alloc>) -> Result<Tree, Memory>
-        requires { IsTree (count_from 0 (length bases.items)) bases.items [] (length bases.items - 1) 0 None }
-        ensures { IfOk result (λ tree. tree ≡ tree_over bases.entry.items) }
+    fn over(alloc: Alloc, bases: Vec<Option<Page>, Alloc>, next: u64) -> Result<Tree, Memory>
+        requires { IsTree (count_from 0 (length bases.items)) bases.items [] (length bases.items - 1) next None }
+        ensures { IfOk result (λ tree. tree ≡ tree_over bases.entry.items next) }
     {
         let count = bases.len();
         Ok(Tree {
@@ -110,7 +122,7 @@ impl Tree {
                 arena: Arena::new(alloc),
             },
             root: PageId((count - 1) as u32),
-            next: 0,
+            next,
             staged: None,
         })
     }
@@ -143,11 +155,22 @@ impl Tree {
         &self.heads
     }
 
+    /// What every tree keeps: a key has one home, what the tree holds at a key is what its home holds there, and no two
+    /// writes over a leaf have one stamp. A caller's proof knows it behind this call, which does nothing.
+    pub fn know_homes(&self)
+        ensures one { (key : KeyBytes) (p q : ℕ) → IsHome self.now.slots self.now.levels key p → IsHome self.now.slots self.now.levels key q → q ≡ p }
+        ensures values { (key : KeyBytes) (p stamp : ℕ) → IsHome self.now.slots self.now.levels key p → get (contents_at self.now stamp) key ≡ value_in (slot_at self.now.slots p) key stamp }
+        ensures distinct { (p : ℕ) → Contains (row self.now.levels 0) p → HasDistinctStamps (writes_over (slot_at self.now.slots p)) }
+    {
+        // A look at a field is what makes the type's rule known here.
+        let _ = &self.root;
+    }
+
     /// The one leaf of the leaf level whose range has the key.
     ///
     /// A search goes down from the root by the greatest separator that isn't above the key, left from a removed page,
-    /// and right past the end of a page that was split (B-link trees): a binary search and a walk along a short chain
-    /// for each page. It takes no memory.
+    /// and right past the end of a page that was split (B-link trees): for each page a binary search and a walk along the
+    /// whole chain, which is as long as there are records over the page. It takes no memory.
     pub fn route(&self, key: &Key) -> PageId
         ensures home { IsHome self.now.slots self.now.levels key.now result }
         ensures only { (page : ℕ) → IsHome self.now.slots self.now.levels key.now page → page ≡ result }
@@ -187,6 +210,33 @@ impl Tree {
         let found = self.chains.writes_at(alloc, head, key)?;
         let start = self.chains.base_value_at(head, key);
         value_as_of(alloc, start, &found, stamp)
+    }
+
+    /// The writes over a leaf's base page, the newest first: a walk along its chain. `Memory` is answered where the list
+    /// finds none.
+    pub fn writes(&self, alloc: Alloc, page: PageId) -> Result<Vec<&Write, Alloc>, Memory>
+        requires { Contains (row self.now.levels 0) page }
+        ensures { IfOk result (λ writes. pointed_to writes.items ≡ writes_over (slot_at self.now.slots page)) }
+    {
+        self.chains.writes(alloc, self.heads[page.0 as usize])
+    }
+
+    /// The base page of a leaf, which begins where the leaf does and has the pairs under the writes: a walk along the
+    /// leaf's chain, and no more for each key that is then found on it.
+    pub fn base(&self, page: PageId) -> &Leaf
+        requires { Contains (row self.now.levels 0) page }
+        ensures values { (key : KeyBytes) → IsHome self.now.slots self.now.levels key page → find key_cmp key result.now.pairs ≡ base_of (slot_at self.now.slots page) key }
+        ensures low { result.now.low ≡ low_of (slot_at self.now.slots page) }
+    {
+        self.chains.base_leaf(self.heads[page.0 as usize])
+    }
+
+    /// Where a leaf's range ends: a walk along its chain.
+    pub fn end(&self, page: PageId) -> Option<&Key>
+        requires { Contains (row self.now.levels 0) page }
+        ensures { option_copied result ≡ high_of (slot_at self.now.slots page) }
+    {
+        self.chains.end(self.heads[page.0 as usize]).0
     }
 
     /// Stages a batch: each of its writes becomes a record, in the order of the batch, and the operation at place i has
@@ -232,13 +282,13 @@ impl Tree {
         })
     }
 
-    /// The key of a staged record, by its place among them. A worker routes it and posts the record there.
-    pub fn staged_key(&self, place: u64) -> &Key
+    /// The write of a staged record, by its place among them.
+    pub fn staged_write(&self, place: u64) -> &Write
         requires { place < length (staged_writes self.now.staged) }
-        ensures { option_map (λ w. w.key) (slice_get (staged_writes self.now.staged) place) ≡ Some result.now }
+        ensures { slice_get (staged_writes self.now.staged) place ≡ Some result.now }
     {
         match &self.staged {
-            Some(stage) => self.chains.key_at(stage.records + place as usize),
+            Some(stage) => self.chains.write_at(stage.records + place as usize),
             None => unreachable!(),
         }
     }

@@ -34,7 +34,7 @@ fn one_key_is_written_65536_times(rt: HostRuntime) {
     let make = Maker::new(&rt, rt.alloc());
     let mut index = make.index(65_536);
     let ops = upserts(&rt, &make, 65_536, true);
-    let done = index.run(&ops, &OpenGate).expect(&rt, "memory");
+    let done = index.run(&rt, &ops, &OpenGate).expect(&rt, "memory");
     let replies = done.replies.as_slice();
     assert_eq!(rt; replies.len(), 65_536);
     assert!(rt; replies.first() == Some(&Reply::New));
@@ -48,7 +48,7 @@ fn each_of_65536_keys_is_written(rt: HostRuntime) {
     let make = Maker::new(&rt, rt.alloc());
     let mut index = make.index(65_536);
     let ops = upserts(&rt, &make, 65_536, false);
-    let done = index.run(&ops, &OpenGate).expect(&rt, "memory");
+    let done = index.run(&rt, &ops, &OpenGate).expect(&rt, "memory");
     assert_eq!(rt; done.replies.as_slice().len(), 65_536);
     assert!(rt;
         done.replies

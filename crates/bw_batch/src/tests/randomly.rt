@@ -6,6 +6,7 @@ use crate::{Op, OpenGate, Refusal};
 use bw_memory::Alloc;
 use bw_model::ReferenceMap;
 use std::process::Abort;
+use std::thread::Threads;
 
 const KEYS: [&str; 6] = ["", "a", "a\0", LONG, "ab", "b"];
 
@@ -13,12 +14,12 @@ const VALUES: [&str; 4] = ["", "0", "18446744073709551615", LONG];
 
 // Pseudo-random numbers by a linear congruence, whose high bits are taken.
 #[derive(Drop)]
-struct Random {
-    state: u64,
+pub struct Random {
+    pub state: u64,
 }
 
 impl Random {
-    fn below(&mut self, limit: usize) -> usize
+    pub fn below(&mut self, limit: usize) -> usize
         requires { 0 < limit }
         ensures { result < limit }
     {
@@ -69,13 +70,13 @@ fn batch<R: Abort>(rt: &R, make: &Maker<R>, random: &mut Random) -> Vec<Op, Allo
 }
 
 // Runs batches that are drawn from a seed, some 1,800 writes on a few keys: the chain is folded among them.
-fn compare<R: Abort>(rt: &R, make: &Maker<R>, seed: u64) {
+fn compare<R: Abort + Threads + Sync>(rt: &R, make: &Maker<R>, seed: u64) {
     let mut random = Random { state: seed };
     let mut index = make.index(48);
     let mut map = ReferenceMap::new(make.alloc);
     for number in 0..150u64 {
         let ops = batch(rt, make, &mut random);
-        match index.run(&ops, &OpenGate) {
+        match index.run(rt, &ops, &OpenGate) {
             Ok(done) => {
                 assert!(rt; ops.len() <= 48);
                 let expected = map.run(&ops).expect(rt, "memory");

@@ -31,19 +31,19 @@ fn a_batch_that_is_too_long_changes_nothing(rt: HostRuntime) {
         make.upsert("b", "2"),
         make.upsert("c", "3"),
     ];
-    let done = index.run(&ops, &OpenGate).expect(&rt, "three operations");
+    let done = index.run(&rt, &ops, &OpenGate).expect(&rt, "three operations");
     same(
         &rt,
         done.replies.as_slice(),
         &[Reply::New, Reply::New, Reply::New],
     );
 
-    let refusal = index.run(&four(&make), &OpenGate).err();
+    let refusal = index.run(&rt, &four(&make), &OpenGate).err();
     assert_eq!(rt; refusal, Some(Refusal::TooLong { ops: 4, most: 3 }));
     assert_eq!(rt; index.contents().expect(&rt, "memory"), after);
 
     let ops = [make.get("a"), make.get("b"), make.get("c")];
-    let done = index.run(&ops, &OpenGate).expect(&rt, "three operations");
+    let done = index.run(&rt, &ops, &OpenGate).expect(&rt, "three operations");
     let replies = [make.found("1"), make.found("2"), make.found("3")];
     same(&rt, done.replies.as_slice(), &replies);
     assert_eq!(rt; index.contents().expect(&rt, "memory"), after);
@@ -62,7 +62,7 @@ fn batches_go_on_after_one_that_is_too_long(rt: HostRuntime) {
         batches.push(ops).expect(&rt, "memory");
     }
     let mut index = make.index(1);
-    let outcomes = index.run_all(&batches, &OpenGate).expect(&rt, "memory");
+    let outcomes = index.run_all(&rt, &batches, &OpenGate).expect(&rt, "memory");
     assert_eq!(rt; outcomes.len(), 3);
     compare_done(&rt, &outcomes[0], &[Reply::New]);
     let expected = Refusal::TooLong { ops: 2, most: 1 };
@@ -78,13 +78,13 @@ fn a_length_is_judged_before_memory_is_asked_for(rt: HostRuntime) {
     let mut index = make.index(1);
     let ops = [make.upsert("a", "1"), make.get("a")];
     make.alloc.refuse(1);
-    let refusal = index.run(&ops, &OpenGate).err();
+    let refusal = index.run(&rt, &ops, &OpenGate).err();
     assert_eq!(rt; refusal, Some(Refusal::TooLong { ops: 2, most: 1 }));
     assert_eq!(rt; make.alloc.left(), 1);
     make.alloc.refuse(0);
 
     let done = index
-        .run(&ops[..1], &OpenGate)
+        .run(&rt, &ops[..1], &OpenGate)
         .expect(&rt, "a batch of the greatest length");
     same(&rt, done.replies.as_slice(), &[Reply::New]);
 }
@@ -98,11 +98,11 @@ fn a_batch_has_at_most_65536_operations(rt: HostRuntime) {
         ops.push(make.get("a")).expect(&rt, "memory");
     }
     let done = index
-        .run(&ops, &OpenGate)
+        .run(&rt, &ops, &OpenGate)
         .expect(&rt, "a batch of the greatest length");
     assert_eq!(rt; done.replies.as_slice().len(), 65536);
     ops.push(make.get("a")).expect(&rt, "memory");
-    let refusal = index.run(&ops, &OpenGate).err();
+    let refusal = index.run(&rt, &ops, &OpenGate).err();
     let expected = Refusal::TooLong {
         ops: 65537,
         most: 65536,

@@ -4,16 +4,17 @@ use crate::{Done, Index, Memory, Op, OpenGate, Pairs, Refusal, Reply};
 use bw_memory::Alloc;
 use bw_model::ReferenceMap;
 use std::process::Abort;
+use std::thread::Threads;
 
 // The pairs that each piece of work starts from.
 const BEFORE: &[Pair] = &[("a", "1"), (LONG, LONG)];
 
 // An index that holds these pairs.
-fn filled<R: Abort>(rt: &R, make: &Maker<R>) -> Index {
+fn filled<R: Abort + Threads + Sync>(rt: &R, make: &Maker<R>) -> Index {
     let mut index = make.index(65536);
     for (key, value) in BEFORE {
         let ops = [make.upsert(key, value)];
-        index.run(&ops, &OpenGate).expect(rt, "memory");
+        index.run(rt, &ops, &OpenGate).expect(rt, "memory");
     }
     index
 }
@@ -97,7 +98,7 @@ fn a_batch_meets_each_refusal(rt: HostRuntime) {
     for growth in 1..1000 {
         let mut index = filled(&rt, &make);
         make.alloc.refuse(growth);
-        let outcome = index.run(&ops, &OpenGate);
+        let outcome = index.run(&rt, &ops, &OpenGate);
         let was_refused = was_refused(make.alloc, growth);
         if let Ok(done) = outcome {
             assert!(rt; !was_refused && growth > 5);
@@ -107,7 +108,7 @@ fn a_batch_meets_each_refusal(rt: HostRuntime) {
         assert_eq!(rt; outcome.err(), Some(Refusal::Memory));
         assert!(rt; was_refused);
         assert_eq!(rt; index.contents().expect(&rt, "memory"), make.pairs(BEFORE));
-        let done = index.run(&ops, &OpenGate).expect(&rt, "ample memory");
+        let done = index.run(&rt, &ops, &OpenGate).expect(&rt, "ample memory");
         same(&rt, done.replies.as_slice(), &replies);
     }
     panic!(rt; "no batch met no refusal");
@@ -151,7 +152,7 @@ fn batches_meet_each_refusal(rt: HostRuntime) {
     for growth in 1..1000 {
         let mut index = filled(&rt, &make);
         make.alloc.refuse(growth);
-        let outcomes = index.run_all(&batches, &OpenGate);
+        let outcomes = index.run_all(&rt, &batches, &OpenGate);
         let was_refused = was_refused(make.alloc, growth);
         let after = index.contents().expect(&rt, "memory");
         let refused = match outcomes {

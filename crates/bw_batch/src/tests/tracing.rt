@@ -3,6 +3,7 @@ use super::making::{Maker, Pair, same};
 use crate::{Done, Op, OpenGate, Refusal, Reply, Tidy};
 use bw_memory::Alloc;
 use std::process::Abort;
+use std::thread::Threads;
 
 /// Operations and their replies, batch by batch.
 #[derive(Drop)]
@@ -53,17 +54,17 @@ pub fn compare_done<R: Abort>(rt: &R, outcome: &Result<Done, Refusal>, expected:
 
 /// Runs the batches one by one on an empty index, and all at once on another. Compares the replies, and the pairs
 /// in the end.
-pub fn compare<R: Abort>(rt: &R, make: &Maker<R>, trace: &Trace, after: &[Pair]) {
+pub fn compare<R: Abort + Threads + Sync>(rt: &R, make: &Maker<R>, trace: &Trace, after: &[Pair]) {
     let mut index = make.index(65536);
     for (ops, expected) in trace.batches.iter().zip(&trace.expected) {
-        let outcome = index.run(ops, &OpenGate);
+        let outcome = index.run(rt, ops, &OpenGate);
         compare_done(rt, &outcome, expected);
     }
     assert_eq!(rt; index.contents().expect(rt, "memory"), make.pairs(after));
 
     let mut index = make.index(65536);
     let outcomes = index
-        .run_all(&trace.batches, &OpenGate)
+        .run_all(rt, &trace.batches, &OpenGate)
         .expect(rt, "memory");
     assert_eq!(rt; outcomes.len(), trace.batches.len());
     for (outcome, expected) in outcomes.iter().zip(&trace.expected) {

@@ -1,14 +1,17 @@
 // Keys, values, leaves and trees from bytes.
-ghost use Rattle.std.specs.Prelude.{◌≡◌, [], ◌∷◌, None, Some};
+ghost use Rattle.std.specs.Prelude.{◌≡◌, ◌<◌, ◌≤◌, ◌+◌, ◌^◌, [], ◌∷◌, None, Some, length};
 ghost use Rattle.bw_tree.specs.Making.{AreAbutting};
+ghost use Rattle.bw_tree.specs.Stages.{IsPostedStage, staged_on};
 
-use crate::Tree;
+use crate::{Closed, OpenGate, Tree, post_all};
+use bw_answer::Grouping;
 use bw_key::Key;
 use bw_memory::{Alloc, Heap};
 use bw_model::{Op, Pairs, Value};
 use bw_page::{Leaf, PageId};
 use std::alloc::Global;
 use std::process::Abort;
+use std::thread::Threads;
 
 /// A heap of its own, which is never freed.
 pub fn heap<R: Abort>(rt: &R, global: Global) -> Alloc {
@@ -101,12 +104,16 @@ pub fn upsert<R: Abort>(rt: &R, alloc: Alloc, bytes: &[u8], put: &[u8]) -> Op {
     Op::Upsert(key(rt, alloc, bytes), value(rt, alloc, put))
 }
 
-/// Two writes and a read: upsert c 9, delete e, get a.
+/// Two writes and a read: upsert c 9, delete e, scan of all keys.
 pub fn batch<R: Abort>(rt: &R, alloc: Alloc) -> [Op; 3] {
     [
         upsert(rt, alloc, b"c", b"9"),
         Op::Delete(key(rt, alloc, b"e")),
-        Op::Get(key(rt, alloc, b"a")),
+        Op::Scan {
+            from: key(rt, alloc, b""),
+            to: None,
+            most: 9,
+        },
     ]
 }
 
@@ -162,4 +169,18 @@ pub fn holds<R: Abort>(
     let from = key(rt, alloc, b"");
     let pairs = tree.scan_at(&from, None, 9, stamp).expect(rt, "memory");
     are(rt, &pairs, wanted);
+}
+
+/// Stages a batch and posts it by one worker.
+pub fn post<R: Abort + Threads + Sync>(rt: &R, alloc: Alloc, tree: &mut Tree, ops: &[Op], piece: u64) -> Closed
+    requires none { tree.old.staged ≡ None }
+    requires fits { tree.old.next + length ops.now ≤ 2 ^ 40 }
+    requires piece { (0 < piece) × (piece ≤ 4096) }
+    ensures staged { tree.new ≡ staged_on tree.old ops.now }
+    ensures posted { IsPostedStage tree.new tree.new.staged result.heads result.links }
+{
+    tree.stage(ops).expect(rt, "memory");
+    let grouping = Grouping::new(alloc, ops).expect(rt, "memory");
+    let posting = post_all(rt, alloc, tree, &grouping, piece, 1, &OpenGate);
+    posting.expect(rt, "memory").closed
 }

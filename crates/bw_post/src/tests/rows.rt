@@ -1,17 +1,23 @@
 // Worked batches.
-use super::making::{batch, has, heap, holds, stands, three, upsert};
-use crate::{Tree, post_all};
+ghost use Rattle.std.specs.Prelude.{◌≡◌, true};
+ghost use Rattle.bw_tree.specs.Stages.{is_adopted};
+
+use super::making::{batch, has, heap, holds, post, stands, three, upsert};
+use crate::{OpenGate, Tree, post_all};
+use bw_answer::Grouping;
 use bw_memory::Alloc;
 use std::process::Abort;
+use std::thread::Threads;
 
 // The word of the first record.
 const FLOOR: u64 = 4294967296;
 
 // The tree over three leaves with the batch staged, posted and adopted.
-fn adopted<R: Abort>(rt: &R, alloc: Alloc) -> Tree {
+fn adopted<R: Abort + Threads + Sync>(rt: &R, alloc: Alloc) -> Tree
+    ensures { is_adopted result.staged ≡ true }
+{
     let mut tree = three(rt, alloc);
-    tree.stage(&batch(rt, alloc)).expect(rt, "memory");
-    let closed = post_all(alloc, &tree, 64).expect(rt, "memory");
+    let closed = post(rt, alloc, &mut tree, &batch(rt, alloc), 1);
     assert_eq!(rt; closed.heads(), [0, FLOOR, FLOOR + 1, 3].as_slice());
     assert_eq!(rt; closed.links(), [1, 2].as_slice());
     tree.adopt(closed);
@@ -53,13 +59,22 @@ fn an_adopted_batch_is_undone(rt: HostRuntime) {
     let mut tree = adopted(&rt, alloc);
     tree.undo();
     stands(&rt, &tree, &[0, 1, 2, 3], 0, 0);
-    has(
+    holds(
         &rt,
         alloc,
         &tree,
-        2,
-        &[(b"c", Some(b"3")), (b"e", Some(b"5"))],
+        0,
+        &[(b"a", b"1"), (b"b", b"2"), (b"c", b"3"), (b"e", b"5")],
     );
+}
+
+#[test]
+fn an_adopted_batch_is_accepted(rt: HostRuntime) {
+    let alloc = heap(&rt, rt.alloc());
+    let mut tree = adopted(&rt, alloc);
+    tree.accept();
+    stands(&rt, &tree, &[0, FLOOR, FLOOR + 1, 3], 2, 3);
+    holds(&rt, alloc, &tree, 3, &[(b"a", b"1"), (b"b", b"2"), (b"c", b"9")]);
 }
 
 #[test]
@@ -70,8 +85,7 @@ fn writes_of_one_key_stand_in_one_chain(rt: HostRuntime) {
         upsert(&rt, alloc, b"a", b"1"),
         upsert(&rt, alloc, b"a", b"2"),
     ];
-    tree.stage(&ops).expect(&rt, "memory");
-    let closed = post_all(alloc, &tree, 1).expect(&rt, "memory");
+    let closed = post(&rt, alloc, &mut tree, &ops, 1);
     assert_eq!(rt; closed.heads(), [FLOOR + 1].as_slice());
     assert_eq!(rt; closed.links(), [0, FLOOR].as_slice());
     tree.adopt(closed);
@@ -80,25 +94,38 @@ fn writes_of_one_key_stand_in_one_chain(rt: HostRuntime) {
     has(&rt, alloc, &tree, 2, &[(b"a", Some(b"2"))]);
 }
 
-// Stages and posts a batch where this growth is refused while posting. Whether it was.
-fn posting_refused<R: Abort>(rt: &R, alloc: Alloc, growth: u64) -> bool {
+// Stages and posts a batch by so many workers where this growth is refused while posting. Whether it was.
+fn posting_refused<R: Abort + Threads + Sync>(
+    rt: &R,
+    alloc: Alloc,
+    workers: u64,
+    growth: u64,
+) -> bool {
     let mut tree = three(rt, alloc);
-    tree.stage(&batch(rt, alloc)).expect(rt, "memory");
+    let ops = batch(rt, alloc);
+    tree.stage(&ops).expect(rt, "memory");
+    let grouping = Grouping::new(alloc, &ops).expect(rt, "memory");
     alloc.refuse(growth);
-    let closed = post_all(alloc, &tree, 64);
+    let posting = post_all(rt, alloc, &tree, &grouping, 1, workers, &OpenGate);
     alloc.refuse(0);
     stands(rt, &tree, &[0, 1, 2, 3], 2, 0);
-    closed.is_err()
+    posting.is_err()
 }
 
-#[test]
-fn each_growth_of_posting_is_refused(rt: HostRuntime) {
-    let alloc = heap(&rt, rt.alloc());
+// Refuses each growth of a posting by so many workers in turn.
+fn each_growth_refused<R: Abort + Threads + Sync>(rt: &R, alloc: Alloc, workers: u64) {
     for growth in 1..100 {
-        if !posting_refused(&rt, alloc, growth) {
+        if !posting_refused(rt, alloc, workers, growth) {
             assert!(rt; growth > 4);
             return;
         }
     }
     panic!(rt; "no run met no refusal")
+}
+
+#[test]
+fn each_growth_of_posting_is_refused(rt: HostRuntime) {
+    let alloc = heap(&rt, rt.alloc());
+    each_growth_refused(&rt, alloc, 1);
+    each_growth_refused(&rt, alloc, 4);
 }

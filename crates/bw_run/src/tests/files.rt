@@ -3,11 +3,12 @@ use super::ports::{BOTH_TEXTS, Runner, TWO_BATCHES};
 use std::fs;
 use std::process::Abort;
 use std::rt::Files;
+use std::thread::Threads;
 
 // What stands in the input in place of the file's text.
 const NO_TRACE: &str = "bogus";
 
-impl<R: Abort + Files + AllocGlobal> Runner<'_, R> {
+impl<R: Abort + Files + AllocGlobal + Threads + Sync> Runner<'_, R> {
     // Makes a file of this text where the test runs, and runs the program with words that name it.
     fn expect_file(
         &self,

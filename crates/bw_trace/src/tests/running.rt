@@ -3,15 +3,23 @@ use super::ports::Maker;
 use crate::{Cause, Job, Source, Summary, TraceFault, run_trace, status};
 use bw_batch::Options;
 use std::process::Abort;
+use std::thread::Threads;
 
-impl<R: Abort> Maker<'_, R> {
+impl<R: Abort + Threads + Sync> Maker<'_, R> {
     // Runs a trace with batches of two operations at the most.
     fn expect_run(&self, text: &str, output: &str, expected: Result<Summary, TraceFault>) {
         let options = Options::new(4, 64, 8, 64, 16, 2, 1_048_576).expect(self.rt, "options");
         let input = self.pieces(text, 5);
         let mut source = Source::new(self.alloc, input, 1000).expect(self.rt, "memory");
         let mut out = self.sink();
-        let outcome = run_trace(self.alloc, &mut source, &mut out, options, Job::Run);
+        let outcome = run_trace(
+            self.rt,
+            self.alloc,
+            &mut source,
+            &mut out,
+            options,
+            Job::Run,
+        );
         assert_eq!(self.rt; outcome, expected);
         self.expect_text(&out, output);
     }
@@ -67,6 +75,7 @@ fn batches_without_memory_are_counted(rt: HostRuntime) {
         let mut source = Source::new(make.alloc, input, 1000).expect(&rt, "memory");
         make.alloc.refuse(growth);
         let outcome = run_trace(
+            &rt,
             make.alloc,
             &mut source,
             &mut out,

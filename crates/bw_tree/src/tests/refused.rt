@@ -5,8 +5,8 @@ use bw_memory::Alloc;
 use bw_model::Op;
 use std::process::Abort;
 
-// Whether the growth of this number was refused. From now on none is.
-fn was_refused(alloc: Alloc, growth: u64) -> bool {
+/// Whether the growth of this number was refused. From now on none is.
+pub fn was_refused(alloc: Alloc, growth: u64) -> bool {
     let left = alloc.left();
     alloc.refuse(0);
     left == 0 || left > growth

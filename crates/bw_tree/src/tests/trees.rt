@@ -1,6 +1,7 @@
 // Trees of one leaf and of three, and a batch that is staged and undone.
 use super::making::{has, heap, key, leaves, one_leaf, stands, three_leaves, value};
 use crate::{PageId, Staged, Tree};
+use bw_delta::{Action, Write};
 use bw_memory::Alloc;
 use bw_model::Op;
 use std::process::Abort;
@@ -97,6 +98,50 @@ fn a_staged_batch_is_undone(rt: HostRuntime) {
     stands(&rt, &tree, 3, &[0, 1, 2, 3], 0);
     has(&rt, alloc, &tree, 2, &AT_FIRST);
     assert_eq!(rt; tree.stage(&batch(&rt, alloc)), Ok(staged));
+}
+
+#[test]
+fn a_batch_is_staged_until_it_is_undone(rt: HostRuntime) {
+    let alloc = heap(&rt, rt.alloc());
+    let mut tree = three_leaves(&rt, alloc);
+    assert_eq!(rt; tree.staged(), None);
+    let staged = tree.stage(&batch(&rt, alloc)).expect(&rt, "memory");
+    assert_eq!(rt; tree.staged(), Some(staged));
+    tree.undo();
+    assert_eq!(rt; tree.staged(), None);
+}
+
+// Compares a staged write, by its place. One that isn't staged is a fault.
+fn has_staged<R: Abort>(rt: &R, tree: &Tree, place: u64, wanted: &Write) {
+    let staged = tree.staged().expect(rt, "a batch");
+    if place >= staged.records {
+        panic!(rt; "{place} is past the staged writes");
+    }
+    assert_eq!(rt; *tree.staged_write(place), *wanted);
+}
+
+#[test]
+fn each_staged_write_has_the_stamp_of_its_operation(rt: HostRuntime) {
+    let alloc = heap(&rt, rt.alloc());
+    let mut tree = three_leaves(&rt, alloc);
+    let ops = [
+        Op::Upsert(key(&rt, alloc, b"c"), value(&rt, alloc, b"9")),
+        Op::Get(key(&rt, alloc, b"a")),
+        Op::Delete(key(&rt, alloc, b"e")),
+    ];
+    tree.stage(&ops).expect(&rt, "memory");
+    let upsert = Write {
+        stamp: 0,
+        key: key(&rt, alloc, b"c"),
+        action: Action::Upsert(value(&rt, alloc, b"9")),
+    };
+    has_staged(&rt, &tree, 0, &upsert);
+    let delete = Write {
+        stamp: 2,
+        key: key(&rt, alloc, b"e"),
+        action: Action::Delete,
+    };
+    has_staged(&rt, &tree, 1, &delete);
 }
 
 #[test]

@@ -1,12 +1,39 @@
-use Rattle.std.proofs.Common.{ap, ◌∙◌}
-use Rattle.bw_board.specs.Public.{BoardView}
-use Rattle.bw_post.proofs.Homes.{closed_stage, is_over, told_batch}
+use Rattle.std.proofs.Common.{◌≡◌, ◌≤◌, arith, refl, ap, sym, subst, ◌∙◌}
+use Rattle.bw_core.specs.Keeping.{pairs_of}
+use Rattle.bw_core.specs.World.{total}
+use Rattle.bw_board.specs.Public.{BoardView, SeatView}
+use Rattle.bw_post.specs.Posting.{AreHomes, width_of}
+use Rattle.bw_post.proofs.Homes.{is_over, posted_stage, told_batch}
+use Rattle.bw_post.proofs.Joined.{front_of, same_length, same_sum}
+use Rattle.bw_post.proofs.Lost.{lost_few}
+use Rattle.bw_post.proofs.Staged.{staged_homes}
 use Rattle.bw_post.proofs.posting.post_all.Goals as goal
 
-pub returns : goal.returns
-returns c =
-    let told = told_batch c.staged.result c.args.tree.now c.unwrap-batch.result c.staged.ensures c.unwrap-batch.ensures in
+pub post_side_by_side-requires-clause-pages : goal.post_side_by_side-requires-clause-pages
+post_side_by_side-requires-clause-pages g c κs within = subst (AreHomes c.args.tree.now) (sym c.deref-2.ensures.value) (staged_homes c.args.tree.now c.args.batch.now.ops _ c.requires.waiting c.in_ok-pages.ensures)
+
+pub close-requires-clause-whole : goal.close-requires-clause-whole
+close-requires-clause-whole g c =
+    let whole = c.join_workers-whole.ensures in
+    let at_width : c.join_workers-whole.result.seat.book.width ≡ 1024 = whole.width ∙ ap (total width_of) (front_of c.in_ok-crew.crew.len c.post_side_by_side.new.workers _ (let len = same_length c.deref_mut.result.now c.post_side_by_side.new.workers c.post_side_by_side.ensures.width in omega (arith, len, c.deref_mut.ensures.len))) ∙ same_sum c.deref_mut.result.now c.post_side_by_side.new.workers c.post_side_by_side.ensures.width ∙ ap (total width_of) c.deref_mut.ensures.value ∙ c.in_ok-crew.ensures.width ∙ ap (λ (v : SeatView). v.book.width) c.in_ok-board.ensures.5 in (
+      at_width,
+      whole.told,
+    )
+
+pub returns-clause-posted : goal.returns-clause-posted
+returns-clause-posted g c =
+    let told = told_batch c.staged.result c.args.tree.now c.unwrap-staged.result c.staged.ensures c.unwrap-staged.ensures in
     let opened = c.in_ok-board.ensures in
-    let done = c.post_claimed-seat.ensures in
-    let over = is_over c.args.tree.now c.in_ok-board.board c.post_claimed-seat.result.board c.unwrap-batch.result c.heads-heads.result.now c.in_ok-spares.spares.items _ told done.board opened.0 c.heads-heads.ensures opened.2 (opened.4 ∙ c.deref.ensures.value) c.in_ok-spares.ensures in
-    closed_stage c.close.result c.args.tree.now c.post_claimed-seat.result c.unwrap-batch.result c.requires.waiting told (ap (λ (b : BoardView). b.floor) done.board ∙ opened.1) over done.homes c.close.ensures.each c.close.ensures.closed
+    let worked = c.join_workers-whole.ensures.worked in
+    let over = is_over c.args.tree.now c.in_ok-board.board c.join_workers-whole.result.seat.board c.unwrap-staged.result c.heads-heads.result.now c.in_ok-spares.spares.items _ told worked.board_is opened.0 c.heads-heads.ensures opened.2 (opened.4 ∙ c.deref.ensures.value) c.in_ok-spares.ensures in
+    posted_stage c.args.tree.now c.join_workers-whole.result.seat c.in_ok-close.field-0.heads c.in_ok-close.field-0.links c.in_ok-close.field-0.swapped c.unwrap-staged.result c.args.batch.now.ops c.requires.waiting told
+    (ap (λ (b : BoardView). b.floor) worked.board_is ∙ opened.1) over worked.homes c.in_ok-close.ensures.each c.in_ok-close.ensures.closed
+
+pub returns-clause-lost : goal.returns-clause-lost
+returns-clause-lost g c =
+    let told = told_batch c.staged.result c.args.tree.now c.unwrap-staged.result c.staged.ensures c.unwrap-staged.ensures in
+    let opened = c.in_ok-board.ensures in
+    let worked = c.join_workers-whole.ensures.worked in
+    let over = is_over c.args.tree.now c.in_ok-board.board c.in_ok-board.board c.unwrap-staged.result c.heads-heads.result.now c.in_ok-spares.spares.items _ told refl opened.0 c.heads-heads.ensures opened.2 (opened.4 ∙ c.deref.ensures.value) c.in_ok-spares.ensures in
+    let few = lost_few c.join_workers-whole.result.seat c.in_ok-board.board worked.board_is over.few over.spareless c.in_ok-close.ensures.sound in
+    subst (λ n. c.join_workers-whole.result.lost ≤ pairs_of n) over.records (subst (λ n. n ≤ pairs_of c.in_ok-board.board.records) (sym worked.lost) few.0)

@@ -1,5 +1,6 @@
-use Rattle.bw_batch.proofs.IndexLemmas.{nothing_yet}
+use Rattle.std.proofs.Common.{ap, ◌∙◌}
+use Rattle.bw_tree.specs.View.{contents_at}
 use Rattle.bw_batch.proofs.indexing.Index.new.Goals as goal
 
 pub returns-clause-contents : goal.returns-clause-contents
-returns-clause-contents c = nothing_yet c.empty.result.pairs _ c.empty.ensures.pairs
+returns-clause-contents c = c.from_tree.ensures.contents ∙ ap (contents_at c.in_ok-new.field-0) c.in_ok-new.ensures.next ∙ c.in_ok-new.ensures.contents

@@ -1,0 +1,32 @@
+use Rattle.std.proofs.Common.{◌-◌, take, drop, ap, subst, arith}
+use Rattle.std.specs.List.{AllByRecursion}
+use Rattle.bw_tree.specs.Levels.{IsHome, IsOneHome}
+use Rattle.bw_tree.specs.View.{TreeView}
+use Rattle.bw_answer.specs.Points.{IsEntryOf, entries_of}
+use Rattle.bw_answer.specs.Standing.{StandingView}
+use Rattle.bw_answer.proofs.Entries.{part_holds, part_rises}
+use Rattle.bw_answer.proofs.Lists.{all_same}
+use Rattle.bw_answer.proofs.ReplyLemmas.{all_answered, part_answered}
+use Rattle.bw_answer.proofs.standing.StandingBatch.answer_points.Goals as goal
+
+pub answer_run-requires-clause-homes : goal.answer_run-requires-clause-homes
+answer_run-requires-clause-homes c =
+    let tree = c.self.inside.tree.now in
+    let page = c.run_from-page.result.0 in
+    let part = entries_of (take (c.run_from-page.result.1 - c.loop-start.start) (drop c.loop-start.start c.args.points.now)) in
+    subst (λ (t : TreeView). AllByRecursion (λ e. IsHome t.slots t.levels e.0 page) part) (ap (λ (v : StandingView). v.tree) c.self.view_is)
+    (all_same (λ e. IsOneHome tree.slots tree.levels e.0 page) (λ e. IsHome tree.slots tree.levels e.0 page) (λ e home. home.0) part c.run_from-page.ensures.homes)
+
+pub answer_run-requires-clause-entries : goal.answer_run-requires-clause-entries
+answer_run-requires-clause-entries c = part_holds (IsEntryOf c.args.self.now.ops) c.args.points.now c.loop-start.start (c.run_from-page.result.1 - c.loop-start.start) c.requires.entries
+
+pub answer_run-requires-clause-rising : goal.answer_run-requires-clause-rising
+answer_run-requires-clause-rising c = part_rises c.args.points.now c.loop-start.start (c.run_from-page.result.1 - c.loop-start.start) c.requires.rising
+
+pub loop-start-preserved : goal.loop-start-preserved
+loop-start-preserved c =
+    part_answered c.args.self.now c.args.points.now c.loop-start.start c.run_from-page.result.1 c.args.replies.now c.loop-start.replies c.answer_run.new.replies (omega (arith, c.run_from-page.ensures.more)) c.run_from-page.ensures.bound
+    c.loop-start.invariant c.in_ok-answer_run.ensures.len c.in_ok-answer_run.ensures.keeps c.in_ok-answer_run.ensures.answered
+
+pub returns-clause-answered : goal.returns-clause-answered
+returns-clause-answered c = all_answered c.args.self.now c.args.points.now c.loop-start.start c.args.replies.now c.loop-start.replies c.loop-start-test.false c.loop-start.invariant

@@ -1,0 +1,3 @@
+// Worked examples: that the calls succeed, which no contract says, and each growth of memory refused in turn.
+mod making;
+mod reads;

@@ -1,0 +1,157 @@
+// Keys, values, a tree and a batch from bytes.
+ghost use Rattle.std.specs.Prelude.{◌≡◌, ℕ, ◌≤◌, [], ◌∷◌, length, None, Some};
+ghost use Rattle.std.specs.List.{AllByRecursion};
+ghost use Rattle.bw_delta.specs.Batches.{write_of};
+ghost use Rattle.bw_tree.specs.Making.{AreAbutting};
+ghost use Rattle.bw_tree.specs.View.{contents_at};
+
+use crate::{Grouping, Memory, homes, replies};
+use bw_key::Key;
+use bw_memory::{Alloc, Heap};
+use bw_model::{Op, Pairs, Replies, Reply, Value};
+use bw_page::{Leaf, PageId};
+use bw_tree::Tree;
+use std::alloc::Global;
+use std::process::Abort;
+
+// Longer than a key or a value that takes no memory.
+const LONG: &[u8] = b"a text of more than 24 bytes";
+
+/// A heap of its own, which is never freed.
+pub fn heap<R: Abort>(rt: &R, global: Global) -> Alloc {
+    Box::leak(Box::new(global, Heap::counted(global)).expect(rt, "a heap"))
+}
+
+fn key<R: Abort>(rt: &R, alloc: Alloc, bytes: &[u8]) -> Key
+    ensures { result ≡ bytes.now }
+{
+    Key::new(alloc, bytes).expect(rt, "a key")
+}
+
+fn value<R: Abort>(rt: &R, alloc: Alloc, bytes: &[u8]) -> Value {
+    Value::new(alloc, bytes).expect(rt, "a value")
+}
+
+// The leaf up to `c`, with page 1 at its right: a 1, b 2.
+fn up_to_c<R: Abort>(rt: &R, alloc: Alloc) -> Leaf
+    ensures low { result.low ≡ [] }
+    ensures high { result.high ≡ Some (99 ∷ []) }
+    ensures side { result.side ≡ Some 1 }
+{
+    let pairs = vec![in alloc;
+        (key(rt, alloc, b"a"), value(rt, alloc, b"1")),
+        (key(rt, alloc, b"b"), value(rt, alloc, b"2")),
+    ];
+    Leaf::from_pairs(
+        key(rt, alloc, b""),
+        Some(key(rt, alloc, b"c")),
+        Some(PageId(1)),
+        Pairs::from_vec(pairs.expect(rt, "the pairs")),
+    )
+}
+
+// The leaf from `c` on and below `e`, with page 2 at its right: c and a long text.
+fn from_c<R: Abort>(rt: &R, alloc: Alloc) -> Leaf
+    ensures low { result.low ≡ 99 ∷ [] }
+    ensures high { result.high ≡ Some (101 ∷ []) }
+    ensures side { result.side ≡ Some 2 }
+{
+    let pairs = vec![in alloc; (key(rt, alloc, b"c"), value(rt, alloc, LONG))];
+    Leaf::from_pairs(
+        key(rt, alloc, b"c"),
+        Some(key(rt, alloc, b"e")),
+        Some(PageId(2)),
+        Pairs::from_vec(pairs.expect(rt, "the pair")),
+    )
+}
+
+// The leaf from `e` on: e 5.
+fn from_e<R: Abort>(rt: &R, alloc: Alloc) -> Leaf
+    ensures low { result.low ≡ 101 ∷ [] }
+    ensures high { result.high ≡ None }
+    ensures side { result.side ≡ None }
+{
+    let pairs = vec![in alloc; (key(rt, alloc, b"e"), value(rt, alloc, b"5"))];
+    Leaf::from_pairs(
+        key(rt, alloc, b"e"),
+        None,
+        None,
+        Pairs::from_vec(pairs.expect(rt, "the pair")),
+    )
+}
+
+// Three leaves: a 1 and b 2; c and a long text; e 5.
+fn leaves<R: Abort>(rt: &R, alloc: Alloc) -> Vec<Leaf, Alloc>
+    ensures { AreAbutting 0 [] result.items }
+{
+    let all = vec![in alloc; up_to_c(rt, alloc), from_c(rt, alloc), from_e(rt, alloc)];
+    all.expect(rt, "the leaves")
+}
+
+/// The tree over the three leaves, with no write over any.
+pub fn three<R: Abort>(rt: &R, alloc: Alloc) -> Tree
+    ensures { (stamp : ℕ) → contents_at result stamp ≡ contents_at result 0 }
+{
+    Tree::from_level(alloc, leaves(rt, alloc)).expect(rt, "memory")
+}
+
+/// Six reads: e, a, two pairs from b on, d, c, and two pairs back from e.
+pub fn batch<R: Abort>(rt: &R, alloc: Alloc) -> [Op; 6]
+    ensures { AllByRecursion (λ op. write_of op ≡ None) result }
+{
+    [
+        Op::Get(key(rt, alloc, b"e")),
+        Op::Get(key(rt, alloc, b"a")),
+        Op::Scan {
+            from: key(rt, alloc, b"b"),
+            to: None,
+            most: 2,
+        },
+        Op::Get(key(rt, alloc, b"d")),
+        Op::Get(key(rt, alloc, b"c")),
+        Op::Rscan {
+            from: key(rt, alloc, b""),
+            to: Some(key(rt, alloc, b"e")),
+            most: 2,
+        },
+    ]
+}
+
+// The pairs b 2 and c.
+fn b_and_c<R: Abort>(rt: &R, alloc: Alloc) -> Vec<(Key, Value), Alloc> {
+    let pairs = vec![in alloc;
+        (key(rt, alloc, b"b"), value(rt, alloc, b"2")),
+        (key(rt, alloc, b"c"), value(rt, alloc, LONG)),
+    ];
+    pairs.expect(rt, "the pairs")
+}
+
+/// The replies to the six reads.
+pub fn wanted<R: Abort>(rt: &R, alloc: Alloc) -> [Reply; 6] {
+    let mut back = b_and_c(rt, alloc);
+    back.reverse();
+    [
+        Reply::Found(value(rt, alloc, b"5")),
+        Reply::Found(value(rt, alloc, b"1")),
+        Reply::Pairs(Pairs::from_vec(b_and_c(rt, alloc))),
+        Reply::Absent,
+        Reply::Found(value(rt, alloc, LONG)),
+        Reply::Pairs(Pairs::from_vec(back)),
+    ]
+}
+
+/// The replies to reads, by a tree without writes.
+pub fn answered(alloc: Alloc, tree: &Tree, ops: &[Op]) -> Result<Replies, Memory>
+    requires quiet { (stamp : ℕ) → contents_at tree.now stamp ≡ contents_at tree.now 0 }
+    requires reads { AllByRecursion (λ op. write_of op ≡ None) ops.now }
+    requires few { length ops.now ≤ 6 }
+{
+    let batch = Grouping::new(alloc, ops)?;
+    replies(alloc, tree, 0, &batch)
+}
+
+/// The homes of a batch.
+pub fn homed(alloc: Alloc, tree: &Tree, ops: &[Op]) -> Result<Vec<PageId, Alloc>, Memory> {
+    let batch = Grouping::new(alloc, ops)?;
+    homes(alloc, tree, &batch)
+}

@@ -1,0 +1,95 @@
+// A batch of reads over three leaves.
+use super::making::{answered, batch, heap, homed, three, wanted};
+use bw_memory::Alloc;
+use bw_model::Reply;
+use bw_page::PageId;
+use std::process::Abort;
+
+// Compares replies.
+fn same<R: Abort>(rt: &R, replies: &[Reply], wanted: &[Reply]) {
+    assert_eq!(rt; replies.len(), wanted.len());
+    for (reply, wanted) in replies.iter().zip(wanted) {
+        assert_eq!(rt; *reply, *wanted);
+    }
+}
+
+// Compares the pages of the four gets among the six reads. Those of the scans mean nothing.
+fn are_homes<R: Abort>(rt: &R, homes: &[PageId]) {
+    let wanted = [Some(2), Some(0), None, Some(1), Some(1), None];
+    assert_eq!(rt; homes.len(), wanted.len());
+    for (home, wanted) in homes.iter().zip(&wanted) {
+        if let Some(page) = wanted {
+            assert_eq!(rt; home.0, *page);
+        }
+    }
+}
+
+// Whether the growth of this number was refused. From now on none is.
+fn was_refused(alloc: Alloc, growth: u64) -> bool {
+    let left = alloc.left();
+    alloc.refuse(0);
+    left == 0 || left > growth
+}
+
+#[test]
+fn each_read_is_answered_at_its_place(rt: HostRuntime) {
+    let alloc = heap(&rt, rt.alloc());
+    let tree = three(&rt, alloc);
+    let ops = batch(&rt, alloc);
+    let replies = answered(alloc, &tree, &ops).expect(&rt, "memory");
+    same(&rt, replies.as_slice(), &wanted(&rt, alloc));
+}
+
+#[test]
+fn each_key_has_its_home_at_its_place(rt: HostRuntime) {
+    let alloc = heap(&rt, rt.alloc());
+    let tree = three(&rt, alloc);
+    let ops = batch(&rt, alloc);
+    let homes = homed(alloc, &tree, &ops).expect(&rt, "memory");
+    are_homes(&rt, &homes);
+}
+
+#[test]
+fn a_batch_of_no_operations_has_no_replies(rt: HostRuntime) {
+    let alloc = heap(&rt, rt.alloc());
+    let tree = three(&rt, alloc);
+    let replies = answered(alloc, &tree, &[]).expect(&rt, "memory");
+    assert_eq!(rt; replies.as_slice().len(), 0);
+}
+
+#[test]
+fn each_growth_of_replies_is_refused(rt: HostRuntime) {
+    let alloc = heap(&rt, rt.alloc());
+    let tree = three(&rt, alloc);
+    let ops = batch(&rt, alloc);
+    for growth in 1..100 {
+        alloc.refuse(growth);
+        let replies = answered(alloc, &tree, &ops);
+        if !was_refused(alloc, growth) {
+            let replies = replies.expect(&rt, "memory");
+            same(&rt, replies.as_slice(), &wanted(&rt, alloc));
+            assert!(rt; growth > 9);
+            return;
+        }
+        assert!(rt; replies.is_err(), "growth {growth}");
+    }
+    panic!(rt; "no run met no refusal")
+}
+
+#[test]
+fn each_growth_of_homes_is_refused(rt: HostRuntime) {
+    let alloc = heap(&rt, rt.alloc());
+    let tree = three(&rt, alloc);
+    let ops = batch(&rt, alloc);
+    for growth in 1..100 {
+        alloc.refuse(growth);
+        let homes = homed(alloc, &tree, &ops);
+        if !was_refused(alloc, growth) {
+            are_homes(&rt, &homes.expect(&rt, "memory"));
+            assert!(rt; growth > 2);
+            return;
+        }
+        assert!(rt; homes.is_err(), "growth {growth}");
+    }
+    panic!(rt; "no run met no refusal")
+}

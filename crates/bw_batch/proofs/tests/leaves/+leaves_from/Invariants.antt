@@ -1,0 +1,5 @@
+use Rattle.std.proofs.Common.{◌-◌}
+use Rattle.bw_batch.proofs.tests.leaves.+leaves_from.Given as goal
+
+abbrev pub decreases-leaves_from : goal.decreases-leaves_from
+decreases-leaves_from g l = 64 - l.place

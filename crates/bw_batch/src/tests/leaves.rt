@@ -1,0 +1,114 @@
+// Batches over many leaves, compared with the plain program.
+ghost use Rattle.std.specs.Prelude.{◌≡◌, ◌<◌, None};
+ghost use Rattle.bw_tree.specs.Making.{AreAbutting};
+
+use super::making::{LONG, Maker, same};
+use super::randomly::Random;
+use crate::{Index, Key, Leaf, Op, OpenGate, PageId, Pairs, Tree};
+use bw_memory::Alloc;
+use bw_model::ReferenceMap;
+use std::process::Abort;
+
+// The leaf at place i begins at the key of the byte 4 i, and the first one at the least key.
+const LEAVES: u32 = 64;
+
+const VALUES: [&str; 3] = ["", "1", LONG];
+
+// Empty leaves from a low key on: the one at this place, and all behind it.
+fn leaves_from<R: Abort>(rt: &R, make: &Maker<R>, low: Key, place: u32) -> Vec<Leaf, Alloc>
+    requires { place < 64 }
+    ensures { AreAbutting place low result.items }
+{
+    let none = Pairs::from_vec(Vec::new(make.alloc));
+    let next = place + 1;
+    if next == LEAVES {
+        let last = Leaf::from_pairs(low, None, None, none);
+        return vec![in make.alloc; last].expect(rt, "a leaf");
+    }
+    let high = key(rt, make, &[next as u8 * 4]);
+    assert!(rt; low < high);
+    let begins = high.copy().expect(rt, "a key");
+    let leaf = Leaf::from_pairs(low, Some(high), Some(PageId(next)), none);
+    let mut leaves = leaves_from(rt, make, begins, next);
+    leaves.insert(0, leaf).expect(rt, "a leaf");
+    leaves
+}
+
+// An index over empty leaves.
+fn over_leaves<R: Abort>(rt: &R, make: &Maker<R>) -> Index {
+    let leaves = leaves_from(rt, make, key(rt, make, &[]), 0);
+    let tree = Tree::from_level(make.alloc, leaves).expect(rt, "a tree");
+    assert_eq!(rt; tree.heads().len(), LEAVES as usize + 1);
+    Index::from_tree(make.alloc, make.options(65536), tree)
+}
+
+fn key<R: Abort>(rt: &R, make: &Maker<R>, bytes: &[u8]) -> Key
+    ensures { result ≡ bytes.now }
+{
+    Key::new(make.alloc, bytes).expect(rt, "a key")
+}
+
+// A key of one byte or two.
+fn draw_key<R: Abort>(rt: &R, make: &Maker<R>, random: &mut Random) -> Key {
+    let byte = random.below(256) as u8;
+    match random.below(2) {
+        0 => key(rt, make, &[byte]),
+        _ => key(rt, make, &[byte, 0]),
+    }
+}
+
+// An operation that is drawn.
+fn draw<R: Abort>(rt: &R, make: &Maker<R>, random: &mut Random) -> Op {
+    let key = draw_key(rt, make, random);
+    let value = make.value(VALUES[random.below(3)]);
+    let most = random.below(40) as u64;
+    match random.below(9) {
+        0 => Op::Get(key),
+        1 => Op::Insert(key, value),
+        2 => Op::Upsert(key, value),
+        3 => Op::Update(key, value),
+        4 => Op::Delete(key),
+        5 => Op::SwapIf(key, make.value("1"), value),
+        6 => Op::Scan {
+            from: key,
+            to: None,
+            most,
+        },
+        7 => Op::Scan {
+            from: key,
+            to: Some(draw_key(rt, make, random)),
+            most,
+        },
+        _ => Op::Rscan {
+            from: key,
+            to: Some(draw_key(rt, make, random)),
+            most,
+        },
+    }
+}
+
+// A batch of so many operations.
+fn batch<R: Abort>(rt: &R, make: &Maker<R>, random: &mut Random, len: usize) -> Vec<Op, Alloc> {
+    let mut ops = Vec::new(make.alloc);
+    for _ in 0..len {
+        ops.push(draw(rt, make, random)).expect(rt, "memory");
+    }
+    ops
+}
+
+#[test]
+fn batches_over_many_leaves_are_answered_as_by_the_plain_program(rt: HostRuntime) {
+    let make = Maker::new(&rt, rt.alloc());
+    let mut random = Random { state: 20130408 };
+    let mut index = over_leaves(&rt, &make);
+    let mut map = ReferenceMap::new(make.alloc);
+    for number in 0..40u64 {
+        let ops = batch(&rt, &make, &mut random, 80);
+        let done = index.run(&rt, &ops, &OpenGate).expect(&rt, "memory");
+        let expected = map.run(&ops).expect(&rt, "memory");
+        same(&rt, done.replies.as_slice(), expected.as_slice());
+        let contents = index.contents().expect(&rt, "memory");
+        let expected = map.entries().expect(&rt, "memory");
+        assert_eq!(rt; contents, expected, "batch {number}: {ops:?}");
+    }
+}

@@ -1,0 +1,196 @@
+//! What a batch costs on an index of many leaves, beside the same operations on std's `BTreeMap` by one thread.
+//!
+//! An index and a map are filled with the same keys of 8 bytes, 44 to a leaf of the index, and then run the same batches,
+//! which are drawn from a seed: gets, and then gets and upserts in equal parts. With no word there are few keys, and how
+//! many replies of the two are the same is printed. With the word `time` there are 10,000 keys and 1,000,000, and batches
+//! of 65,536 operations: then the times in the middle are printed, and the ratio of the index's to the map's. Beside it
+//! stands the ratio of all times together, since the index folds its chains after some batches only.
+#![tactic(auto)]
+
+ghost use Rattle.std.specs.Prelude.{◌<◌};
+
+mod making;
+
+use anyhow::{Context, Result, bail};
+use bw_batch::{Index, Key, Op, OpenGate, Options, Tree, Value};
+use bw_memory::{Alloc, Heap};
+use making::{Random, answer, drawn, leaves_for, upserts};
+use std::collections::BTreeMap;
+use std::env;
+use std::num::nearest_u64_to_f64;
+use std::thread::Threads;
+use std::time::{Clock, Duration, Instant};
+
+// Operations of the longest batch.
+const BATCH: u64 = 65_536;
+
+/// How many keys there are, how many operations a batch has, and how many batches of a kind are run.
+#[derive(Clone, Copy)]
+struct Load {
+    keys: u64,
+    operations: u64,
+    rounds: u64,
+}
+
+const BRIEF: Load = Load {
+    keys: 1000,
+    operations: 2048,
+    rounds: 3,
+};
+
+const SMALL: Load = Load {
+    keys: 10_000,
+    operations: BATCH,
+    rounds: 15,
+};
+
+const LARGE: Load = Load {
+    keys: 1_000_000,
+    operations: BATCH,
+    rounds: 15,
+};
+
+/// An index and a map with the same pairs.
+#[derive(Drop)]
+struct Both {
+    index: Index,
+    map: BTreeMap<Key, Value, Alloc>,
+}
+
+/// How many replies were the same, and the times of all batches.
+#[derive(Drop)]
+struct Runs {
+    same: u64,
+    index: Vec<Duration, Alloc>,
+    map: Vec<Duration, Alloc>,
+}
+
+// Runs a batch on both, times it, and counts the replies that are the same.
+fn run_batch<R: Threads + Clock + Sync>(
+    rt: &R,
+    alloc: Alloc,
+    both: &mut Both,
+    ops: &[Op],
+    runs: &mut Runs,
+) -> Result<()> {
+    let start = Instant::now(rt)?;
+    let done = both.index.run(rt, ops, &OpenGate)?;
+    runs.index.push(start.elapsed(rt)?)?;
+    let start = Instant::now(rt)?;
+    let mut expected = Vec::with_capacity(alloc, ops.len())?;
+    for op in ops {
+        expected.push(answer(&mut both.map, op)?)?;
+    }
+    runs.map.push(start.elapsed(rt)?)?;
+    let pairs = done.replies.as_slice().iter().zip(&expected);
+    let same = pairs.filter(|(left, right)| *left == *right).count();
+    runs.same = runs.same.saturating_add(same as u64);
+    Ok(())
+}
+
+fn no_runs(alloc: Alloc) -> Runs {
+    Runs {
+        same: 0,
+        index: Vec::new(alloc),
+        map: Vec::new(alloc),
+    }
+}
+
+// An index and a map with all keys, put by batches.
+fn filled<R: Threads + Clock + Sync>(
+    rt: &R,
+    alloc: Alloc,
+    workers: u64,
+    keys: u64,
+) -> Result<Both> {
+    let options = Options::new(workers, 64, 8, 64, 16, BATCH, 1_048_576)?;
+    let tree = Tree::from_level(alloc, leaves_for(alloc, keys)?)?;
+    let mut both = Both {
+        index: Index::from_tree(alloc, options, tree),
+        map: BTreeMap::new(alloc),
+    };
+    let mut runs = no_runs(alloc);
+    for place in 0..keys.div_ceil(BATCH) {
+        let from = place.saturating_mul(BATCH);
+        let to = from.saturating_add(BATCH).min(keys);
+        run_batch(rt, alloc, &mut both, &upserts(alloc, from, to)?, &mut runs)?;
+    }
+    Ok(both)
+}
+
+// Nanoseconds an operation, by the time in the middle and by all times together.
+fn nanoseconds(times: &mut Vec<Duration, Alloc>, operations: u64) -> Result<(f64, f64)> {
+    times.sort_unstable();
+    let middle = times.get(times.len() / 2).copied().context("no batch")?;
+    let each = 1e9 / nearest_u64_to_f64(operations);
+    let all = times.iter().fold(0.0, |sum, time| sum + time.as_secs_f64());
+    let mean = all / nearest_u64_to_f64(times.len() as u64);
+    Ok((middle.as_secs_f64() * each, mean * each))
+}
+
+// Runs batches of one kind, and prints what came of them.
+fn print_kind<R: Threads + Clock + Sync + Print>(
+    rt: &R,
+    alloc: Alloc,
+    both: &mut Both,
+    load: Load,
+    has_writes: bool,
+    is_timed: bool,
+) -> Result<()>
+    requires { 0 < load.keys }
+{
+    let mut random = Random { state: 20130408 };
+    let mut runs = no_runs(alloc);
+    for _ in 0..load.rounds {
+        let ops = drawn(alloc, &mut random, load.keys, load.operations, has_writes)?;
+        run_batch(rt, alloc, both, &ops, &mut runs)?;
+    }
+    let kind = if has_writes {
+        "gets and upserts"
+    } else {
+        "gets"
+    };
+    let all = load.rounds.saturating_mul(load.operations);
+    println!(rt; "  {kind}: {} of {all} replies are the map's", runs.same)?;
+    if is_timed {
+        let (index, index_mean) = nanoseconds(&mut runs.index, load.operations)?;
+        let (map, map_mean) = nanoseconds(&mut runs.map, load.operations)?;
+        println!(rt; "    middle {index:7.1} / {map:7.1} = {:.2}", index / map)?;
+        println!(rt;
+            "    mean   {index_mean:7.1} / {map_mean:7.1} = {:.2}",
+            index_mean / map_mean
+        )?;
+    }
+    Ok(())
+}
+
+// Runs batches with 1, 2 and 4 workers.
+fn print_load<R: Threads + Clock + Sync + Print>(
+    rt: &R,
+    alloc: Alloc,
+    load: Load,
+    is_timed: bool,
+) -> Result<()>
+    requires { 0 < load.keys }
+{
+    for workers in [1, 2, 4] {
+        println!(rt; "{} keys, workers {workers}:", load.keys)?;
+        let mut both = filled(rt, alloc, workers, load.keys)?;
+        print_kind(rt, alloc, &mut both, load, false, is_timed)?;
+        print_kind(rt, alloc, &mut both, load, true, is_timed)?;
+    }
+    Ok(())
+}
+
+fn main(rt: HostRuntime) -> Result<()> {
+    let alloc = Heap::new(rt.alloc()).leak(rt.alloc())?;
+    let words = env::args(&rt)?.skip(1).collect::<Vec<String>>(rt.alloc())?;
+    match words.as_slice() {
+        [] => print_load(&rt, alloc, BRIEF, false),
+        [word] if word.as_str() == "time" => {
+            print_load(&rt, alloc, SMALL, true)?;
+            print_load(&rt, alloc, LARGE, true)
+        }
+        _ => bail!("usage: bw_batch_bench [time]"),
+    }
+}

@@ -1,0 +1,122 @@
+//! Leaves, keys and operations, and what a map answers to them.
+ghost use Rattle.std.specs.Prelude.{◌≡◌, ◌<◌, [], IfOk};
+ghost use Rattle.bw_tree.specs.Making.{AreAbutting};
+
+use anyhow::{Result, bail};
+use bw_batch::{Key, Leaf, Op, PageId, Pairs, Reply, Value};
+use bw_memory::Alloc;
+use std::collections::BTreeMap;
+
+// Keys of a leaf.
+const LEAF: u64 = 44;
+
+// No leaf has a greater place: the last one has all further keys.
+const PLACE_MAX: u64 = 1_000_000;
+
+/// Pseudo-random numbers by a linear congruence, whose high bits are taken.
+#[derive(Drop)]
+pub struct Random {
+    pub state: u64,
+}
+
+impl Random {
+    fn below(&mut self, limit: u64) -> u64
+        requires { 0 < limit }
+        ensures { result < limit }
+    {
+        let state = self.state.wrapping_mul(6364136223846793005);
+        self.state = state.wrapping_add(1442695040888963407);
+        (self.state >> 33) % limit
+    }
+}
+
+// Keys of 8 bytes, in the order of their numbers.
+fn key(alloc: Alloc, number: u64) -> Result<Key> {
+    Ok(Key::new(alloc, &number.to_be_bytes())?)
+}
+
+// The operation that puts a value at the key of a number.
+fn upsert(alloc: Alloc, number: u64, value: u64) -> Result<Op> {
+    let value = Value::new(alloc, &value.to_be_bytes())?;
+    Ok(Op::Upsert(key(alloc, number)?, value))
+}
+
+// Where the leaf at a place begins, the first one at the least key.
+fn low_of(alloc: Alloc, place: u32) -> Result<Key>
+    ensures { IfOk result (λ key. place ≡ 0 → key ≡ []) }
+{
+    if place == 0 {
+        return Ok(Key::new(alloc, &[])?);
+    }
+    key(alloc, place as u64 * LEAF)
+}
+
+/// Empty leaves side by side, for so many keys. They are made from the last to the first.
+pub fn leaves_for(alloc: Alloc, keys: u64) -> Result<Vec<Leaf, Alloc>>
+    ensures { IfOk result (λ leaves. AreAbutting 0 [] leaves.items) }
+{
+    let mut place = (keys.saturating_sub(1) / LEAF).min(PLACE_MAX) as u32;
+    let mut low = low_of(alloc, place)?;
+    let mut leaves = Vec::new(alloc);
+    let none = Pairs::from_vec(Vec::new(alloc));
+    leaves.push(Leaf::from_pairs(low.copy()?, None, None, none))?;
+    while place > 0 {
+        let side = Some(PageId(place));
+        let high = low;
+        place -= 1;
+        low = low_of(alloc, place)?;
+        if !(low < high) {
+            bail!("leaves out of order");
+        }
+        let none = Pairs::from_vec(Vec::new(alloc));
+        leaves.push(Leaf::from_pairs(low.copy()?, Some(high), side, none))?;
+    }
+    leaves.reverse();
+    Ok(leaves)
+}
+
+/// Upserts of the keys of the numbers from `from` on and below `to`.
+pub fn upserts(alloc: Alloc, from: u64, to: u64) -> Result<Vec<Op, Alloc>> {
+    let mut ops = Vec::new(alloc);
+    for number in from..to {
+        ops.push(upsert(alloc, number, number)?)?;
+    }
+    Ok(ops)
+}
+
+/// So many gets of keys that are drawn, or gets and upserts in equal parts.
+pub fn drawn(
+    alloc: Alloc,
+    random: &mut Random,
+    keys: u64,
+    operations: u64,
+    has_writes: bool,
+) -> Result<Vec<Op, Alloc>>
+    requires { 0 < keys }
+{
+    let mut ops = Vec::new(alloc);
+    for number in 0..operations {
+        let drawn = random.below(keys);
+        ops.push(if has_writes && random.below(2) == 0 {
+            upsert(alloc, drawn, number)?
+        } else {
+            Op::Get(key(alloc, drawn)?)
+        })?;
+    }
+    Ok(ops)
+}
+
+/// What the map answers to a get or an upsert, after which it is changed.
+pub fn answer(map: &mut BTreeMap<Key, Value, Alloc>, op: &Op) -> Result<Reply> {
+    Ok(match op {
+        Op::Get(key) => match map.get(key) {
+            Some(value) => Reply::Found(value.copy()?),
+            None => Reply::Absent,
+        },
+        Op::Upsert(key, value) => match map.insert(key.copy()?, value.copy()?)? {
+            Some(value) => Reply::Was(value),
+            None => Reply::New,
+        },
+        _ => bail!("neither a get nor an upsert"),
+    })
+}

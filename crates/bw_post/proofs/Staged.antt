@@ -1,0 +1,107 @@
+-- The place of a staged write's operation, and its home.
+use Rattle.std.proofs.Common.{◌≡◌, ℕ, zero, suc, ◌+◌, ◌-◌, ◌<◌, ◌≤◌, List, [], ◌∷◌, ◌++◌, length, get_or, Option, Some, None, refl, sym, ap, ◌∙◌, subst, arith}
+use Rattle.std.specs.Prelude.{slice_get}
+use Rattle.std.specs.Option.{option_map}
+use Rattle.bw_key.specs.Order.{KeyBytes}
+use Rattle.bw_model.specs.declared.operations.Action.{Action}
+use Rattle.bw_model.specs.declared.operations.Op.{Op}
+use Rattle.bw_model.specs.declared.operations.Op.TheVariants.{Get, Insert, Upsert, Update, Delete, SwapIf, Scan, Rscan}
+use Rattle.bw_delta.specs.Batches.{stamped, write_of, writes_of}
+use Rattle.bw_delta.specs.Writes.{WriteView}
+use Rattle.bw_tree.specs.View.{TreeView, StageView, staged_writes}
+use Rattle.bw_answer.specs.Homes.{AreHomesOf}
+use Rattle.bw_answer.specs.Points.{key_of}
+use Rattle.bw_post.specs.Posting.{AreHomes, HasHome, IsWaiting}
+
+no_write : {w : WriteView} → None ≡ Some w → ⊥
+no_write e = cc
+
+pub one_write : {v w : WriteView} → Some v ≡ Some w → v ≡ w
+one_write e = cc
+
+-- where a write's operation is in its batch
+record IsPlaced (base : ℕ) (ops : List Op) (w : WriteView) : Type 0 where
+  place : ℕ
+  stamp : w.stamp ≡ base + place
+  key : option_map key_of (slice_get ops place) ≡ Some (Some w.key)
+
+key_written : (op : Op) (write : KeyBytes × Action) → write_of op ≡ Some write → key_of op ≡ Some write.0
+key_written (Get k) write e = absurd (differ e)
+  where
+    differ : None ≡ Some write → ⊥
+    differ e = cc
+key_written (Insert k v) write e = ap (option_map (λ (x : KeyBytes × Action). x.0)) e
+key_written (Upsert k v) write e = ap (option_map (λ (x : KeyBytes × Action). x.0)) e
+key_written (Update k v) write e = ap (option_map (λ (x : KeyBytes × Action). x.0)) e
+key_written (Delete k) write e = ap (option_map (λ (x : KeyBytes × Action). x.0)) e
+key_written (SwapIf k old new) write e = ap (option_map (λ (x : KeyBytes × Action). x.0)) e
+key_written (Scan from to most) write e = absurd (differ e)
+  where
+    differ : None ≡ Some write → ⊥
+    differ e = cc
+key_written (Rscan from to most) write e = absurd (differ e)
+  where
+    differ : None ≡ Some write → ⊥
+    differ e = cc
+
+later : (base : ℕ) (op : Op) (ops : List Op) (w : WriteView) → IsPlaced (base + 1) ops w → IsPlaced base (op ∷ ops) w
+later base op ops w at = record { place = suc at.place; stamp = at.stamp ∙ omega arith; key = at.key }
+
+placed : (ops : List Op) (base r : ℕ) (w : WriteView) → slice_get (writes_of base ops) r ≡ Some w → IsPlaced base ops w
+placed [] base r w at = absurd (no_write at)
+placed (op ∷ ops) base r w at = by (write_of op) refl r (λ n at. placed ops (base + 1) n w at) at
+  where
+    by : (o : Option (KeyBytes × Action)) → write_of op ≡ o → (n : ℕ) → ((n : ℕ) → slice_get (writes_of (base + 1) ops) n ≡ Some w → IsPlaced (base + 1) ops w) → slice_get (stamped base o ++ writes_of (base + 1) ops) n ≡ Some w → IsPlaced base (op ∷ ops) w
+    by None is n rest at = later base op ops w (rest n at)
+    by (Some write) is (suc n) rest at = later base op ops w (rest n at)
+    by (Some write) is zero rest at =
+        let same = one_write at in
+        record {
+          place = 0;
+          stamp = ap (λ (v : WriteView). v.stamp) (sym same) ∙ omega arith;
+          key = ap Some (key_written op write is ∙ ap (λ (v : WriteView). Some v.key) same);
+        }
+
+-- so the pages of the operations' keys have those of the staged writes
+pub staged_homes : (tree : TreeView) (ops : List Op) (homes : List ℕ) → IsWaiting tree tree.staged ops → AreHomesOf tree ops homes → AreHomes tree homes
+staged_homes tree ops homes waiting are r w at = by tree.staged waiting at
+  where
+    by : (o : Option StageView) → IsWaiting tree o ops → slice_get (staged_writes o) r ≡ Some w → HasHome tree homes w
+    by None none at = absurd none
+    by (Some stage) is at =
+        let p = placed ops tree.next r w (ap (λ (l : List WriteView). slice_get l r) (sym is.1) ∙ at) in
+        let h = are.each p.place w.key p.key in
+        let less : w.stamp - tree.next ≡ p.place = omega (arith, p.stamp) in
+        record {
+          page = h.0;
+          from = omega (arith, p.stamp);
+          at = ap (slice_get homes) less ∙ h.1;
+          there = h.2;
+          one = h.3;
+        }
+
+-- the place of a write has a page
+read_within : (xs : List ℕ) (i x : ℕ) → slice_get xs i ≡ Some x → i < length xs
+read_within [] i x e = absurd (none e)
+  where
+    none : None ≡ Some x → ⊥
+    none e = cc
+read_within (y ∷ xs) zero x e = omega arith
+read_within (y ∷ xs) (suc i) x e = let more = read_within xs i x e in omega (arith, more)
+
+pub home_within : (tree : TreeView) (homes : List ℕ) (w : WriteView) → (h : HasHome tree homes w) → w.stamp - tree.next < length homes
+home_within tree homes w h = read_within homes (w.stamp - tree.next) h.page h.at
+
+read_at : (xs : List ℕ) (i x d : ℕ) → slice_get xs i ≡ Some x → get_or xs i d ≡ x
+read_at [] i x d e = absurd (none e)
+  where
+    none : None ≡ Some x → ⊥
+    none e = cc
+read_at (y ∷ xs) zero x d e = one e
+  where
+    one : Some y ≡ Some x → y ≡ x
+    one e = cc
+read_at (y ∷ xs) (suc i) x d e = read_at xs i x d e
+
+pub home_read : (tree : TreeView) (homes : List ℕ) (w : WriteView) (i d : ℕ) → (h : HasHome tree homes w) → i ≡ w.stamp - tree.next → get_or homes i d ≡ h.page
+home_read tree homes w i d h place = ap (λ n. get_or homes n d) place ∙ read_at homes (w.stamp - tree.next) h.page d h.at

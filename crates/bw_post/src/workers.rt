@@ -1,0 +1,176 @@
+// Workers at a board, which claim and post side by side.
+ghost use Rattle.std.specs.Prelude.{◌≡◌, ℕ, ◌+◌, ◌^◌, ◌<◌, ◌≤◌, [], length, map, IfOk};
+ghost use denote.Param.Send.{IsSync};
+ghost use Rattle.std.specs.List.{AllByRecursion};
+ghost use Rattle.bw_core.specs.World.{owns, total};
+ghost use Rattle.bw_board.specs.Plays.{lost_in};
+ghost use Rattle.bw_board.specs.Working.{HasLeft, HasPostedAll};
+ghost use Rattle.bw_tree.specs.View.{staged_writes};
+ghost use Rattle.bw_post.specs.Posting.{AreHomes, ArePostedHome, HasWorked, IsFresh, IsHomeOf, IsOver, IsTold, width_of};
+
+use crate::gates::Gate;
+use bw_board::{Board, Seat};
+use bw_key::Memory;
+use bw_memory::Alloc;
+use bw_page::PageId;
+use bw_tree::Tree;
+use std::ops::Range;
+use std::thread::{Threads, for_each_mut};
+
+/// A worker's seat at a board, and how many exchanges its posts lost.
+#[derive(Drop)]
+pub(crate) struct Worker {
+    pub(crate) seat: Seat,
+    pub(crate) lost: u64,
+}
+
+/// So many workers, of which there is at least one, in the place of one seat. There are fewer where the seat can't be split
+/// so often.
+pub(crate) fn seat_workers(
+    alloc: Alloc,
+    board: &Board,
+    seat: Seat,
+    count: usize,
+) -> Result<Vec<Worker, Alloc>, Memory>
+    requires board { seat.board ≡ board.now }
+    requires fresh { (seat.book.owned ≡ []) × (seat.book.posted ≡ []) }
+    ensures some { IfOk result (λ workers. 0 < length workers.items) }
+    ensures fresh { IfOk result (λ workers. AllByRecursion (IsFresh board.now) workers.items) }
+    ensures width { IfOk result (λ workers. total width_of workers.items ≡ seat.book.width) }
+{
+    let mut workers = Vec::new(alloc);
+    workers.push(Worker { seat, lost: 0 })?;
+    while workers.len() < count {
+        let Worker { seat, lost } = workers.remove(0);
+        match board.split(seat) {
+            Ok((left, right)) => {
+                workers.push(Worker { seat: left, lost })?;
+                workers.push(Worker {
+                    seat: right,
+                    lost: 0,
+                })?;
+            }
+            Err(seat) => {
+                workers.push(Worker { seat, lost })?;
+                return Ok(workers);
+            }
+        }
+    }
+    Ok(workers)
+}
+
+/// Has each worker claim and post until no record is left, in a thread of its own where one can be made.
+pub(crate) fn post_side_by_side<R: Threads + Sync, G: Gate>(
+    rt: &R,
+    tree: &Tree,
+    pages: &[PageId],
+    board: &Board,
+    gate: &G,
+    workers: &mut [Worker],
+)
+    requires over { IsOver tree.now board.now }
+    requires pages { AreHomes tree.now pages.now }
+    requires some { 0 < length workers.old }
+    requires fresh { AllByRecursion (IsFresh board.now) workers.old }
+    ensures worked { AllByRecursion (HasWorked tree.now board.now) workers.new }
+    ensures told { AllByRecursion IsTold workers.new }
+    ensures width { map width_of workers.new ≡ map width_of workers.old }
+{
+    let post = move |_place: usize, worker: &mut Worker|
+        requires { IsSync G.row × IsOver tree.now board.now × AreHomes tree.now pages.now × IsFresh board.now worker.now }
+        ensures { HasWorked tree.entry.now board.entry.now worker.exit.now × IsTold worker.exit.now × (width_of worker.exit.now ≡ width_of worker.entry.now) }
+    { post_claimed(tree, pages, board, gate, worker) };
+    for_each_mut(rt, workers, workers.len(), &post);
+}
+
+// Claims and posts until no record is left.
+fn post_claimed<G: Gate>(
+    tree: &Tree,
+    pages: &[PageId],
+    board: &Board,
+    gate: &G,
+    worker: &mut Worker,
+)
+    requires over { IsOver tree.now board.now }
+    requires pages { AreHomes tree.now pages.now }
+    requires fresh { IsFresh board.now worker.old }
+    ensures worked { HasWorked tree.now board.now worker.new }
+    ensures told { IsTold worker.new }
+    ensures width { width_of worker.new ≡ width_of worker.old }
+{
+    while let Some(span) = board.claim(&mut worker.seat) {
+        worker.lost += post_piece(tree, pages, board, gate, &mut worker.seat, span);
+    }
+}
+
+// Posts the records of a piece, and answers how many exchanges that lost.
+fn post_piece<G: Gate>(
+    tree: &Tree,
+    pages: &[PageId],
+    board: &Board,
+    gate: &G,
+    seat: &mut Seat,
+    piece: Range<u64>,
+) -> u64
+    requires board { seat.old.board ≡ board.now }
+    requires over { IsOver tree.now board.now }
+    requires pages { AreHomes tree.now pages.now }
+    requires left { HasLeft seat.old piece.start piece.end }
+    requires homes { ArePostedHome tree.now seat.old }
+    requires once { (r : ℕ) → owns r seat.old.book ≤ 1 }
+    requires few { lost_in seat.old.book.posted < 2 ^ 64 }
+    requires rising { piece.start ≤ piece.end }
+    requires within { piece.end ≤ board.now.records }
+    ensures board { seat.new.board ≡ board.now }
+    ensures width { seat.new.book.width ≡ seat.old.book.width }
+    ensures owned { seat.new.book.owned ≡ seat.old.book.owned }
+    ensures once { (r : ℕ) → owns r seat.new.book ≤ 1 }
+    ensures posted { HasPostedAll seat.new }
+    ensures homes { ArePostedHome tree.now seat.new }
+    ensures lost { lost_in seat.old.book.posted + result ≡ lost_in seat.new.book.posted }
+    ensures few { lost_in seat.new.book.posted < 2 ^ 64 }
+{
+    let mut lost = 0;
+    for record in piece.start..piece.end {
+        gate.before(record);
+        let page = home_at(tree, pages, record);
+        lost += board.post(seat, record, page.0 as u64).lost;
+        gate.after(record);
+    }
+    lost
+}
+
+// The page of a staged record's key. The place of the record's operation is in its stamp.
+fn home_at(tree: &Tree, pages: &[PageId], number: u64) -> PageId
+    requires pages { AreHomes tree.now pages.now }
+    requires there { number < length (staged_writes tree.now.staged) }
+    ensures there { result < length tree.now.heads }
+    ensures home { IsHomeOf tree.now number result }
+{
+    let place = tree.staged_write(number).stamp - tree.next_stamp();
+    pages[place as usize]
+}
+
+/// All workers' seats in one, with what they lost together.
+pub(crate) fn join_workers(
+    tree: &Tree,
+    board: &Board,
+    mut workers: Vec<Worker, Alloc>,
+) -> Worker
+    requires over { IsOver tree.now board.now }
+    requires some { 0 < length workers.items }
+    requires worked { AllByRecursion (HasWorked tree.now board.now) workers.items }
+    requires told { AllByRecursion IsTold workers.items }
+    ensures worked { HasWorked tree.now board.now result }
+    ensures told { IsTold result }
+    ensures width { width_of result ≡ total width_of workers.entry.items }
+{
+    let mut whole = workers.pop().unwrap();
+    for worker in workers {
+        whole = Worker {
+            seat: board.join(whole.seat, worker.seat),
+            lost: whole.lost + worker.lost,
+        };
+    }
+    whole
+}

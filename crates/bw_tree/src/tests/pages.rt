@@ -1,0 +1,63 @@
+// What a tree of three leaves tells of each of them.
+ghost use Rattle.std.specs.List.{Contains};
+ghost use Rattle.bw_tree.specs.Levels.{row};
+
+use super::making::{heap, key, three_leaves};
+use crate::{Leaf, PageId, Tree};
+use bw_memory::Alloc;
+use std::process::Abort;
+
+// The leaf whose range has a key.
+fn leaf_at<R: Abort>(rt: &R, alloc: Alloc, tree: &Tree, bytes: &[u8]) -> PageId
+    ensures { Contains (row tree.now.levels 0) result }
+{
+    tree.route(&key(rt, alloc, bytes))
+}
+
+// Compares a leaf's low key and pairs.
+fn is_leaf<R: Abort>(rt: &R, leaf: &Leaf, low: &[u8], wanted: &[(&'static [u8], &'static [u8])]) {
+    assert_eq!(rt; leaf.low().bytes(), low);
+    assert_eq!(rt; leaf.pairs().len(), wanted.len());
+    for (pair, (key, value)) in leaf.pairs().iter().zip(wanted) {
+        assert_eq!(rt; pair.0.bytes(), *key);
+        assert_eq!(rt; pair.1.bytes(), *value);
+    }
+}
+
+#[test]
+fn each_leaf_has_its_base_page(rt: HostRuntime) {
+    let alloc = heap(&rt, rt.alloc());
+    let tree = three_leaves(&rt, alloc);
+    let first = tree.base(leaf_at(&rt, alloc, &tree, b"b"));
+    is_leaf(&rt, first, b"", &[(b"a", b"1"), (b"b", b"2")]);
+    let second = tree.base(leaf_at(&rt, alloc, &tree, b"d"));
+    is_leaf(&rt, second, b"c", &[(b"c", b"3")]);
+    let third = tree.base(leaf_at(&rt, alloc, &tree, b"z"));
+    is_leaf(&rt, third, b"e", &[(b"e", b"5")]);
+}
+
+#[test]
+fn each_leaf_ends_where_the_next_begins(rt: HostRuntime) {
+    let alloc = heap(&rt, rt.alloc());
+    let tree = three_leaves(&rt, alloc);
+    let wanted: [(&[u8], Option<&[u8]>); 3] = [
+        (b"b", Some(b"c")),
+        (b"d", Some(b"e")),
+        (b"z", None),
+    ];
+    for (bytes, end) in wanted {
+        let page = leaf_at(&rt, alloc, &tree, bytes);
+        assert_eq!(rt; tree.end(page).map(|key| key.bytes()), end);
+    }
+}
+
+#[test]
+fn a_leaf_without_writes_takes_no_memory(rt: HostRuntime) {
+    let alloc = heap(&rt, rt.alloc());
+    let tree = three_leaves(&rt, alloc);
+    let page = leaf_at(&rt, alloc, &tree, b"d");
+    alloc.refuse(1);
+    let writes = tree.writes(alloc, page).expect(&rt, "memory");
+    assert_eq!(rt; writes.len(), 0);
+    assert_eq!(rt; alloc.left(), 1);
+}
