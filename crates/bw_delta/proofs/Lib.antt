@@ -7,4 +7,5 @@ pub mod Maps
 pub mod Foldings
 pub mod ContentsAsOf
 pub mod Readings
+pub mod Replays
 pub mod Stagings

@@ -1,5 +1,5 @@
 // The pairs of a page as of a stamp.
-ghost use Rattle.std.specs.Prelude.{◌≡◌, T, true, false, map, filter, IfOk, OnOk, Some, None, if◌then◌else◌};
+ghost use Rattle.std.specs.Prelude.{◌≡◌, ◌≤◌, T, true, false, drop, length, map, filter, IfOk, OnOk, Some, None, if◌then◌else◌};
 ghost use Rattle.std.specs.Option.{option_copied, option_or};
 ghost use Rattle.std.specs.FinMap.{find, is_sorted};
 ghost use Rattle.std.specs.BTreeMap as tree;
@@ -9,6 +9,7 @@ ghost use Rattle.bw_model.specs.Actions.{effect};
 ghost use Rattle.bw_delta.specs.Batches.{writes_to};
 ghost use Rattle.bw_delta.specs.History.{history, action_at, pointed_to, HasDistinctStamps};
 ghost use Rattle.bw_delta.specs.Pairs.{ArePairsAsOf, parts_of, value_in};
+ghost use Rattle.bw_delta.specs.Readings.{from_stamp};
 ghost use Rattle.bw_delta.specs.Rising.{HasRisingStamps};
 
 use crate::reading::{copied, in_order};
@@ -44,8 +45,8 @@ pub fn leaf_as_of(
     in_range(alloc, values, low, high)
 }
 
-// Puts the pairs of the parts whose keys are in a range in a map, of two with one key that of the first part.
-fn put_parts(
+/// Puts the pairs of the parts whose keys are in a range in a map, of two with one key that of the first part.
+pub(crate) fn put_parts(
     values: &mut BTreeMap<Key, Value, Alloc>,
     parts: &[&Leaf],
     low: &Key,
@@ -98,22 +99,24 @@ fn put_pair(
     set(values, &pair.0, Some(pair.1.copy()?))
 }
 
-// Lets the writes below a stamp have their effects.
-fn put_writes(
+/// Lets the writes below a stamp have their effects, and answers how many they are.
+pub(crate) fn put_writes(
     values: &mut BTreeMap<Key, Value, Alloc>,
     writes: &[&Write],
     stamp: u64,
-) -> Result<(), Memory>
+) -> Result<usize, Memory>
     requires { HasRisingStamps 0 (pointed_to writes.now) }
-    ensures { OnOk result ((q : KeyBytes) → tree.get key_cmp values.new q ≡ history (tree.get key_cmp values.old q) (action_at (writes_to q (pointed_to writes.now))) stamp) }
+    ensures values { OnOk result ((q : KeyBytes) → tree.get key_cmp values.new q ≡ history (tree.get key_cmp values.old q) (action_at (writes_to q (pointed_to writes.now))) stamp) }
+    ensures rest { IfOk result (λ passed. pointed_to (drop passed writes.now) ≡ from_stamp stamp (pointed_to writes.now)) }
+    ensures bound { IfOk result (λ passed. passed ≤ length writes.now) }
 {
-    for write in writes {
+    for (at, write) in writes.iter().enumerate() {
         if write.stamp >= stamp {
-            return Ok(());
+            return Ok(at);
         }
         put_write(values, write)?;
     }
-    Ok(())
+    Ok(writes.len())
 }
 
 // Lets a write have its effect.

@@ -10,6 +10,7 @@ mod deltas;
 mod folding;
 mod laws;
 mod reading;
+mod replay;
 #[cfg(test)]
 mod tests;
 mod writes;
@@ -19,6 +20,7 @@ pub use deltas::Delta;
 pub use folding::leaf_as_of;
 pub use laws::{batch_is_read_in_turn, contents_are_history};
 pub use reading::{Reading, in_order, value_as_of};
+pub use replay::Replay;
 pub use writes::Write;
 
 /// The operations of a batch, the replies to them, and what a write does.

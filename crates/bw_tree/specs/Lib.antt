@@ -9,5 +9,6 @@ pub mod Trees
 pub mod Stages
 pub mod Scans
 pub mod Before
+pub mod Replaying
 pub mod Making
 pub mod Folding

@@ -215,24 +215,17 @@ impl Chains {
         }
     }
 
-    /// The pairs of a leaf as of a stamp, from a key on and below another: those of its base page, under the writes
-    /// of its chain.
-    pub(crate) fn pairs_as_of(
-        &self,
-        alloc: Alloc,
-        head: u64,
-        low: &Key,
-        high: Option<&Key>,
-        stamp: u64,
-    ) -> Result<Pairs, Memory>
+    /// The pairs of a leaf as of stamp 0, which go on to later stamps: those of its base page, under the writes of its
+    /// chain.
+    pub(crate) fn replay(&self, alloc: Alloc, head: u64) -> Result<Replay<'_>, Memory>
         requires ends { Ends self.now.bases self.now.records head }
         requires leaf { is_leaf (slot_of_word self.now.bases self.now.records head) ≡ true }
         requires distinct { HasDistinctStamps (writes_over (slot_of_word self.now.bases self.now.records head)) }
-        ensures { IfOk result (ArePairsOn (slot_of_word self.now.bases self.now.records head) low.now (option_copied high.entry) stamp) }
+        ensures stamp { IfOk result (λ replay. replay.stamp ≡ 0) }
+        ensures replay { IfOk result (IsLeafReplay (slot_of_word self.now.bases self.now.records head)) }
     {
         let writes = self.writes(alloc, head)?;
-        let end = lower_end(self.end(head).0, high);
-        leaf_as_of(alloc, &[self.base_leaf(head)], low, end, &writes, stamp)
+        Replay::new(alloc, &[self.base_leaf(head)], self.end(head).0, &writes)
     }
 
     /// Where a leaf's range begins.
@@ -289,8 +282,8 @@ fn end_over(delta: &Delta) -> (Option<&Key>, Option<PageId>)
     }
 }
 
-// The upper end of the keys that are below both ends.
-fn lower_end<'a>(left: Option<&'a Key>, right: Option<&'a Key>) -> Option<&'a Key>
+/// The upper end of the keys that are below both ends.
+pub(crate) fn lower_end<'a>(left: Option<&'a Key>, right: Option<&'a Key>) -> Option<&'a Key>
     ensures { (key : KeyBytes) → is_below_end (option_copied result) key ≡ (is_below_end (option_copied left.entry) key && is_below_end (option_copied right.entry) key) }
 {
     match (left, right) {

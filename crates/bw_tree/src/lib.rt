@@ -7,11 +7,13 @@
 
 mod chains;
 mod making;
+mod scans;
 mod staging;
 #[cfg(test)]
 mod tests;
 mod tree;
 
+pub use scans::Scans;
 pub use staging::Staged;
 pub use tree::Tree;
 

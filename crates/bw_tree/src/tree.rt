@@ -10,9 +10,10 @@ ghost use Rattle.bw_model.specs.Contents.{first_of_range, is_below_end, last_of_
 
 use crate::chains::{Chains, FLOOR, Turn, reaches};
 use crate::making::{base_pages, separators, words};
+use crate::scans::Scans;
 use crate::staging::{Stage, Staged};
 use bw_board::Closed;
-use bw_delta::{Arena, Write, value_as_of};
+use bw_delta::{Arena, Replay, Write, value_as_of};
 use bw_key::{Key, Memory};
 use bw_memory::Alloc;
 use bw_model::{Op, Pairs, Value};
@@ -50,12 +51,13 @@ impl Model for Tree {
 
 impl Tree {
     ghost use Rattle.bw_tree.specs.Slots.{slot_at, is_leaf, side_of_slot};
-    ghost use Rattle.bw_tree.specs.Levels.{IsHome, row};
+    ghost use Rattle.bw_tree.specs.Levels.{AreLevels, IsHome, row};
     ghost use Rattle.bw_tree.specs.Reading.{base_of, value_in, writes_over};
     ghost use Rattle.bw_tree.specs.Turns.{IsTurn, StartsUpto, bare};
     ghost use Rattle.bw_tree.specs.Trees.{IsTree};
-    ghost use Rattle.bw_tree.specs.View.{contents_at, contents_with, staged_writes};
-    ghost use Rattle.bw_tree.specs.Scans.{Reaches, high_of, is_on};
+    ghost use Rattle.bw_tree.specs.View.{contents_at, contents_with, row_writes, staged_writes};
+    ghost use Rattle.bw_tree.specs.Replaying.{IsLeafReplay};
+    ghost use Rattle.bw_tree.specs.Scans.{Reaches, high_of};
     ghost use Rattle.bw_tree.specs.Before.{IsBefore, IsLinked, StandsForAt, StartsBelow, low_of};
     ghost use Rattle.bw_tree.specs.Stages.{IsPostedStage, IsStagedAs, accepted, adopted, is_adopted, staged_on, undone, writes_with};
     ghost use Rattle.bw_model.specs.Model.{contents_after};
@@ -346,9 +348,9 @@ impl Tree {
     /// `to`, and no more than `most` of them.
     ///
     /// From the leaf of `from` on it reads leaf after leaf along the side links, until there are enough pairs or a leaf
-    /// ends the range. Of each leaf it reads all pairs of the range, whatever `most` is, and sorts the writes of its
-    /// chain: `leaf_as_of` has the cost. Memory is taken for the pairs that are read and for one leaf more, and none by
-    /// `most`. `Memory` is answered where a list, a map or a copy finds none.
+    /// ends the range. Each of these leaves is put in an ordered map as of the stamp, whatever `most` is; `Scans` does
+    /// so once for many scans. Memory is taken for a leaf and for the pairs that are answered, and none by `most`.
+    /// `Memory` is answered where a list, a map or a copy finds none.
     pub fn scan_at(
         &self,
         from: &Key,
@@ -358,9 +360,7 @@ impl Tree {
     ) -> Result<Pairs, Memory>
         ensures { IfOk result (λ pairs. pairs ≡ first_of_range (contents_at self.now stamp) from.now (option_copied to.entry) most) }
     {
-        let mut pairs = self.read_range(from, to, most, stamp)?;
-        pairs.truncate(first(pairs.len(), most));
-        Ok(Pairs::from_vec(pairs))
+        Scans::new(*self.heads.allocator(), self).scan(from, to, most, stamp)
     }
 
     /// The last pairs of a range of keys as of a stamp, the greatest key first: those from `from` on and below `to`,
@@ -378,62 +378,29 @@ impl Tree {
     ) -> Result<Pairs, Memory>
         ensures { IfOk result (λ pairs. pairs ≡ last_of_range (contents_at self.now stamp) from.now (option_copied to.entry) most) }
     {
-        if !is_below(from, to) {
-            return Ok(Pairs::from_vec(Vec::new(*self.heads.allocator())));
-        }
-        let mut pairs = self.read_back(from, to, most, stamp)?;
-        pairs.truncate(first(pairs.len(), most));
-        Ok(Pairs::from_vec(pairs))
+        Scans::new(*self.heads.allocator(), self).scan_back(from, to, most, stamp)
     }
 
-    // The pairs of a range as of a stamp, in the order of their keys, those of whole leaves: all, or at least so many.
-    fn read_range(
-        &self,
-        from: &Key,
-        to: Option<&Key>,
-        most: u64,
-        stamp: u64,
-    ) -> Result<Vec<(Key, Value), Alloc>, Memory>
-        ensures { IfOk result (λ read. take most read.items ≡ first_of_range (contents_at self.now stamp) from.now (option_copied to.entry) most) }
-    {
-        let mut read = Vec::new(*self.heads.allocator());
-        let mut page = self.route(from);
-        loop {
-            self.read_leaf(page, from, to, stamp, &mut read)?;
-            let Some(next) = self.leaf_after(page, to) else {
-                return Ok(read);
-            };
-            if read.len() as u64 >= most {
-                return Ok(read);
-            }
-            page = next;
-        }
-    }
-
-    // Adds the pairs of a range that lie on a leaf, as of a stamp.
-    fn read_leaf(
-        &self,
-        page: PageId,
-        from: &Key,
-        to: Option<&Key>,
-        stamp: u64,
-        read: &mut Vec<(Key, Value), Alloc>,
-    ) -> Result<(), Memory>
+    /// The pairs of a leaf as of stamp 0, which go on to later stamps.
+    pub(crate) fn replay(&self, alloc: Alloc, page: PageId) -> Result<Replay<'_>, Memory>
         requires { Contains (row self.now.levels 0) page }
-        ensures { OnOk result (read.new.items ≡ read.old.items ++ where_key key_cmp (is_on (slot_at self.now.slots page)) (pairs_of_range (contents_at self.now stamp) from.now (option_copied to.entry))) }
+        ensures stamp { IfOk result (λ replay. replay.stamp ≡ 0) }
+        ensures replay { IfOk result (IsLeafReplay (slot_at self.now.slots page)) }
     {
-        let head = self.heads[page.0 as usize];
-        let alloc = *self.heads.allocator();
-        let mut pairs = self
-            .chains
-            .pairs_as_of(alloc, head, from, to, stamp)?
-            .into_vec();
-        read.append(&mut pairs)?;
-        Ok(())
+        self.chains.replay(alloc, self.heads[page.0 as usize])
     }
 
-    // The right neighbour of a leaf, where the leaf doesn't reach the end of a range.
-    fn leaf_after(&self, page: PageId, to: Option<&Key>) -> Option<PageId>
+    /// What a scan knows of the levels: they are lawful, and no two writes over the leaves have one stamp. It does nothing.
+    pub(crate) fn know_levels(&self)
+        ensures lawful { AreLevels self.now.slots self.now.root self.now.levels }
+        ensures distinct { HasDistinctStamps (row_writes self.now.slots (row self.now.levels 0)) }
+    {
+        // A look at a field is what makes the type's rule known here.
+        let _ = &self.root;
+    }
+
+    /// The right neighbour of a leaf, where the leaf doesn't reach the end of a range.
+    pub(crate) fn leaf_after(&self, page: PageId, to: Option<&Key>) -> Option<PageId>
         requires { Contains (row self.now.levels 0) page }
         ensures { MatchOption result (Reaches (high_of (slot_at self.now.slots page)) (option_copied to.entry)) (λ next. side_of_slot (slot_at self.now.slots page) ≡ Some next) }
     {
@@ -444,63 +411,17 @@ impl Tree {
         side
     }
 
-    // The pairs of a range as of a stamp, the greatest key first, those of whole leaves: all, or at least so many.
-    fn read_back(
-        &self,
-        from: &Key,
-        to: Option<&Key>,
-        most: u64,
-        stamp: u64,
-    ) -> Result<Vec<(Key, Value), Alloc>, Memory>
-        requires { T (is_below_end (option_copied to) from.now) }
-        ensures { IfOk result (λ read. take most read.items ≡ last_of_range (contents_at self.now stamp) from.now (option_copied to.entry) most) }
-    {
-        let mut read = Vec::new(*self.heads.allocator());
-        let mut end = to;
-        loop {
-            let page = self.route_before(end);
-            self.read_leaf_back(page, from, end, stamp, &mut read)?;
-            let low = self.low(page);
-            if *low <= *from {
-                return Ok(read);
-            }
-            if read.len() as u64 >= most {
-                return Ok(read);
-            }
-            end = Some(low);
-        }
-    }
-
-    // Adds the pairs of a range that lie on a leaf, as of a stamp, the greatest key first.
-    fn read_leaf_back(
-        &self,
-        page: PageId,
-        from: &Key,
-        to: Option<&Key>,
-        stamp: u64,
-        read: &mut Vec<(Key, Value), Alloc>,
-    ) -> Result<(), Memory>
-        requires { Contains (row self.now.levels 0) page }
-        ensures { OnOk result (read.new.items ≡ read.old.items ++ reverse (where_key key_cmp (is_on (slot_at self.now.slots page)) (pairs_of_range (contents_at self.now stamp) from.now (option_copied to.entry)))) }
-    {
-        let mut pairs = Vec::new(*self.heads.allocator());
-        self.read_leaf(page, from, to, stamp, &mut pairs)?;
-        pairs.reverse();
-        read.append(&mut pairs)?;
-        Ok(())
-    }
-
-    // Where a leaf's range begins.
-    fn low(&self, page: PageId) -> &Key
+    /// Where a leaf's range begins.
+    pub(crate) fn low(&self, page: PageId) -> &Key
         requires { Contains (row self.now.levels 0) page }
         ensures { result.now ≡ low_of (slot_at self.now.slots page) }
     {
         self.chains.low(self.heads[page.0 as usize])
     }
 
-    // The leaf whose range has the keys right below an end: the search is that of `route`, by the greatest separator
-    // below the end.
-    fn route_before(&self, end: Option<&Key>) -> PageId
+    /// The leaf whose range has the keys right below an end: the search is that of `route`, by the greatest separator
+    /// below the end.
+    pub(crate) fn route_before(&self, end: Option<&Key>) -> PageId
         requires { T (is_below_end (option_copied end) []) }
         ensures { IsBefore self.now.slots self.now.levels (option_copied end.entry) result }
     {
@@ -524,18 +445,4 @@ impl Tree {
     {
         self.chains.turn_before(self.heads[page.0 as usize], end)
     }
-}
-
-// Whether a key is below the end of a range.
-fn is_below(key: &Key, end: Option<&Key>) -> bool
-    ensures { result ≡ is_below_end (option_copied end.entry) key.now }
-{
-    end.is_none_or(|end| *key < *end)
-}
-
-// How many of so many pairs a scan answers.
-fn first(pairs: usize, most: u64) -> usize
-    ensures { result ≡ min pairs most }
-{
-    (pairs as u64).min(most) as usize
 }

@@ -26,7 +26,7 @@ latest c q inside =
     let parts = value_in (parts_of c.args.parts.now) q in
     let base = tree.get key_cmp c.put_parts.new.values q in
     let is_base = c.in_ok-put_parts.ensures.inside q inside ∙ ap (λ (es : List Pair). option_or parts (lookup (tree.is_at (key_cmp q)) es)) c.new-values.ensures.empty ∙ or_none parts in
-    c.in_ok-put_writes.ensures q
+    c.in_ok-put_writes.ensures.values q
     ∙ ap (λ (l : List (Bor WriteView)). history base (action_at (writes_to q (pointed_to l))) stamp) c.deref.ensures.value
     ∙ same_history base (action_at (writes_to q ordered)) (action_at (writes_to q given)) stamp (λ t lt. same_filtered (λ w. key_eq q w.key) given ordered t c.in_ok-ordered.ensures.same c.requires)
     ∙ ap (λ (v : Option ValueBytes). history v (action_at (writes_to q given)) stamp) is_base
