@@ -64,13 +64,6 @@ module _ (heads : List ℕ) (bases : Bases) (records : Records) (root next bound
         distinct = subst (λ (o : Slot). HasDistinctStamps (writes_over o)) at.slot (page_distinct tree.slots (row tree.levels 0) p has distinct_here);
       }
 
-  -- the pairs of a leaf's chain, behind those that were read before
-  pub leaf_read : (p head stamp : ℕ) (from : KeyBytes) (to : Option KeyBytes) (pairs old new : List (KeyBytes × ValueBytes)) → Contains (row tree.levels 0) p → head ≡ get_or heads p head →
-      ArePairsOn (slot_of_word bases records head) from to stamp pairs → new ≡ old ++ pairs → new ≡ old ++ where_key key_cmp (is_on (slot_at tree.slots p)) (pairs_of_range (contents_at tree stamp) from to)
-  leaf_read p head stamp from to pairs old new has read so more =
-      more ∙ ap (λ (l : List (KeyBytes × ValueBytes)). old ++ l)
-      (leaf_pairs tree.slots root tree.levels lawful_here distinct_here stamp p from to pairs has (subst (λ (o : Slot). ArePairsOn o from to stamp pairs) (sym (leaf_at p head has read).slot) so))
-
   -- a leaf without a right neighbour has no end
   pub side_or_end : (p : ℕ) (side : Option ℕ) (to : Option KeyBytes) → Contains (row tree.levels 0) p → side ≡ side_of_slot (slot_at tree.slots p) →
       MatchOption side (Reaches (high_of (slot_at tree.slots p)) to) (λ next. side_of_slot (slot_at tree.slots p) ≡ Some next)
@@ -92,29 +85,3 @@ module _ (heads : List ℕ) (bases : Bases) (records : Records) (root next bound
           from : (h : Option KeyBytes) → at.high ≡ h → Reaches (high_of (slot_at tree.slots p)) to
           from None none = λ key below. subst (λ (o : Option KeyBytes). T (is_below_end o key)) (sym (high_is ∙ none)) tt
           from (Some k) some = let g = at.goes_on k some in absurd (no_side (side_is ∙ g.1))
-
-  module _ (stamp : ℕ) (from : KeyBytes) (to : Option KeyBytes) where
-    range_sorted : T (is_sorted key_cmp (pairs_of_range (contents_at tree stamp) from to))
-    range_sorted = sorted_in_range from to (entries (contents_at tree stamp)) (entries_sorted (contents_at tree stamp))
-
-    abbrev pub all_pairs : List (KeyBytes × ValueBytes)
-    all_pairs = pairs_of_range (contents_at tree stamp) from to
-
-    pub begins : (p : ℕ) (read : List (KeyBytes × ValueBytes)) → read ≡ [] → IsHome tree.slots tree.levels from p → Scanning tree.slots tree.levels all_pairs read p
-    begins p read none home =
-        subst (λ (l : List (KeyBytes × ValueBytes)). Scanning tree.slots tree.levels all_pairs l p) (sym none)
-        (begins_scan tree.slots root tree.levels lawful_here distinct_here stamp from to p home)
-
-    has_passed : (p : ℕ) (found new : List (KeyBytes × ValueBytes)) → Scanning tree.slots tree.levels all_pairs found p → new ≡ found ++ where_key key_cmp (is_on (slot_at tree.slots p)) all_pairs → HasPassed tree.slots all_pairs new p
-    has_passed p found new h more = passes tree.slots root tree.levels lawful_here all_pairs found new p range_sorted h more
-
-    pub ends_read : (p most : ℕ) (found new : List (KeyBytes × ValueBytes)) → Scanning tree.slots tree.levels all_pairs found p → new ≡ found ++ where_key key_cmp (is_on (slot_at tree.slots p)) all_pairs → Reaches (high_of (slot_at tree.slots p)) to →
-        take most new ≡ take most all_pairs
-    ends_read p most found new h more reaches = ap (take most) (ends_scan tree.slots root tree.levels lawful_here distinct_here stamp from to p new (has_passed p found new h more) reaches)
-
-    pub is_enough_read : (p most : ℕ) (found new : List (KeyBytes × ValueBytes)) → Scanning tree.slots tree.levels all_pairs found p → new ≡ found ++ where_key key_cmp (is_on (slot_at tree.slots p)) all_pairs → most ≤ length new → take most new ≡ take most all_pairs
-    is_enough_read p most found new h more enough = enough_read tree.slots all_pairs new p most (has_passed p found new h more) range_sorted enough
-
-    pub next_read : (p q : ℕ) (found new : List (KeyBytes × ValueBytes)) → Scanning tree.slots tree.levels all_pairs found p → new ≡ found ++ where_key key_cmp (is_on (slot_at tree.slots p)) all_pairs →
-        side_of_slot (slot_at tree.slots p) ≡ Some q → NextLeaf tree.slots tree.levels all_pairs new p q
-    next_read p q found new h more step = goes_on tree.slots root tree.levels lawful_here all_pairs new p q h.has (has_passed p found new h more) step

@@ -17,6 +17,7 @@ pub mod PageScanLemmas
 pub mod RangeLemmas
 pub mod ScanLemmas
 pub mod LeafScanLemmas
+pub mod ReplayLemmas
 pub mod MakingLemmas
 pub mod OverLemmas
 pub mod GrowthLemmas

@@ -14,7 +14,8 @@ use Rattle.bw_page.specs.declared.pages.Page.TheVariants.{Leaf as LeafPage}
 use Rattle.bw_delta.specs.Writes.{WriteView}
 use Rattle.bw_delta.specs.Batches.{writes_to}
 use Rattle.bw_delta.specs.History.{history, action_at, pointed_to}
-use Rattle.bw_delta.specs.Pairs.{ArePairsAsOf}
+use Rattle.bw_delta.specs.Pairs.{ArePairsAsOf, value_in as part_value}
+use Rattle.bw_delta.specs.Replays.{ReplayView, IsReplayOf}
 use Rattle.bw_delta.specs.declared.deltas.Delta.{Delta}
 use Rattle.bw_delta.specs.declared.deltas.Delta.TheVariants.{Put}
 use Rattle.bw_tree.specs.Slots.{Slot, Free, Gone, Live, is_leaf}
@@ -22,6 +23,7 @@ use Rattle.bw_tree.specs.Walk.{walked}
 use Rattle.bw_tree.specs.Chains.{Bases, Records, Ends, record_at, link_of, change, plain, slot_of_word}
 use Rattle.bw_tree.specs.Turns.{bare, over, plain_at, IsNoWrite}
 use Rattle.bw_tree.specs.Reading.{EndsAbove, base_of, writes_over, value_in}
+use Rattle.bw_tree.specs.Replaying.{IsLeafReplay}
 use Rattle.bw_tree.specs.Scans.{ArePairsOn, high_of}
 use Rattle.bw_tree.proofs.ChainLemmas.{Below, under}
 use Rattle.bw_tree.proofs.ReadingLemmas.{leaf_put, writes_put, base_through}
@@ -122,6 +124,26 @@ pub pairs_on_ok : {E : Type 0} (slot : Slot) (leaf : LeafView ValueBytes) (write
     IfOk r (ArePairsAsOf (leaf ∷ []) low end writes stamp) → IfOk r (ArePairsOn slot low high stamp)
 pairs_on_ok slot leaf writes low high end stamp (Ok pairs) all ends base so = pairs_on slot leaf writes low high end stamp pairs all ends base so
 pairs_on_ok slot leaf writes low high end stamp (Err e) all ends base so = so
+
+-- the base leaf under all writes is replayed as the page
+pub replayed_leaf : (slot : Slot) (leaf : LeafView ValueBytes) (writes : List WriteView) (end : Option KeyBytes) (replay : ReplayView) → writes ≡ writes_over slot → end ≡ high_of slot →
+    ((key : KeyBytes) → EndsAbove slot key → base_of slot key ≡ find key_cmp key leaf.pairs) → IsReplayOf (part_value (leaf ∷ [])) end writes replay → IsLeafReplay slot replay
+replayed_leaf slot leaf writes end replay all ends base so = record {
+  rising = so.rising;
+  values = λ key stamp below le.
+      so.values key stamp (subst (λ (o : Option KeyBytes). T (is_below_end o key)) (sym ends) below) le
+      ∙ ap (λ o. history o (action_at (writes_to key writes)) stamp) (first_part (find key_cmp key leaf.pairs) ∙ sym (base key (ends_above slot key (holds _ below))))
+      ∙ ap (λ (l : List WriteView). history (base_of slot key) (action_at (writes_to key l)) stamp) all;
+}
+  where
+    holds : (b : Bool) → T b → b ≡ true
+    holds true t = refl
+    holds false t = absurd t
+
+pub replayed_leaf_ok : {E : Type 0} (slot : Slot) (leaf : LeafView ValueBytes) (writes : List WriteView) (end : Option KeyBytes) (r : Result ReplayView E) → writes ≡ writes_over slot → end ≡ high_of slot →
+    ((key : KeyBytes) → EndsAbove slot key → base_of slot key ≡ find key_cmp key leaf.pairs) → IfOk r (IsReplayOf (part_value (leaf ∷ [])) end writes) → IfOk r (IsLeafReplay slot)
+replayed_leaf_ok slot leaf writes end (Ok replay) all ends base so = replayed_leaf slot leaf writes end replay all ends base so
+replayed_leaf_ok slot leaf writes end (Err e) all ends base so = so
 
 -- what lies under the writes of a chain over a base leaf
 pub base_on : (bases : Bases) (slot : Slot) (o : Option (Bor Delta)) (page : Option (Bor Page)) (b : Bor Page) (leaf : LeafView ValueBytes) → page ≡ Some b → b.now ≡ LeafPage leaf → bare slot ≡ bare (over bases o (plain_at page)) → IsNoWrite o →

@@ -1,5 +1,7 @@
 -- Scans of a tree, one after another.
 use Rattle.std.specs.Prelude.{◌≡◌, ℕ, Option, Some}
+use Rattle.std.specs.BTreeMap as kept
+use Rattle.std.specs.Ordering.{nat_cmp}
 use Rattle.bw_delta.specs.Replays.{ReplayView, IsReplayOf}
 use Rattle.bw_tree.specs.Slots.{Slot, slot_at}
 use Rattle.bw_tree.specs.Reading.{base_of, writes_over}
@@ -15,5 +17,5 @@ pub record ScansView : Type 0 where
   pub tree : TreeView
 
 -- each is the replay of the leaf that it is kept for
-abbrev pub AreLeafReplays : TreeView → (ℕ → Option ReplayView) → Type 0
-AreLeafReplays tree kept = (p : ℕ) (replay : ReplayView) → kept p ≡ Some replay → IsLeafReplay (slot_at tree.slots p) replay
+abbrev pub AreLeafReplays : TreeView → kept.BTreeMap ℕ ReplayView → Type 0
+AreLeafReplays tree replays = (p : ℕ) (replay : ReplayView) → kept.get nat_cmp replays p ≡ Some replay → IsLeafReplay (slot_at tree.slots p) replay

@@ -12,12 +12,13 @@ ghost use Rattle.bw_page.specs.Inners.{IsLastUpto};
 ghost use Rattle.bw_tree.specs.Slots.{Slot, is_leaf, side_of_slot};
 ghost use Rattle.bw_tree.specs.Reading.{EndsAbove, base_of, writes_over};
 ghost use Rattle.bw_tree.specs.Chains.{Bases, Ends, IsPut, IsWrite, based, change, plain, record_at, slot_of_word};
+ghost use Rattle.bw_tree.specs.Replaying.{IsLeafReplay};
 ghost use Rattle.bw_tree.specs.Scans.{ArePairsOn, EndsBelow, Reaches, high_of};
 ghost use Rattle.bw_tree.specs.Before.{ChildrenStandFor, IsLinked, StandsFor, StandsForAt, StartsBelow, count_below, low_of};
 ghost use Rattle.bw_tree.specs.Turns.{IsTurn, IsNoWrite, IsOther, IsWithin, StartsUpto, bare, over, plain_at};
 
 use crate::staging::append_writes;
-use bw_delta::{Arena, Delta, Write, leaf_as_of};
+use bw_delta::{Arena, Delta, Replay, Write, leaf_as_of};
 use bw_key::{Key, Memory};
 use bw_memory::Alloc;
 use bw_model::{Op, Pairs, Value};
@@ -213,6 +214,26 @@ impl Chains {
             (None, Some(Page::Leaf(leaf))) => (leaf.high(), leaf.side()),
             (None, _) => unreachable!(),
         }
+    }
+
+    /// The pairs of a leaf as of a stamp, from a key on and below another: those of its base page, under the writes
+    /// of its chain.
+    pub(crate) fn pairs_as_of(
+        &self,
+        alloc: Alloc,
+        head: u64,
+        low: &Key,
+        high: Option<&Key>,
+        stamp: u64,
+    ) -> Result<Pairs, Memory>
+        requires ends { Ends self.now.bases self.now.records head }
+        requires leaf { is_leaf (slot_of_word self.now.bases self.now.records head) ≡ true }
+        requires distinct { HasDistinctStamps (writes_over (slot_of_word self.now.bases self.now.records head)) }
+        ensures { IfOk result (ArePairsOn (slot_of_word self.now.bases self.now.records head) low.now (option_copied high.entry) stamp) }
+    {
+        let writes = self.writes(alloc, head)?;
+        let end = lower_end(self.end(head).0, high);
+        leaf_as_of(alloc, &[self.base_leaf(head)], low, end, &writes, stamp)
     }
 
     /// The pairs of a leaf as of stamp 0, which go on to later stamps: those of its base page, under the writes of its

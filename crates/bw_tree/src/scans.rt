@@ -35,15 +35,13 @@ pub struct Scans<'a> {
 }
 
 impl<'a> Model for Scans<'a> {
-    ghost use Rattle.std.specs.BTreeMap as tree;
-    ghost use Rattle.std.specs.Ordering.{nat_cmp};
     ghost use Rattle.bw_tree.specs.Replaying.{AreLeafReplays, ScansView};
 
     ghost Value = { ScansView };
 
     ghost view = { λ s. record { tree = s.tree.now } };
 
-    ghost invariant = { λ s. AreLeafReplays s.tree.now (tree.get nat_cmp s.replays) };
+    ghost invariant = { λ s. AreLeafReplays s.tree.now s.replays };
 }
 
 impl<'a> Scans<'a> {

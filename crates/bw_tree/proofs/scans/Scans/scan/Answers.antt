@@ -1,35 +1,75 @@
-use Rattle.std.proofs.Common.{arith}
+use Rattle.std.proofs.Common.{◌≡◌, ◌-◌, ◌++◌, List, length, take, refl, sym, ap, subst, Some, ◌∙◌, arith}
+use Rattle.std.specs.List.{Contains}
 use Rattle.std.specs.Option.{option_copied}
-use Rattle.bw_tree.proofs.LeafScanLemmas.{begins, ends_read, is_enough_read, next_read}
-use Rattle.bw_tree.proofs.tree.Tree.read_range.Goals as goal
+use Rattle.bw_delta.specs.History.{HasDistinctStamps}
+use Rattle.bw_model.specs.Contents.{pairs_of_range}
+use Rattle.bw_tree.specs.Levels.{AreLevels, row}
+use Rattle.bw_tree.specs.Replaying.{ScansView}
+use Rattle.bw_tree.specs.Scans.{Reaches, high_of}
+use Rattle.bw_tree.specs.Slots.{side_of_slot, slot_at}
+use Rattle.bw_tree.specs.View.{TreeView, contents_at, row_writes}
+use Rattle.bw_tree.proofs.ReplayLemmas.{HasRead, begins, ends_read, is_enough_read, next_read, leaf_of}
+use Rattle.bw_tree.proofs.scans.Scans.scan.Goals as goal
+
+abbrev Lawful : ScansView → Type 0
+Lawful v = AreLevels v.tree.slots v.tree.root v.tree.levels
+
+abbrev Distinct : ScansView → Type 0
+Distinct v = HasDistinctStamps (row_writes v.tree.slots (row v.tree.levels 0))
 
 pub loop-read-init : goal.loop-read-init
-loop-read-init c =
-    begins c.self.inside.heads.items c.self.inside.chains.bases c.self.inside.chains.records c.self.inside.root c.self.inside.next _ c.self.inside.staged _ c.self.view_is c.self.invariant.now c.args.stamp c.args.from.now (option_copied c.args.to)
-    c.route-page.result c.new-read.result.items c.new-read.ensures.items c.route-page.ensures.home
+loop-read-init c = record {
+  same = refl;
+  has_read =
+      subst (λ (v : ScansView). HasRead v.tree (pairs_of_range (contents_at v.tree c.args.stamp) c.args.from.now (option_copied c.args.to)) c.args.most c.new-read.result.items c.route-page.result) c.self.view_is
+      (begins c.self.inside.tree.now c.know_levels.ensures.lawful c.know_levels.ensures.distinct c.args.stamp c.args.most c.args.from.now (option_copied c.args.to) c.route-page.result c.new-read.result.items c.new-read.ensures.items c.route-page.ensures.home);
+}
 
 pub read_leaf-requires : goal.read_leaf-requires
-read_leaf-requires c = c.loop-read.invariant.has
+read_leaf-requires c = subst (λ (t : TreeView). Contains (row t.levels 0) c.loop-read.page) (sym c.loop-read.invariant.same) c.loop-read.invariant.has_read.scanning.has
 
-pub leaf_after-requires : goal.leaf_after-requires
-leaf_after-requires c = c.loop-read.invariant.has
+pub returns-in_default-clause-pairs : goal.returns-in_default-clause-pairs
+returns-in_default-clause-pairs c =
+    let tree = c.args.self.now.tree in
+    let lawful = subst Lawful c.self.view_is c.know_levels.ensures.lawful in
+    let distinct = subst Distinct c.self.view_is c.know_levels.ensures.distinct in
+    let read = c.loop-read.read.items in
+    c.from_vec.ensures
+    ∙ ends_read tree lawful distinct c.args.stamp c.args.most c.args.from.now (option_copied c.args.to) c.loop-read.page read c.read_leaf.new.read.items c.loop-read.invariant.has_read
+    (c.in_ok-read_leaf.ensures.read ∙ ap (λ (t : TreeView). read ++ take (c.args.most - length read) (leaf_of t c.args.stamp c.args.from.now (option_copied c.args.to) c.loop-read.page)) c.loop-read.invariant.same)
+    (subst (λ (v : ScansView). Reaches (high_of (slot_at v.tree.slots c.loop-read.page)) (option_copied c.args.to)) c.self.view_is c.in_default.ensures)
 
-pub returns-in_default : goal.returns-in_default
-returns-in_default c =
-    ends_read c.self.inside.heads.items c.self.inside.chains.bases c.self.inside.chains.records c.self.inside.root c.self.inside.next _ c.self.inside.staged _ c.self.view_is c.self.invariant.now c.args.stamp c.args.from.now (option_copied c.args.to)
-    c.loop-read.page c.args.most c.loop-read.read.items c.read_leaf.new.read.items c.loop-read.invariant c.in_ok-read_leaf.ensures c.in_default.ensures
-
-pub returns-then-len-most : goal.returns-then-len-most
-returns-then-len-most c =
-    is_enough_read c.self.inside.heads.items c.self.inside.chains.bases c.self.inside.chains.records c.self.inside.root c.self.inside.next _ c.self.inside.staged _ c.self.view_is c.self.invariant.now c.args.stamp c.args.from.now (option_copied c.args.to)
-    c.loop-read.page c.args.most c.loop-read.read.items c.read_leaf.new.read.items c.loop-read.invariant c.in_ok-read_leaf.ensures (omega (arith, c.if-len-most.true, c.len.ensures, c.read_leaf.new.read.ok))
+pub returns-then-len-most-clause-pairs : goal.returns-then-len-most-clause-pairs
+returns-then-len-most-clause-pairs c =
+    let tree = c.args.self.now.tree in
+    let lawful = subst Lawful c.self.view_is c.know_levels.ensures.lawful in
+    let distinct = subst Distinct c.self.view_is c.know_levels.ensures.distinct in
+    let read = c.loop-read.read.items in
+    c.from_vec-then-len-most.ensures
+    ∙ is_enough_read tree lawful distinct c.args.stamp c.args.most c.args.from.now (option_copied c.args.to) c.loop-read.page read c.read_leaf.new.read.items c.loop-read.invariant.has_read
+    (c.in_ok-read_leaf.ensures.read ∙ ap (λ (t : TreeView). read ++ take (c.args.most - length read) (leaf_of t c.args.stamp c.args.from.now (option_copied c.args.to) c.loop-read.page)) c.loop-read.invariant.same)
+    (omega (arith, c.if-len-most.true, c.len.ensures, c.read_leaf.new.read.ok))
 
 pub loop-read-smaller : goal.loop-read-smaller
 loop-read-smaller c =
-    (next_read c.self.inside.heads.items c.self.inside.chains.bases c.self.inside.chains.records c.self.inside.root c.self.inside.next _ c.self.inside.staged _ c.self.view_is c.self.invariant.now c.args.stamp c.args.from.now (option_copied c.args.to)
-    c.loop-read.page c.in-Some.next c.loop-read.read.items c.read_leaf.new.read.items c.loop-read.invariant c.in_ok-read_leaf.ensures c.in-Some.ensures).less
+    let tree = c.args.self.now.tree in
+    let lawful = subst Lawful c.self.view_is c.know_levels.ensures.lawful in
+    let distinct = subst Distinct c.self.view_is c.know_levels.ensures.distinct in
+    let read = c.loop-read.read.items in
+    (next_read tree lawful distinct c.args.stamp c.args.most c.args.from.now (option_copied c.args.to) c.loop-read.page c.in-Some.next read c.read_leaf.new.read.items c.loop-read.invariant.has_read
+    (c.in_ok-read_leaf.ensures.read ∙ ap (λ (t : TreeView). read ++ take (c.args.most - length read) (leaf_of t c.args.stamp c.args.from.now (option_copied c.args.to) c.loop-read.page)) c.loop-read.invariant.same)
+    (subst (λ (v : ScansView). side_of_slot (slot_at v.tree.slots c.loop-read.page) ≡ Some c.in-Some.next) c.self.view_is c.in-Some.ensures)).less
 
 pub loop-read-preserved : goal.loop-read-preserved
 loop-read-preserved c =
-    (next_read c.self.inside.heads.items c.self.inside.chains.bases c.self.inside.chains.records c.self.inside.root c.self.inside.next _ c.self.inside.staged _ c.self.view_is c.self.invariant.now c.args.stamp c.args.from.now (option_copied c.args.to)
-    c.loop-read.page c.in-Some.next c.loop-read.read.items c.read_leaf.new.read.items c.loop-read.invariant c.in_ok-read_leaf.ensures c.in-Some.ensures).scanning
+    let tree = c.args.self.now.tree in
+    let lawful = subst Lawful c.self.view_is c.know_levels.ensures.lawful in
+    let distinct = subst Distinct c.self.view_is c.know_levels.ensures.distinct in
+    let read = c.loop-read.read.items in
+    record {
+      same = c.in_ok-read_leaf.ensures.tree ∙ c.loop-read.invariant.same;
+      has_read =
+          (next_read tree lawful distinct c.args.stamp c.args.most c.args.from.now (option_copied c.args.to) c.loop-read.page c.in-Some.next read c.read_leaf.new.read.items c.loop-read.invariant.has_read
+          (c.in_ok-read_leaf.ensures.read ∙ ap (λ (t : TreeView). read ++ take (c.args.most - length read) (leaf_of t c.args.stamp c.args.from.now (option_copied c.args.to) c.loop-read.page)) c.loop-read.invariant.same)
+          (subst (λ (v : ScansView). side_of_slot (slot_at v.tree.slots c.loop-read.page) ≡ Some c.in-Some.next) c.self.view_is c.in-Some.ensures)).has_read;
+    }

@@ -1,38 +1,83 @@
-use Rattle.std.proofs.Common.{◌∙◌, sym, arith}
+use Rattle.std.proofs.Common.{◌≡◌, ◌-◌, ◌++◌, List, length, reverse, take, refl, sym, ap, subst, T, ◌∙◌, arith}
 use Rattle.std.specs.Option.{option_copied}
-use Rattle.bw_tree.specs.View.{contents_at}
+use Rattle.bw_tree.specs.Before.{IsBefore, low_of}
+use Rattle.bw_tree.specs.Replaying.{ScansView}
+use Rattle.bw_tree.specs.Slots.{slot_at}
+use Rattle.bw_tree.specs.View.{TreeView, contents_at}
 use Rattle.bw_tree.proofs.EndLemmas.{not_below, no_le}
-use Rattle.bw_tree.proofs.BackLemmas.{begins_back, least_below, passed_back, ends_back, enough_back, goes_back}
-use Rattle.bw_tree.proofs.tree.Tree.read_back.Goals as goal
+use Rattle.bw_tree.proofs.BackLemmas.{least_below, no_range}
+use Rattle.bw_tree.proofs.ReplayLemmas.{begins_at_end, is_back, ends_at_leaf, enough_at_leaf, goes_before, leaf_of}
+use Rattle.bw_tree.proofs.scans.Scans.scan_back.Goals as goal
+
+pub returns-then-not-is_below-clause-pairs : goal.returns-then-not-is_below-clause-pairs
+returns-then-not-is_below-clause-pairs c =
+    c.from_vec.ensures ∙ c.new-read.ensures.items
+    ∙ no_range (contents_at c.args.self.now.tree c.args.stamp) c.args.from.now (option_copied c.args.to) c.args.most c.if-not-is_below.ensures
 
 pub loop-read-init : goal.loop-read-init
-loop-read-init c = begins_back (contents_at c.args.self.now c.args.stamp) c.args.from.now (option_copied c.args.to) c.new-read.result.items c.new-read.ensures.items c.requires
+loop-read-init c = record {
+  same = refl;
+  has_read = begins_at_end c.args.self.now.tree c.args.stamp c.args.most c.args.from.now (option_copied c.args.to) c.new-read.result.items c.new-read.ensures.items (subst T c.if-not-is_below.ensures tt);
+}
 
 pub route_before-page-requires : goal.route_before-page-requires
-route_before-page-requires c = least_below (option_copied c.loop-read.end) c.args.from.now c.loop-read.invariant.starts
+route_before-page-requires c = least_below (option_copied c.loop-read.end) c.args.from.now c.loop-read.invariant.has_read.scanning.starts
 
-pub returns-then-le : goal.returns-then-le
-returns-then-le c =
-    let passed = passed_back c.args.self.now.slots c.args.self.now.levels (contents_at c.args.self.now c.args.stamp) c.args.from.now c.low-low.result.now (option_copied c.args.to) (option_copied c.loop-read.end) c.route_before-page.result
-    c.loop-read.read.items c.read_leaf_back.new.read.items c.route_before-page.ensures c.loop-read.invariant c.in_ok-read_leaf_back.ensures c.low-low.ensures in
-    ends_back (contents_at c.args.self.now c.args.stamp) c.args.from.now c.low-low.result.now (option_copied c.args.to) c.args.most c.read_leaf_back.new.read.items passed.so_far
+pub returns-then-le-clause-pairs : goal.returns-then-le-clause-pairs
+returns-then-le-clause-pairs c =
+    let read = c.loop-read.read.items in
+    let page = c.route_before-page.result in
+    let back =
+        is_back c.args.self.now.tree c.args.stamp c.args.most c.args.from.now (option_copied c.args.to) c.low-low.result.now (option_copied c.loop-read.end) page read c.read_leaf_back.new.read.items
+        (subst (λ (v : ScansView). IsBefore v.tree.slots v.tree.levels (option_copied c.loop-read.end) page) c.self.view_is c.route_before-page.ensures)
+        c.loop-read.invariant.has_read
+        (c.in_ok-read_leaf_back.ensures.read
+        ∙ ap (λ (t : TreeView). read ++ take (c.args.most - length read) (reverse (leaf_of t c.args.stamp c.args.from.now (option_copied c.loop-read.end) page))) c.loop-read.invariant.same)
+        (c.low-low.ensures ∙ ap (λ (v : ScansView). low_of (slot_at v.tree.slots page)) c.self.view_is) in
+    c.from_vec-then-le.ensures
+    ∙ ends_at_leaf c.args.self.now.tree c.args.stamp c.args.most c.args.from.now (option_copied c.args.to) c.low-low.result.now (option_copied c.loop-read.end) c.read_leaf_back.new.read.items back
     (not_below c.args.from.now c.low-low.result.now (sym c.le.ensures ∙ c.if-le.true))
 
-pub returns-then-len-most : goal.returns-then-len-most
-returns-then-len-most c =
-    let passed = passed_back c.args.self.now.slots c.args.self.now.levels (contents_at c.args.self.now c.args.stamp) c.args.from.now c.low-low.result.now (option_copied c.args.to) (option_copied c.loop-read.end) c.route_before-page.result
-    c.loop-read.read.items c.read_leaf_back.new.read.items c.route_before-page.ensures c.loop-read.invariant c.in_ok-read_leaf_back.ensures c.low-low.ensures in
-    enough_back (contents_at c.args.self.now c.args.stamp) c.args.from.now c.low-low.result.now (option_copied c.args.to) c.args.most c.read_leaf_back.new.read.items passed.so_far
+pub returns-then-len-most-clause-pairs : goal.returns-then-len-most-clause-pairs
+returns-then-len-most-clause-pairs c =
+    let read = c.loop-read.read.items in
+    let page = c.route_before-page.result in
+    let back =
+        is_back c.args.self.now.tree c.args.stamp c.args.most c.args.from.now (option_copied c.args.to) c.low-low.result.now (option_copied c.loop-read.end) page read c.read_leaf_back.new.read.items
+        (subst (λ (v : ScansView). IsBefore v.tree.slots v.tree.levels (option_copied c.loop-read.end) page) c.self.view_is c.route_before-page.ensures)
+        c.loop-read.invariant.has_read
+        (c.in_ok-read_leaf_back.ensures.read
+        ∙ ap (λ (t : TreeView). read ++ take (c.args.most - length read) (reverse (leaf_of t c.args.stamp c.args.from.now (option_copied c.loop-read.end) page))) c.loop-read.invariant.same)
+        (c.low-low.ensures ∙ ap (λ (v : ScansView). low_of (slot_at v.tree.slots page)) c.self.view_is) in
+    c.from_vec-then-len-most.ensures
+    ∙ enough_at_leaf c.args.self.now.tree c.args.stamp c.args.most c.args.from.now (option_copied c.args.to) c.low-low.result.now (option_copied c.loop-read.end) c.read_leaf_back.new.read.items back
     (omega (arith, c.if-len-most.true, c.len.ensures, c.read_leaf_back.new.read.ok))
 
 pub loop-read-smaller : goal.loop-read-smaller
 loop-read-smaller c =
-    (passed_back c.args.self.now.slots c.args.self.now.levels (contents_at c.args.self.now c.args.stamp) c.args.from.now c.low-low.result.now (option_copied c.args.to) (option_copied c.loop-read.end) c.route_before-page.result
-    c.loop-read.read.items c.read_leaf_back.new.read.items c.route_before-page.ensures c.loop-read.invariant c.in_ok-read_leaf_back.ensures c.low-low.ensures).less
+    let read = c.loop-read.read.items in
+    let page = c.route_before-page.result in
+    let back =
+        is_back c.args.self.now.tree c.args.stamp c.args.most c.args.from.now (option_copied c.args.to) c.low-low.result.now (option_copied c.loop-read.end) page read c.read_leaf_back.new.read.items
+        (subst (λ (v : ScansView). IsBefore v.tree.slots v.tree.levels (option_copied c.loop-read.end) page) c.self.view_is c.route_before-page.ensures)
+        c.loop-read.invariant.has_read
+        (c.in_ok-read_leaf_back.ensures.read
+        ∙ ap (λ (t : TreeView). read ++ take (c.args.most - length read) (reverse (leaf_of t c.args.stamp c.args.from.now (option_copied c.loop-read.end) page))) c.loop-read.invariant.same)
+        (c.low-low.ensures ∙ ap (λ (v : ScansView). low_of (slot_at v.tree.slots page)) c.self.view_is) in
+    back.passed.less
 
 pub loop-read-preserved : goal.loop-read-preserved
 loop-read-preserved c =
-    let passed = passed_back c.args.self.now.slots c.args.self.now.levels (contents_at c.args.self.now c.args.stamp) c.args.from.now c.low-low.result.now (option_copied c.args.to) (option_copied c.loop-read.end) c.route_before-page.result
-    c.loop-read.read.items c.read_leaf_back.new.read.items c.route_before-page.ensures c.loop-read.invariant c.in_ok-read_leaf_back.ensures c.low-low.ensures in
-    goes_back (contents_at c.args.self.now c.args.stamp) c.args.from.now c.low-low.result.now (option_copied c.args.to) (option_copied c.loop-read.end) c.loop-read.read.items c.read_leaf_back.new.read.items c.loop-read.invariant passed.starts
-    (no_le c.args.from.now c.low-low.result.now (sym c.le.ensures ∙ c.if-le.false)) passed.so_far
+    let read = c.loop-read.read.items in
+    let page = c.route_before-page.result in
+    let back =
+        is_back c.args.self.now.tree c.args.stamp c.args.most c.args.from.now (option_copied c.args.to) c.low-low.result.now (option_copied c.loop-read.end) page read c.read_leaf_back.new.read.items
+        (subst (λ (v : ScansView). IsBefore v.tree.slots v.tree.levels (option_copied c.loop-read.end) page) c.self.view_is c.route_before-page.ensures)
+        c.loop-read.invariant.has_read
+        (c.in_ok-read_leaf_back.ensures.read
+        ∙ ap (λ (t : TreeView). read ++ take (c.args.most - length read) (reverse (leaf_of t c.args.stamp c.args.from.now (option_copied c.loop-read.end) page))) c.loop-read.invariant.same)
+        (c.low-low.ensures ∙ ap (λ (v : ScansView). low_of (slot_at v.tree.slots page)) c.self.view_is) in
+    record {
+      same = c.in_ok-read_leaf_back.ensures.tree ∙ c.loop-read.invariant.same;
+      has_read = goes_before c.args.self.now.tree c.args.stamp c.args.most c.args.from.now (option_copied c.args.to) c.low-low.result.now (option_copied c.loop-read.end) read c.read_leaf_back.new.read.items c.loop-read.invariant.has_read back (no_le c.args.from.now c.low-low.result.now (sym c.le.ensures ∙ c.if-le.false));
+    }

@@ -1,0 +1,44 @@
+use Rattle.std.proofs.Common.{◌≡◌, ℕ, ◌-◌, ◌++◌, List, length, reverse, take, ap, sym, subst, ◌∙◌, arith}
+use Rattle.std.specs.Prelude.{filter, ◌&&◌}
+use Rattle.std.specs.List.{Contains}
+use Rattle.std.specs.Option.{option_copied}
+use Rattle.std.specs.FinMap.Entries.{where_key}
+use Rattle.bw_key.specs.Order.{key_cmp}
+use Rattle.bw_model.specs.Contents.{is_below_end, is_pair_in_range, pairs_of_range}
+use Rattle.bw_model.specs.Lists.{Pair}
+use Rattle.bw_tree.specs.Levels.{row}
+use Rattle.bw_tree.specs.Slots.{slot_at}
+use Rattle.bw_tree.specs.Replaying.{IsLeafReplay, ScansView}
+use Rattle.bw_tree.specs.Scans.{is_on}
+use Rattle.bw_tree.specs.View.{TreeView, contents_at}
+use Rattle.bw_tree.proofs.ReplayLemmas.{kept_with, kept_same, pairs_on_leaf}
+use Rattle.bw_tree.proofs.scans.Scans.read_leaf.Goals as goal
+
+pub invariant_of-self : goal.invariant_of-self
+invariant_of-self c = kept_same c.self-2.inside.tree.now c.self-2.inside.replays c.insert.new.self c.in_err-insert.ensures.err c.self-2.invariant
+
+pub invariant_of-self-2 : goal.invariant_of-self-2
+invariant_of-self-2 c =
+    kept_with c.self-2.inside.tree.now c.self-2.inside.replays c.insert.new.self c.args.page c.in_ok-replay.replay c.in_ok-insert.ensures.updates
+    (subst (λ (t : TreeView). IsLeafReplay (slot_at t.slots c.args.page) c.in_ok-replay.replay)
+    (sym c.take_replay.ensures.tree ∙ sym (ap (λ (v : ScansView). v.tree) c.self-2.view_is)) c.in_ok-replay.ensures.replay) c.self-2.invariant
+
+pub returns-clause-read : goal.returns-clause-read
+returns-clause-read c =
+    let tree = c.self.inside.tree.now in
+    let now = ap (λ (v : ScansView). v.tree) c.self.view_is in
+    let read = c.args.read.now.items in
+    let from = c.args.from.now in
+    let to = option_copied c.args.to in
+    let replay = c.in_ok-replay.replay in
+    let page = c.args.page in
+    let left = c.args.most - length read in
+    let on_leaf : TreeView → ℕ → List Pair = λ t stamp. where_key key_cmp (is_on (slot_at t.slots page)) (pairs_of_range (contents_at t stamp) from to) in
+    let leaf_pairs =
+        pairs_on_leaf tree c.know_levels.ensures.lawful c.know_levels.ensures.distinct page replay from to (option_copied c.lower_end-end.result)
+        (subst (λ (t : TreeView). Contains (row t.levels 0) page) (sym now) c.requires)
+        (λ key. c.lower_end-end.ensures key ∙ ap (λ o. is_below_end o key && is_below_end to key) c.end.ensures)
+        c.add_first.ensures.sorted (subst (λ (t : TreeView). IsLeafReplay (slot_at t.slots page) replay) (sym now) c.in_ok-replay.ensures.replay) in
+    c.in_ok-add_first.ensures.added
+    ∙ ap (λ n. read ++ take n ((filter (is_pair_in_range from (option_copied c.lower_end-end.result)) replay.pairs))) (omega (arith, c.saturating_sub-left.ensures, c.len.ensures, c.args.read.now.ok))
+    ∙ ap (λ (l : List Pair). read ++ take left (l)) (leaf_pairs ∙ ap (on_leaf tree) c.in_ok-replay.ensures.stamp ∙ ap (λ (t : TreeView). on_leaf t c.args.stamp) now)

@@ -1,0 +1,11 @@
+use Rattle.std.proofs.Common.{subst}
+use Rattle.bw_delta.specs.History.{HasDistinctStamps}
+use Rattle.bw_tree.specs.Levels.{AreLevels, row}
+use Rattle.bw_tree.specs.View.{TreeView, row_writes}
+use Rattle.bw_tree.proofs.tree.Tree.know_levels.Goals as goal
+
+pub returns-clause-lawful : goal.returns-clause-lawful
+returns-clause-lawful c = subst (λ (v : TreeView). AreLevels v.slots v.root v.levels) c.self.view_is c.self.invariant.now.lawful
+
+pub returns-clause-distinct : goal.returns-clause-distinct
+returns-clause-distinct c = subst (λ (v : TreeView). HasDistinctStamps (row_writes v.slots (row v.levels 0))) c.self.view_is c.self.invariant.now.distinct
