@@ -42,19 +42,19 @@ pub worked_both : (tree : TreeView) (board : BoardView) (a b w : Worker) → IsO
 worked_both tree board a b w over first second both lost = record {
   board_is = ap (λ (v : SeatView). v.board) both ∙ first.board_is;
   posted = λ r. (
-    let owned : owns r w.seat.book ≡ owns r a.seat.book + owns r b.seat.book = ap (λ (v : SeatView). owns r v.book) both ∙ total-append (λ (s : Span). one_if (leb s.from r && ltb r s.to)) a.seat.book.owned b.seat.book.owned in
-    let posted : posts_in r w.seat.book.posted ≡ posts_in r a.seat.book.posted + posts_in r b.seat.book.posted =
-    ap (λ (v : SeatView). posts_in r v.book.posted) both ∙ total-append (λ (x : Post). one_if (eqb x.rec r)) a.seat.book.posted b.seat.book.posted in
-    omega (arith, owned, posted, first.posted r, second.posted r)
-  );
+      let owned : owns r w.seat.book ≡ owns r a.seat.book + owns r b.seat.book = ap (λ (v : SeatView). owns r v.book) both ∙ total-append (λ (s : Span). one_if (leb s.from r && ltb r s.to)) a.seat.book.owned b.seat.book.owned in
+      let posted : posts_in r w.seat.book.posted ≡ posts_in r a.seat.book.posted + posts_in r b.seat.book.posted =
+      ap (λ (v : SeatView). posts_in r v.book.posted) both ∙ total-append (λ (x : Post). one_if (eqb x.rec r)) a.seat.book.posted b.seat.book.posted in
+      omega (arith, owned, posted, first.posted r, second.posted r)
+      );
   homes = λ p r some. (
-    let all : posts_at p r w.seat.book.posted ≡ posts_at p r a.seat.book.posted + posts_at p r b.seat.book.posted =
-    ap (λ (v : SeatView). posts_at p r v.book.posted) both ∙ total-append (λ (x : Post). one_if (eqb x.page p && eqb x.rec r)) a.seat.book.posted b.seat.book.posted in
-    elim (cases_lt 0 (posts_at p r a.seat.book.posted)) as (λ c. IsHomeOf tree r p) [
-      | inl here ↦ first.homes p r here
-      | inr none ↦ second.homes p r (omega (arith, all, some, none))
-    ]
-  );
+      let all : posts_at p r w.seat.book.posted ≡ posts_at p r a.seat.book.posted + posts_at p r b.seat.book.posted =
+      ap (λ (v : SeatView). posts_at p r v.book.posted) both ∙ total-append (λ (x : Post). one_if (eqb x.page p && eqb x.rec r)) a.seat.book.posted b.seat.book.posted in
+      elim (cases_lt 0 (posts_at p r a.seat.book.posted)) as (λ c. IsHomeOf tree r p) [
+        | inl here ↦ first.homes p r here
+        | inr none ↦ second.homes p r (omega (arith, all, some, none))
+      ]
+      );
   lost = lost ∙ sym (ap (λ (v : SeatView). lost_in v.book.posted) both ∙ lost_both a.seat.book.posted b.seat.book.posted ∙ (let f = first.lost in let s = second.lost in omega (arith, f, s)));
 }
 

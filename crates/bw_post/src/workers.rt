@@ -152,11 +152,7 @@ fn home_at(tree: &Tree, pages: &[PageId], number: u64) -> PageId
 }
 
 /// All workers' seats in one, with what they lost together.
-pub(crate) fn join_workers(
-    tree: &Tree,
-    board: &Board,
-    mut workers: Vec<Worker, Alloc>,
-) -> Worker
+pub(crate) fn join_workers(tree: &Tree, board: &Board, mut workers: Vec<Worker, Alloc>) -> Worker
     requires over { IsOver tree.now board.now }
     requires some { 0 < length workers.items }
     requires worked { AllByRecursion (HasWorked tree.now board.now) workers.items }

@@ -74,12 +74,30 @@ fn run_request<F: Files + Threads + Sync, R: Inlet, W: Outlet, E: Outlet>(
         }
     };
     let Some(path) = request.file else {
-        return run_input(rt, alloc, input, output, errors, options, request.job, turns);
+        return run_input(
+            rt,
+            alloc,
+            input,
+            output,
+            errors,
+            options,
+            request.job,
+            turns,
+        );
     };
     match fs::open(rt, path) {
         Ok(file) => {
             let input = FromRead::new(file);
-            run_input(rt, alloc, input, output, errors, options, request.job, turns)
+            run_input(
+                rt,
+                alloc,
+                input,
+                output,
+                errors,
+                options,
+                request.job,
+                turns,
+            )
         }
         Err(_) => {
             report(alloc, errors, TraceFault::Read);

@@ -172,7 +172,13 @@ pub fn holds<R: Abort>(
 }
 
 /// Stages a batch and posts it by one worker.
-pub fn post<R: Abort + Threads + Sync>(rt: &R, alloc: Alloc, tree: &mut Tree, ops: &[Op], piece: u64) -> Closed
+pub fn post<R: Abort + Threads + Sync>(
+    rt: &R,
+    alloc: Alloc,
+    tree: &mut Tree,
+    ops: &[Op],
+    piece: u64,
+) -> Closed
     requires none { tree.old.staged ≡ None }
     requires fits { tree.old.next + length ops.now ≤ 2 ^ 40 }
     requires piece { (0 < piece) × (piece ≤ 4096) }

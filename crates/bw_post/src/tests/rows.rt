@@ -74,7 +74,13 @@ fn an_adopted_batch_is_accepted(rt: HostRuntime) {
     let mut tree = adopted(&rt, alloc);
     tree.accept();
     stands(&rt, &tree, &[0, FLOOR, FLOOR + 1, 3], 2, 3);
-    holds(&rt, alloc, &tree, 3, &[(b"a", b"1"), (b"b", b"2"), (b"c", b"9")]);
+    holds(
+        &rt,
+        alloc,
+        &tree,
+        3,
+        &[(b"a", b"1"), (b"b", b"2"), (b"c", b"9")],
+    );
 }
 
 #[test]

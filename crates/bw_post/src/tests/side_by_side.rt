@@ -60,7 +60,8 @@ fn puts<R: Abort>(rt: &R, alloc: Alloc, count: u64) -> Vec<Op, Alloc> {
     let mut ops = Vec::new(alloc);
     for number in 0..count {
         let digit = (number % 10) as u8 + b'0';
-        ops.push(upsert(rt, alloc, b"a", &[digit])).expect(rt, "memory");
+        ops.push(upsert(rt, alloc, b"a", &[digit]))
+            .expect(rt, "memory");
     }
     ops
 }
@@ -108,7 +109,10 @@ fn each_is_read<R: Abort>(rt: &R, alloc: Alloc, tree: &Tree, count: u64) {
     for stamp in 1..count {
         let digit = ((stamp - 1) % 10) as u8 + b'0';
         let found = tree.value_at(&name, stamp).expect(rt, "memory");
-        assert_eq!(rt; found.as_ref().map(|value| value.bytes()), Some([digit].as_slice()));
+        assert_eq!(rt;
+            found.as_ref().map(|value| value.bytes()),
+            Some([digit].as_slice())
+        );
     }
 }
 
