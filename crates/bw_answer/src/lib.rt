@@ -5,6 +5,7 @@
 #![tactic(auto)]
 
 mod answering;
+mod parts;
 mod points;
 mod runs;
 mod standing;

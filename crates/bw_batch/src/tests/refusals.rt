@@ -31,7 +31,9 @@ fn a_batch_that_is_too_long_changes_nothing(rt: HostRuntime) {
         make.upsert("b", "2"),
         make.upsert("c", "3"),
     ];
-    let done = index.run(&rt, &ops, &OpenGate).expect(&rt, "three operations");
+    let done = index
+        .run(&rt, &ops, &OpenGate)
+        .expect(&rt, "three operations");
     same(
         &rt,
         done.replies.as_slice(),
@@ -43,7 +45,9 @@ fn a_batch_that_is_too_long_changes_nothing(rt: HostRuntime) {
     assert_eq!(rt; index.contents().expect(&rt, "memory"), after);
 
     let ops = [make.get("a"), make.get("b"), make.get("c")];
-    let done = index.run(&rt, &ops, &OpenGate).expect(&rt, "three operations");
+    let done = index
+        .run(&rt, &ops, &OpenGate)
+        .expect(&rt, "three operations");
     let replies = [make.found("1"), make.found("2"), make.found("3")];
     same(&rt, done.replies.as_slice(), &replies);
     assert_eq!(rt; index.contents().expect(&rt, "memory"), after);
@@ -62,7 +66,9 @@ fn batches_go_on_after_one_that_is_too_long(rt: HostRuntime) {
         batches.push(ops).expect(&rt, "memory");
     }
     let mut index = make.index(1);
-    let outcomes = index.run_all(&rt, &batches, &OpenGate).expect(&rt, "memory");
+    let outcomes = index
+        .run_all(&rt, &batches, &OpenGate)
+        .expect(&rt, "memory");
     assert_eq!(rt; outcomes.len(), 3);
     compare_done(&rt, &outcomes[0], &[Reply::New]);
     let expected = Refusal::TooLong { ops: 2, most: 1 };
