@@ -6,10 +6,10 @@ ghost use Rattle.bw_answer.specs.Parts.{IsPartOf, IsWithin, spanned};
 use bw_key::Memory;
 use bw_memory::Alloc;
 
-// How many points are worth a thread: to start one costs about as much as some hundreds of points.
+// How many points are worth a thread: at some 200 nanoseconds each they take several times as long as its start.
 const LEAST_POINTS: usize = 1024;
 
-// How many scans are worth a thread. Each of them searches a leaf and copies pairs, so it takes as long as many points.
+// How many scans are worth a thread. Each goes down the tree and copies pairs, so fewer of them are enough.
 const LEAST_SCANS: usize = 64;
 
 /// The elements of a list from one place on and before another.
