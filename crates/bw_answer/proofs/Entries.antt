@@ -1,14 +1,16 @@
 -- The points of a batch, and groups of them.
-use Rattle.std.proofs.Common.{◌≡◌, ℕ, zero, suc, ◌+◌, ◌-◌, ◌<◌, ◌≤◌, Bool, true, false, cond, not, List, [], ◌∷◌, ◌++◌, length, take, drop, get_or, slice_get, Option, Some, None, refl, sym, ap, ◌∙◌, subst, arith, add-one}
+use Rattle.std.proofs.Common.{◌≡◌, ℕ, zero, suc, ◌+◌, ◌-◌, ◌<◌, ◌≤◌, Bool, true, false, cond, not, List, [], ◌∷◌, ◌++◌, length, take, drop, get_or, slice_get, Option, Some, None, refl, sym, ap, ◌∙◌, subst, arith, add-one, length-drop, min}
 use Rattle.std.specs.Option.{option_map}
 use Rattle.std.specs.List.{AllByRecursion}
-use Rattle.std.proofs.lemmas.List.{map-append, take-append-drop, get_or_default, get_or-map}
+use Rattle.std.specs.List.Sorted.{IsSortedBy}
+use Rattle.std.specs.Ordering.{is_lt}
+use Rattle.std.proofs.lemmas.List.{append-nil, append_assoc, map-append, take-append-drop, take-map, get_or_default, get_or-map, get_or-take, length-take}
 use Rattle.std.proofs.lemmas.List.Elements.{filter-append}
-use Rattle.bw_key.specs.Order.{KeyBytes, key_eq, key_eq_equiv}
+use Rattle.bw_key.specs.Order.{KeyBytes, key_cmp, key_eq, key_eq_equiv}
 use Rattle.bw_model.specs.declared.operations.Op.{Op}
-use Rattle.bw_answer.specs.Points.{key_of, Entry, entry_at, entries_from, entries_of, entries_at, HasKey, HasRisingPlaces, IsEntryOf}
+use Rattle.bw_answer.specs.Points.{key_of, Entry, entry_at, scan_place, scans_from, entries_from, entries_of, entries_at, places_of, HasKey, HasRisingPlaces, IsEntryOf, IsScanOf}
 use Rattle.bw_answer.specs.declared.points.Point.{Point}
-use Rattle.bw_answer.proofs.Lists.{part_more, all_append, all_at, all_same, get_within}
+use Rattle.bw_answer.proofs.Lists.{part_more, all_append, all_at, all_same, get_within, in_rest, seen_rest}
 
 -- the points of one operation more
 entries_further : (n : ℕ) (ops : List Op) (i : ℕ) (op : Op) → i < length ops → op ≡ get_or ops i op → entries_from n (take (suc i) ops) ≡ entries_from n (take i ops) ++ entry_at (n + i) (key_of op)
@@ -38,6 +40,40 @@ entries_more ops i op lt is = rw add-one (entries_further 0 ops i op lt is) ∙ 
   where
     from_none : (i : ℕ) → 0 + i ≡ i
     from_none i = omega arith
+
+-- the scans of one operation more
+scans_further : (n : ℕ) (ops : List Op) (i : ℕ) (op : Op) → i < length ops → op ≡ get_or ops i op → scans_from n (take (suc i) ops) ≡ scans_from n (take i ops) ++ scan_place (n + i) (key_of op)
+scans_further n [] i op lt is = absurd (omega arith)
+scans_further n (o ∷ ops) zero op lt is = by (key_of o) ∙ ap (λ (x : Op). scan_place (n + 0) (key_of x)) (sym is)
+  where
+    same : (m : ℕ) → m ≡ m + 0
+    same m = omega arith
+
+    by : (k : Option KeyBytes) → scan_place n k ++ [] ≡ scan_place (n + 0) k
+    by None = ap (λ (m : ℕ). m ∷ []) (same n)
+    by (Some k) = refl
+scans_further n (o ∷ ops) (suc i) op lt is =
+    ap (λ l. scan_place n (key_of o) ++ l) (scans_further (n + 1) ops i op (omega arith) is)
+    ∙ sym (append_assoc (scan_place n (key_of o)) (scans_from (n + 1) (take i ops)) (scan_place (n + 1 + i) (key_of op)))
+    ∙ ap (λ (m : ℕ). (scan_place n (key_of o) ++ scans_from (n + 1) (take i ops)) ++ scan_place m (key_of op)) (same n i)
+  where
+    same : (n i : ℕ) → n + 1 + i ≡ n + suc i
+    same n i = omega arith
+
+pub scans_more : (ops : List Op) (i : ℕ) (op : Op) → i < length ops → op ≡ get_or ops i op → scans_from 0 (take (i + 1) ops) ≡ scans_from 0 (take i ops) ++ scan_place i (key_of op)
+scans_more ops i op lt is = rw add-one (scans_further 0 ops i op lt is) ∙ ap (λ (n : ℕ). scans_from 0 (take i ops) ++ scan_place n (key_of op)) (from_none i)
+  where
+    from_none : (i : ℕ) → 0 + i ≡ i
+    from_none i = omega arith
+
+-- one operation further, which has no key or one
+pub with_scan : (old new before after : List ℕ) (key : Option KeyBytes) (place : ℕ) → new ≡ old ++ place ∷ [] → key ≡ None → old ≡ before → after ≡ before ++ scan_place place key → new ≡ after
+with_scan old new before after key place is has so more =
+    is ∙ ap (λ l. l ++ place ∷ []) so ∙ sym (more ∙ ap (λ (k : Option KeyBytes). before ++ scan_place place k) has)
+
+pub without_scan : (old new before after : List ℕ) (key : Option KeyBytes) (place : ℕ) (k : KeyBytes) → new ≡ old → key ≡ Some k → old ≡ before → after ≡ before ++ scan_place place key → new ≡ after
+without_scan old new before after key place k is has so more =
+    is ∙ so ∙ sym (more ∙ ap (λ (k : Option KeyBytes). before ++ scan_place place k) has ∙ append-nil before)
 
 -- all points of a list have the key
 abbrev pub IsOfKey : KeyBytes → List Point → Type 0
@@ -88,6 +124,24 @@ group_rises key ps n m le rising so =
     ∙ ap (λ l. entries_at key front ++ l) (filter-append at (entries_of part) back ∙ ap (λ l. l ++ entries_at key back) (all_stay key (entries_of part) so)) in
     rising_front 0 (entries_of part) (entries_at key back)
     (rising_back 0 (entries_at key front) (entries_of part ++ entries_at key back) (subst (HasRisingPlaces 0) picked rising))
+
+-- a part is sorted
+pub part_sorted : (ps : List Point) (n k : ℕ) → IsSortedBy (λ d e. is_lt (key_cmp d.0 e.0)) (entries_of ps) → IsSortedBy (λ d e. is_lt (key_cmp d.0 e.0)) (entries_of (take k (drop n ps)))
+part_sorted ps n k sorted i d low up =
+    let seen : Point → Entry = λ q. (q.key.now, q.place) in
+    let es = entries_of ps in
+    let part : entries_of (take k (drop n ps)) ≡ take k (drop n es) = sym (take-map seen k (drop n ps)) ∙ ap (take k) (seen_rest seen n ps) in
+    let size = length-take k (drop n es) in
+    let size' = length-drop n es in
+    let whole = ap (λ (l : List Entry). length l) part in
+    let at = λ (j : ℕ) (lt : j < k). ap (λ (l : List Entry). get_or l j d) part ∙ get_or-take k (drop n es) j d lt ∙ in_rest es n j d in
+    ap (λ (e : Entry). is_lt (key_cmp e.0 (get_or (entries_of (take k (drop n ps))) i d).0)) (at (i + 1) (omega (arith, up, size, size', whole)))
+    ∙ ap (λ (e : Entry). is_lt (key_cmp (get_or es (n + (i + 1)) d).0 e.0)) (at i (omega (arith, up, size, size', whole)))
+    ∙ ap (λ (j : ℕ). is_lt (key_cmp (get_or es j d).0 (get_or es (n + i) d).0)) (next n i)
+    ∙ sorted (n + i) d (omega arith) (omega (arith, up, size, size', whole))
+  where
+    next : (n k : ℕ) → n + (k + 1) ≡ n + k + 1
+    next n k = omega arith
 
 -- the places of each key rise in a part
 pub part_rises : (ps : List Point) (n k : ℕ) → ((key : KeyBytes) → HasRisingPlaces 0 (entries_at key (entries_of ps))) → (key : KeyBytes) → HasRisingPlaces 0 (entries_at key (entries_of (take k (drop n ps))))
@@ -195,6 +249,10 @@ pub seen_length : (ps : List Point) → length (entries_of ps) ≡ length ps
 seen_length [] = refl
 seen_length (p ∷ ps) = ap suc (seen_length ps)
 
+pub places_length : (ps : List Point) → length (places_of (entries_of ps)) ≡ length ps
+places_length [] = refl
+places_length (p ∷ ps) = ap suc (places_length ps)
+
 -- the entry of a point
 pub entry_is : (ps : List Point) (n : ℕ) (p : Point) (d : Entry) → n < length ps → p ≡ get_or ps n p → get_or (entries_of ps) n d ≡ (p.key.now, p.place)
 entry_is ps n p d lt is = get_or-map (λ (q : Point). (q.key.now, q.place)) ps n p d lt ∙ ap (λ (q : Point). (q.key.now, q.place)) (sym is)
@@ -213,6 +271,23 @@ place_within ops e entry = go (slice_get ops e.1) refl entry
         none : None ≡ Some (Some e.0) → ⊥
         none e = cc
     go (Some op) is has = get_within ops e.1 op is
+
+-- the operation at a place without a key
+pub scan_within : (ops : List Op) (place : ℕ) → IsScanOf ops place → place < length ops
+scan_within ops place scan = go (slice_get ops place) refl scan
+  where
+    go : (o : Option Op) → slice_get ops place ≡ o → option_map key_of o ≡ Some None → place < length ops
+    go None is has = absurd (none has)
+      where
+        none : ◌≡◌ {A = Option (Option KeyBytes)} None (Some None) → ⊥
+        none e = cc
+    go (Some op) is has = get_within ops place op is
+
+pub scan_key : (ops : List Op) (place : ℕ) (op : Op) → IsScanOf ops place → slice_get ops place ≡ Some op → key_of op ≡ None
+scan_key ops place op scan is = one (sym (ap (option_map key_of) is) ∙ scan)
+  where
+    one : Some (key_of op) ≡ Some None → key_of op ≡ None
+    one e = cc
 
 -- the operation at an entry's place is one on its key
 pub entry_key : (ops : List Op) (e : Entry) (op : Op) → IsEntryOf ops e → slice_get ops e.1 ≡ Some op → key_of op ≡ Some e.0

@@ -8,6 +8,14 @@ module _ {X : Type 0} (P : X → Type 0) where
   all_append [] ys a b = b
   all_append (x ∷ xs) ys a b = (a.0, all_append xs ys a.1 b)
 
+  pub all_front : (xs ys : List X) → AllByRecursion P (xs ++ ys) → AllByRecursion P xs
+  all_front [] ys a = tt
+  all_front (x ∷ xs) ys a = (a.0, all_front xs ys a.1)
+
+  pub all_back : (xs ys : List X) → AllByRecursion P (xs ++ ys) → AllByRecursion P ys
+  all_back [] ys a = a
+  all_back (x ∷ xs) ys a = all_back xs ys a.1
+
   pub all_take : (n : ℕ) (xs : List X) → AllByRecursion P xs → AllByRecursion P (take n xs)
   all_take zero xs a = tt
   all_take (suc n) [] a = tt

@@ -1,24 +1,24 @@
--- The reply to an operation on one key, by the writes as of its stamp.
-use Rattle.std.proofs.Common.{◌≡◌, inl, inr, ℕ, zero, suc, ◌+◌, ◌-◌, ◌<◌, ◌≤◌, List, [], ◌∷◌, ◌++◌, length, take, drop, get_or, slice_get, slice_set, Option, Some, None, refl, sym, ap, ◌∙◌, subst, arith}
+-- The reply to an operation on one key, by the writes as of its stamp, and lists of answers.
+use Rattle.std.proofs.Common.{◌≡◌, ℕ, zero, suc, ◌+◌, ◌-◌, ◌<◌, ◌≤◌, List, [], ◌∷◌, ◌++◌, length, map, take, drop, get_or, slice_get, Option, Some, None, refl, sym, ap, ◌∙◌, subst, arith}
 use Rattle.std.specs.Option.{option_map}
-use Rattle.std.proofs.lemmas.Bool.{cases_eq}
-use Rattle.std.proofs.lemmas.List.{take_more, take_all, map-append, length-set}
-use Rattle.std.specs.List.{AllByRecursion}
+use Rattle.std.proofs.lemmas.List.{append_assoc, append-nil, take_more, take_all, map-append}
 use Rattle.bw_model.specs.Values.{ValueBytes}
 use Rattle.bw_model.specs.Contents.{Contents}
 use Rattle.bw_model.specs.Model.{reply_of, after, replies_of, contents_after}
 use Rattle.bw_model.specs.declared.operations.Op.{Op}
 use Rattle.bw_model.specs.declared.operations.Reply.{Reply}
+use Rattle.bw_model.specs.declared.operations.Reply.TheVariants.{Absent}
 use Rattle.bw_delta.specs.Writes.{WriteView}
 use Rattle.bw_delta.specs.History.{history, action_at}
 use Rattle.bw_delta.specs.Rising.{HasRisingStamps}
 use Rattle.bw_delta.specs.Readings.{from_stamp}
 use Rattle.bw_delta.proofs.Readings.{all_left, resumed, left_later}
 use Rattle.bw_tree.specs.View.{contents_at}
-use Rattle.bw_answer.specs.Points.{key_of, Entry, entries_of, HasRisingPlaces}
+use Rattle.bw_answer.specs.Points.{key_of, Entry, entries_of, places_of, HasRisingPlaces}
 use Rattle.bw_answer.specs.declared.points.Point.{Point}
-use Rattle.bw_answer.specs.Standing.{StandingView, IsReadInTurn, contents_before, replies_to, IsAnswered, IsReadBy, IsReplyAt}
-use Rattle.bw_answer.proofs.Lists.{get_set, get_other, get_within, all_append, all_same, drop_next, take_to}
+use Rattle.bw_answer.specs.declared.standing.Answer.{Answer}
+use Rattle.bw_answer.specs.Standing.{StandingView, IsReadInTurn, contents_before, replies_to, answer_to, answers_to, IsReadBy, IsReplyAt}
+use Rattle.bw_answer.proofs.Lists.{drop_next, take_to}
 
 -- a reply of a batch
 pub reply_at : (ops : List Op) (m : Contents ValueBytes) (i : ℕ) → slice_get (replies_of ops m) i ≡ option_map (λ op. reply_of op (contents_after (take i ops) m)) (slice_get ops i)
@@ -40,44 +40,62 @@ reply_there batch q place op is =
     ∙ ap (option_map (λ (o : Op). reply_of o (contents_after (take place batch.ops) m))) is
     ∙ ap (λ (n : Contents ValueBytes). Some (reply_of op n)) (sym (q.reads place))
 
+-- the answer at the place of an operation
+pub answer_there : (batch : StandingView) → IsReadInTurn batch → (place : ℕ) (op : Op) (reply : Reply) → slice_get batch.ops place ≡ Some op →
+    reply ≡ reply_of op (contents_at batch.tree (batch.base + place)) → record { place = place; reply = reply } ≡ answer_to batch place
+answer_there batch q place op reply is answers =
+    ap (λ (r : Reply). record { place = place; reply = r }) (answers ∙ sym (found (replies_to batch) place (reply_there batch q place op is)))
+  where
+    found : (rs : List Reply) (i : ℕ) {r : Reply} → slice_get rs i ≡ Some r → get_or rs i Absent ≡ r
+    found [] i e = absurd (none e)
+      where
+        none : {r : Reply} → None ≡ Some r → ⊥
+        none e = cc
+    found (r ∷ rs) zero e = same e
+      where
+        same : {r' : Reply} → Some r ≡ Some r' → r ≡ r'
+        same e = cc
+    found (r ∷ rs) (suc i) e = found rs i e
+
+-- answers with those of further places behind them
+pub more_answers : (batch : StandingView) (before answers answers' : List Answer) (places more : List ℕ) → answers ≡ before ++ answers_to batch places →
+    answers' ≡ answers ++ answers_to batch more → answers' ≡ before ++ answers_to batch (places ++ more)
+more_answers batch before answers answers' places more so is =
+    is
+    ∙ ap (λ l. l ++ answers_to batch more) so
+    ∙ append_assoc before (answers_to batch places) (answers_to batch more)
+    ∙ ap (λ l. before ++ l) (sym (map-append (answer_to batch) places more))
+
+pub no_answers : (batch : StandingView) (before : List Answer) → before ≡ before ++ answers_to batch []
+no_answers batch before = sym (append-nil before)
+
 -- What was answered of a group of entries, and what is known of the value at their key.
-pub record IsAnswering (batch : StandingView) (start : Option ValueBytes) (ws : List WriteView) (all : List Entry) (n : ℕ) (before replies : List Reply) (stamp : ℕ) (value : Option ValueBytes) (rest : List WriteView) : Type 0 where
+pub record IsAnswering (batch : StandingView) (start : Option ValueBytes) (ws : List WriteView) (all : List Entry) (n : ℕ) (before answers : List Answer) (stamp : ℕ) (value : Option ValueBytes) (rest : List WriteView) : Type 0 where
   pub reads : value ≡ history start (action_at ws) stamp
   pub left : rest ≡ from_stamp stamp ws
   pub low : ℕ
   pub upto : (stamp ≤ batch.base + low) × HasRisingPlaces low (drop n all)
-  pub done : AllByRecursion (λ e. IsAnswered batch replies e.1) (take n all)
-  pub keeps : (place : ℕ) → IsAnswered batch before place → IsAnswered batch replies place
-  pub len : length replies ≡ length batch.ops
+  pub done : answers ≡ before ++ answers_to batch (places_of (take n all))
 
-pub answering_none : (batch : StandingView) (start : Option ValueBytes) (ws : List WriteView) → HasRisingStamps 0 ws → (all : List Entry) (replies : List Reply) (value : Option ValueBytes) (rest : List WriteView) → HasRisingPlaces 0 all → length replies ≡ length batch.ops →
-    value ≡ start → rest ≡ ws → IsAnswering batch start ws all 0 replies replies 0 value rest
+pub answering_none : (batch : StandingView) (start : Option ValueBytes) (ws : List WriteView) → HasRisingStamps 0 ws → (all : List Entry) (answers : List Answer) (value : Option ValueBytes) (rest : List WriteView) → HasRisingPlaces 0 all →
+    value ≡ start → rest ≡ ws → IsAnswering batch start ws all 0 answers answers 0 value rest
 unfolding history
-answering_none batch start ws stamps all replies value rest rising len is left = record {
+answering_none batch start ws stamps all answers value rest rising is left = record {
   reads = is;
   left = left ∙ sym (all_left 0 0 ws (omega arith) stamps);
   low = 0;
   upto = (omega arith, rising);
-  done = tt;
-  keeps = λ place answered. answered;
-  len = len;
+  done = no_answers batch answers;
 }
 
--- a right reply, set at its place, and the others
-pub still : (batch : StandingView) (replies replies' : List Reply) (place other : ℕ) (reply : Reply) → replies' ≡ slice_set replies place reply → IsAnswered batch replies' place → IsAnswered batch replies other → IsAnswered batch replies' other
-still batch replies replies' place other reply set here old = elim (cases_eq place other) [
-  | inl same ↦ subst (IsAnswered batch replies') same here
-  | inr apart ↦ ap (λ l. slice_get l other) set ∙ get_other replies place other reply apart ∙ old
-]
-
 -- one entry further
-pub answer_more : (batch : StandingView) → IsReadInTurn batch → (start : Option ValueBytes) (ws : List WriteView) → HasRisingStamps 0 ws → (all : List Entry) (n : ℕ) (before replies replies' : List Reply) (stamp : ℕ) (value : Option ValueBytes) (rest : List WriteView)
+pub answer_more : (batch : StandingView) → IsReadInTurn batch → (start : Option ValueBytes) (ws : List WriteView) → HasRisingStamps 0 ws → (all : List Entry) (n : ℕ) (before answers answers' : List Answer) (stamp : ℕ) (value : Option ValueBytes) (rest : List WriteView)
     (e : Entry) (op : Op) (value' : Option ValueBytes) (rest' : List WriteView) (reply : Reply) → n < length all → (d : Entry) → get_or all n d ≡ e → slice_get batch.ops e.1 ≡ Some op → key_of op ≡ Some e.0 →
-    IsReadBy batch.tree start ws e.0 → IsAnswering batch start ws all n before replies stamp value rest →
+    IsReadBy batch.tree start ws e.0 → IsAnswering batch start ws all n before answers stamp value rest →
     value' ≡ history value (action_at rest) (batch.base + e.1) → rest' ≡ from_stamp (batch.base + e.1) rest →
-    IsReplyAt op value' reply → replies' ≡ slice_set replies e.1 reply →
-    IsAnswering batch start ws all (n + 1) before replies' (batch.base + e.1) value' rest'
-answer_more batch q start ws stamps all n before replies replies' stamp value rest e op value' rest' reply lt d at op_is has reads so further left answers set =
+    IsReplyAt op value' reply → answers' ≡ answers ++ record { place = e.1; reply = reply } ∷ [] →
+    IsAnswering batch start ws all (n + 1) before answers' (batch.base + e.1) value' rest'
+answer_more batch q start ws stamps all n before answers answers' stamp value rest e op value' rest' reply lt d at op_is has reads so further left replies added =
     let place = e.1 in
     let now = batch.base + place in
     let next : drop n all ≡ e ∷ drop (n + 1) all = drop_next all n d lt ∙ ap (λ x. x ∷ drop (n + 1) all) at in
@@ -86,57 +104,54 @@ answer_more batch q start ws stamps all n before replies replies' stamp value re
     let value_is : value' ≡ history start (action_at ws) now =
     further ∙ ap (λ v. history v (action_at rest) now) so.reads ∙ ap (λ l. history (history start (action_at ws) stamp) (action_at l) now) so.left ∙ resumed start 0 ws stamp now stamps later in
     let rest_is : rest' ≡ from_stamp now ws = left ∙ ap (from_stamp now) so.left ∙ left_later stamp now ws later in
-    let reply_is : reply ≡ reply_of op (contents_at batch.tree now) = answers (contents_at batch.tree now) e.0 has (reads now ∙ sym value_is) in
-    let within : place < length replies = subst (λ m. place < m) (sym so.len) (get_within batch.ops place op op_is) in
-    let here : IsAnswered batch replies' place = ap (λ l. slice_get l place) set ∙ get_set replies place reply within ∙ ap Some reply_is ∙ sym (reply_there batch q place op op_is) in
-    let stays = λ (other : ℕ) (old : IsAnswered batch replies other). still batch replies replies' place other reply set here old in
+    let reply_is : reply ≡ reply_of op (contents_at batch.tree now) = replies (contents_at batch.tree now) e.0 has (reads now ∙ sym value_is) in
+    let answer_is = answer_there batch q place op reply op_is reply_is in
+    let places : places_of (take (n + 1) all) ≡ places_of (take n all) ++ place ∷ [] =
+    ap places_of (take_more all n d lt ∙ ap (λ x. take n all ++ x ∷ []) at) ∙ map-append (λ (x : Entry). x.1) (take n all) (e ∷ []) in
     record {
       reads = value_is;
       left = rest_is;
       low = place + 1;
       upto = (omega arith, rising.1);
-      done = subst (AllByRecursion (λ x. IsAnswered batch replies' x.1)) (sym (take_more all n d lt ∙ ap (λ x. take n all ++ x ∷ []) at))
-          (all_append (λ x. IsAnswered batch replies' x.1) (take n all) (e ∷ []) (all_same (λ x. IsAnswered batch replies x.1) (λ x. IsAnswered batch replies' x.1) (λ x. stays x.1) (take n all) so.done) (here, tt));
-      keeps = λ other old. stays other (so.keeps other old);
-      len = ap length set ∙ length-set replies place reply ∙ so.len;
+      done = more_answers batch before answers answers' (places_of (take n all)) (place ∷ []) so.done (added ∙ ap (λ a. answers ++ a ∷ []) answer_is)
+          ∙ ap (λ l. before ++ answers_to batch l) (sym places);
     }
+
+pub all_answering : (batch : StandingView) (start : Option ValueBytes) (ws : List WriteView) (all : List Entry) (n : ℕ) (before answers : List Answer) (stamp : ℕ) (value : Option ValueBytes) (rest : List WriteView) → length all ≤ n →
+    IsAnswering batch start ws all n before answers stamp value rest → answers ≡ before ++ answers_to batch (places_of all)
+all_answering batch start ws all n before answers stamp value rest le so = so.done ∙ ap (λ (l : List Entry). before ++ answers_to batch (places_of l)) (take_all n all le)
 
 -- The points up to a place are answered.
-pub record AreAnsweredTo (batch : StandingView) (ps : List Point) (n : ℕ) (before replies : List Reply) : Type 0 where
+pub record AreAnsweredTo (batch : StandingView) (ps : List Point) (n : ℕ) (before answers : List Answer) : Type 0 where
   pub within : n ≤ length ps
-  pub len : length replies ≡ length batch.ops
-  pub done : AllByRecursion (λ e. IsAnswered batch replies e.1) (entries_of (take n ps))
-  pub keeps : (place : ℕ) → IsAnswered batch before place → IsAnswered batch replies place
+  pub done : answers ≡ before ++ answers_to batch (places_of (entries_of (take n ps)))
+
+pub answered_none : (batch : StandingView) (ps : List Point) (answers : List Answer) → AreAnsweredTo batch ps 0 answers answers
+answered_none batch ps answers = record { within = omega arith; done = no_answers batch answers }
 
 -- and so with a part more
-pub part_answered : (batch : StandingView) (ps : List Point) (n m : ℕ) (before replies replies' : List Reply) → n ≤ m → m ≤ length ps → AreAnsweredTo batch ps n before replies →
-    length replies' ≡ length replies → ((place : ℕ) → IsAnswered batch replies place → IsAnswered batch replies' place) →
-    AllByRecursion (λ e. IsAnswered batch replies' e.1) (entries_of (take (m - n) (drop n ps))) → AreAnsweredTo batch ps m before replies'
-part_answered batch ps n m before replies replies' le bound so len keeps more =
-    let answered = λ (e : Entry). IsAnswered batch replies e.1 in
-    let answered' = λ (e : Entry). IsAnswered batch replies' e.1 in
-    let front = entries_of (take n ps) in
-    let part = entries_of (take (m - n) (drop n ps)) in
-    let both = ap entries_of (take_to ps n m le) ∙ map-append (λ (q : Point). (q.key.now, q.place)) (take n ps) (take (m - n) (drop n ps)) in
+pub part_answered : (batch : StandingView) (ps : List Point) (n m : ℕ) (before answers answers' : List Answer) → n ≤ m → m ≤ length ps → AreAnsweredTo batch ps n before answers →
+    answers' ≡ answers ++ answers_to batch (places_of (entries_of (take (m - n) (drop n ps)))) → AreAnsweredTo batch ps m before answers'
+part_answered batch ps n m before answers answers' le bound so more =
+    let front = take n ps in
+    let part = take (m - n) (drop n ps) in
+    let both : places_of (entries_of (take m ps)) ≡ places_of (entries_of front) ++ places_of (entries_of part) =
+    ap (λ (l : List Point). places_of (entries_of l)) (take_to ps n m le)
+    ∙ ap places_of (map-append (λ (p : Point). (p.key.now, p.place)) front part)
+    ∙ map-append (λ (e : Entry). e.1) (entries_of front) (entries_of part) in
     record {
       within = bound;
-      len = len ∙ so.len;
-      done = subst (AllByRecursion answered') (sym both) (all_append answered' front part (all_same answered answered' (λ e. keeps e.1) front so.done) more);
-      keeps = λ place old. keeps place (so.keeps place old);
+      done = more_answers batch before answers answers' (places_of (entries_of front)) (places_of (entries_of part)) so.done more
+          ∙ ap (λ l. before ++ answers_to batch l) (sym both);
     }
 
-pub all_answered : (batch : StandingView) (ps : List Point) (n : ℕ) (before replies : List Reply) → length ps ≤ n → AreAnsweredTo batch ps n before replies → AllByRecursion (λ e. IsAnswered batch replies e.1) (entries_of ps)
-all_answered batch ps n before replies le so = subst (λ l. AllByRecursion (λ e. IsAnswered batch replies e.1) (entries_of l)) (take_all n ps le) so.done
+pub all_answered : (batch : StandingView) (ps : List Point) (n : ℕ) (before answers : List Answer) → length ps ≤ n → AreAnsweredTo batch ps n before answers → answers ≡ before ++ answers_to batch (places_of (entries_of ps))
+all_answered batch ps n before answers le so = so.done ∙ ap (λ (l : List Point). before ++ answers_to batch (places_of (entries_of l))) (take_all n ps le)
 
--- the reply to any operation, by the map as of its stamp
-pub scan_answered : (batch : StandingView) → IsReadInTurn batch → (op : Op) (place : ℕ) (replies : List Reply) (reply : Reply) → length replies ≡ length batch.ops → slice_get batch.ops place ≡ Some op →
-    reply ≡ reply_of op (contents_at batch.tree (batch.base + place)) → IsAnswered batch (slice_set replies place reply) place
-scan_answered batch q op place replies reply len is answers =
-    let within = get_within batch.ops place op is in
-    get_set replies place reply (omega (arith, len, within)) ∙ ap Some answers ∙ sym (reply_there batch q place op is)
-
--- Of the operations up to a place, the scans are answered.
-pub record AreScansAnswered (batch : StandingView) (n : ℕ) (before replies : List Reply) : Type 0 where
-  pub len : length replies ≡ length batch.ops
-  pub keeps : (place : ℕ) → IsAnswered batch before place → IsAnswered batch replies place
-  pub done : (place : ℕ) → place < n → option_map key_of (slice_get batch.ops place) ≡ Some None → IsAnswered batch replies place
+-- one scan more
+pub scan_more : (batch : StandingView) → IsReadInTurn batch → (scans : List ℕ) (n place : ℕ) (op : Op) (before answers answers' : List Answer) (reply : Reply) → n < length scans → place ≡ get_or scans n place → slice_get batch.ops place ≡ Some op →
+    reply ≡ reply_of op (contents_at batch.tree (batch.base + place)) → answers ≡ before ++ answers_to batch (take n scans) → answers' ≡ answers ++ record { place = place; reply = reply } ∷ [] →
+    answers' ≡ before ++ answers_to batch (take (n + 1) scans)
+scan_more batch q scans n place op before answers answers' reply lt at is answers_it so added =
+    more_answers batch before answers answers' (take n scans) (place ∷ []) so (added ∙ ap (λ a. answers ++ a ∷ []) (answer_there batch q place op reply is answers_it))
+    ∙ ap (λ l. before ++ answers_to batch l) (sym (take_more scans n place lt ∙ ap (λ p. take n scans ++ p ∷ []) (sym at)))

@@ -1,14 +1,10 @@
--- All replies of a batch, from those to its points and its scans.
-use Rattle.std.proofs.Common.{◌≡◌, ℕ, zero, suc, ◌+◌, ◌<◌, Bool, true, false, cond, List, [], ◌∷◌, ◌++◌, length, slice_get, Option, Some, None, Result, Ok, Err, OnOk, refl, sym, ap, ◌∙◌, subst, arith}
+-- All operations of a batch, as its points and its scans.
+use Rattle.std.proofs.Common.{◌≡◌, ℕ, zero, suc, ◌+◌, ◌<◌, Bool, true, false, cond, List, [], ◌∷◌, ◌++◌, length, slice_get, Option, Some, None, refl, sym, ap, ◌∙◌, subst, arith}
 use Rattle.std.specs.Option.{option_map}
 use Rattle.std.specs.List.{AllByRecursion}
 use Rattle.bw_key.specs.Order.{KeyBytes, key_eq, key_eq_equiv}
 use Rattle.bw_model.specs.declared.operations.Op.{Op}
-use Rattle.bw_model.specs.declared.operations.Reply.{Reply}
-use Rattle.bw_answer.specs.Points.{key_of, Entry, entry_at, entries_from, entries_at, IsEntryOf}
-use Rattle.bw_answer.specs.Standing.{StandingView, contents_before, replies_to, IsAnswered}
-use Rattle.bw_answer.proofs.Lists.{same_list}
-use Rattle.bw_answer.proofs.ReplyLemmas.{replies_length}
+use Rattle.bw_answer.specs.Points.{key_of, Entry, entry_at, entries_from, entries_at, places_of, scan_place, scans_from, AreGrouped, GroupingView, IsEntryOf, IsScanOf}
 
 module _ (P : Entry → Type 0) where
   -- what holds of all entries, and of those of each key
@@ -85,18 +81,67 @@ batch_entries ops es same = all_by_key (IsEntryOf ops) es (λ key.
     from_none : (i : ℕ) → i ≡ 0 + i
     from_none i = omega arith
 
--- where each point and each scan is answered, the batch is
-pub all_replied : (batch : StandingView) (es : List Entry) (before replies : List Reply) → ((key : KeyBytes) → entries_at key es ≡ entries_at key (entries_from 0 batch.ops)) → length replies ≡ length batch.ops →
-    AllByRecursion (λ e. IsAnswered batch before e.1) es → ((place : ℕ) → IsAnswered batch before place → IsAnswered batch replies place) →
-    ((place : ℕ) → option_map key_of (slice_get batch.ops place) ≡ Some None → IsAnswered batch replies place) → replies ≡ replies_to batch
-all_replied batch es before replies same len points keeps scans =
-    same_list replies (replies_to batch) (len ∙ sym (replies_length batch.ops (contents_before batch))) (λ i lt. at i (slice_get batch.ops i) refl (omega (arith, lt, len)))
+-- the places of a batch's scans are those of operations without a key
+scans_are : (all : List Op) (n : ℕ) (ops : List Op) → ((i : ℕ) → slice_get ops i ≡ slice_get all (n + i)) → AllByRecursion (IsScanOf all) (scans_from n ops)
+scans_are all n [] same = tt
+scans_are all n (op ∷ ops) same = by (scans_are all (n + 1) ops (λ i. same (suc i) ∙ ap (slice_get all) (next n i))) (key_of op) refl
   where
-    answered : Entry → Type 0
-    answered e = IsAnswered batch before e.1
+    stays : (n : ℕ) → n ≡ n + 0
+    stays n = omega arith
 
-    in_batch : AllByRecursion answered (entries_from 0 batch.ops)
-    in_batch = all_by_key answered (entries_from 0 batch.ops) (λ key. subst (AllByRecursion answered) (same key) (all_at_key answered key es points))
+    next : (n i : ℕ) → n + suc i ≡ n + 1 + i
+    next n i = omega arith
+
+    by : AllByRecursion (IsScanOf all) (scans_from (n + 1) ops) → (k : Option KeyBytes) → key_of op ≡ k → AllByRecursion (IsScanOf all) (scan_place n k ++ scans_from (n + 1) ops)
+    by rest None e = (ap (λ (m : ℕ). option_map key_of (slice_get all m)) (stays n) ∙ ap (option_map key_of) (sym (same 0)) ∙ ap Some e, rest)
+    by rest (Some k) e = rest
+
+pub batch_scans : (ops : List Op) (scans : List ℕ) → scans ≡ scans_from 0 ops → AllByRecursion (IsScanOf ops) scans
+batch_scans ops scans is = subst (AllByRecursion (IsScanOf ops)) (sym is) (scans_are ops 0 ops (λ i. ap (slice_get ops) (from_none i)))
+  where
+    from_none : (i : ℕ) → i ≡ 0 + i
+    from_none i = omega arith
+
+-- the place of an operation without a key is among them
+scan_of : (P : ℕ → Type 0) (n : ℕ) (ops : List Op) (i : ℕ) (op : Op) → slice_get ops i ≡ Some op → key_of op ≡ None → AllByRecursion P (scans_from n ops) → P (n + i)
+scan_of P n [] i op is has all = absurd (none is)
+  where
+    none : None ≡ Some op → ⊥
+    none e = cc
+scan_of P n (o ∷ ops) zero op is has all = first (key_of o) (ap key_of (same is) ∙ has) all
+  where
+    same : Some o ≡ Some op → o ≡ op
+    same e = cc
+
+    stays : (n : ℕ) → n ≡ n + 0
+    stays n = omega arith
+
+    first : (k : Option KeyBytes) → k ≡ None → AllByRecursion P (scan_place n k ++ scans_from (n + 1) ops) → P (n + 0)
+    first None e all = subst P (stays n) all.0
+    first (Some k) e all = absurd (some e)
+      where
+        some : Some k ≡ None → ⊥
+        some e = cc
+scan_of P n (o ∷ ops) (suc i) op is has all = subst P (next n i) (scan_of P (n + 1) ops i op is has (rest (key_of o) all))
+  where
+    next : (n i : ℕ) → n + 1 + i ≡ n + suc i
+    next n i = omega arith
+
+    rest : (k : Option KeyBytes) → AllByRecursion P (scan_place n k ++ scans_from (n + 1) ops) → AllByRecursion P (scans_from (n + 1) ops)
+    rest None all = all.1
+    rest (Some k) all = all
+
+-- what holds at the places of all points and all scans holds at each place
+pub at_each_place : (P : ℕ → Type 0) (batch : GroupingView) → AreGrouped batch → AllByRecursion P (places_of batch.points) → AllByRecursion P batch.scans → (place : ℕ) → place < length batch.ops → P place
+at_each_place P batch grouped points scans place lt = at (slice_get batch.ops place) refl
+  where
+    entries : (es : List Entry) → AllByRecursion P (places_of es) → AllByRecursion (λ e. P e.1) es
+    entries [] all = tt
+    entries (e ∷ es) all = (all.0, entries es all.1)
+
+    in_batch : AllByRecursion (λ (e : Entry). P e.1) (entries_from 0 batch.ops)
+    in_batch = all_by_key (λ e. P e.1) (entries_from 0 batch.ops)
+        (λ key. subst (AllByRecursion (λ (e : Entry). P e.1)) (grouped.same key) (all_at_key (λ e. P e.1) key batch.points (entries batch.points points)))
 
     from_none : (i : ℕ) → 0 + i ≡ i
     from_none i = omega arith
@@ -109,14 +154,10 @@ all_replied batch es before replies same len points keeps scans =
         none e = cc
     past (o ∷ ops) (suc i) is lt = past ops i is (omega (arith, lt))
 
-    at : (i : ℕ) (o : Option Op) → slice_get batch.ops i ≡ o → i < length batch.ops → IsAnswered batch replies i
-    at i None is lt = absurd (past batch.ops i is lt)
-    at i (Some op) is lt = by (key_of op) refl
+    at : (o : Option Op) → slice_get batch.ops place ≡ o → P place
+    at None is = absurd (past batch.ops place is lt)
+    at (Some op) is = by (key_of op) refl
       where
-        by : (k : Option KeyBytes) → key_of op ≡ k → IsAnswered batch replies i
-        by None has = scans i (ap (option_map key_of) is ∙ ap Some has)
-        by (Some key) has = keeps i (subst (IsAnswered batch before) (from_none i) (entry_of answered 0 batch.ops i op key is has in_batch))
-
-pub both_on_ok : {X E P Q R : Type 0} (r : Result X E) → (P → Q → R) → OnOk r P → OnOk r Q → OnOk r R
-both_on_ok (Ok x) makes p q = makes p q
-both_on_ok (Err e) makes p q = p
+        by : (k : Option KeyBytes) → key_of op ≡ k → P place
+        by None has = subst P (from_none place) (scan_of P 0 batch.ops place op is has (subst (AllByRecursion P) grouped.scans scans))
+        by (Some key) has = subst P (from_none place) (entry_of (λ e. P e.1) 0 batch.ops place op key is has in_batch)

@@ -32,9 +32,23 @@ abbrev pub entries_from : ℕ → List Op → List Entry
 entries_from place [] = []
 entries_from place (op ∷ ops) = entry_at place (key_of op) ++ entries_from (place + 1) ops
 
+-- the place of an operation without a key
+abbrev pub scan_place : ℕ → Option KeyBytes → List ℕ
+scan_place place None = place ∷ []
+scan_place place (Some key) = []
+
+-- the places of the operations without a key, the first operation at this place
+abbrev pub scans_from : ℕ → List Op → List ℕ
+scans_from place [] = []
+scans_from place (op ∷ ops) = scan_place place (key_of op) ++ scans_from (place + 1) ops
+
 -- what a list of points says
 abbrev pub entries_of : List Point → List Entry
 entries_of = map (λ p. (p.key.now, p.place))
+
+-- the places of entries
+abbrev pub places_of : List Entry → List ℕ
+places_of = map (λ e. e.1)
 
 -- the entries of a key
 abbrev pub entries_at : KeyBytes → List Entry → List Entry
@@ -53,12 +67,18 @@ HasRisingPlaces low (e ∷ es) = (low ≤ e.1) × HasRisingPlaces (e.1 + 1) es
 abbrev pub IsEntryOf : List Op → Entry → Type 0
 IsEntryOf ops e = option_map key_of (slice_get ops e.1) ≡ Some (Some e.0)
 
--- the operations of a batch, and those on one key each
+-- the operation at this place has no key
+abbrev pub IsScanOf : List Op → ℕ → Type 0
+IsScanOf ops place = option_map key_of (slice_get ops place) ≡ Some None
+
+-- the operations of a batch, those on one key each, and the places of the others
 pub record GroupingView : Type 0 where
   pub ops : List Op
   pub points : List Entry
+  pub scans : List ℕ
 
 -- The points are those of the operations, in the order of their keys; those of one key are in the order of the batch.
 pub record AreGrouped (batch : GroupingView) : Type 0 where
   pub sorted : IsSortedBy (λ d e. is_lt (key_cmp d.0 e.0)) batch.points
   pub same : (key : KeyBytes) → entries_at key batch.points ≡ entries_at key (entries_from 0 batch.ops)
+  pub scans : batch.scans ≡ scans_from 0 batch.ops

@@ -1,39 +1,70 @@
 // The replies to a batch.
-ghost use Rattle.std.specs.Prelude.{◌≡◌, ℕ, ◌+◌, ◌≤◌, ◌^◌, length, take, IfOk};
+ghost use Rattle.std.specs.Prelude.{◌≡◌, ℕ, ◌+◌, ◌<◌, ◌≤◌, ◌^◌, length, take, IfOk, flat_map};
+ghost use Rattle.std.specs.List.{AllByRecursion};
 ghost use Rattle.bw_model.specs.Model.{contents_after, replies_of};
 ghost use Rattle.bw_tree.specs.View.{contents_at};
+ghost use Rattle.bw_answer.specs.Standing.{with_answers};
 
+use crate::parts::{count_parts, parts};
 use crate::points::Grouping;
-use crate::standing::StandingBatch;
+use crate::standing::{Answer, StandingBatch};
 use bw_key::Memory;
 use bw_memory::Alloc;
 use bw_model::{Replies, Reply};
 use bw_tree::Tree;
+use std::thread::Threads;
 
 /// The replies to a batch, in its order, by a tree in which its writes stand: as of `base + i` the tree has the map
 /// that the first i operations leave.
 ///
-/// Each leaf that has a key of the batch is searched for once. The writes over it are sorted by key, and each key's
+/// A reply depends on the tree as of its operation's stamp alone. So the operations on one key each, grouped by key, are
+/// cut into at most `workers` parts of the same length, and so are the scans; the parts are answered side by side. A
+/// small batch is one part, and starts no thread.
+///
+/// In a part each leaf that has a key of it is searched for once. The writes over it are sorted by key, and each key's
 /// are then passed once, beside the operations on the key. So the cost doesn't depend on how many of them are on one
-/// key. Each scan besides costs a `scan_at`, and each scan back an `rscan_at`. `Memory` is answered where a list or a
-/// reply finds none.
-pub fn replies(
+/// key, but that a key whose operations are cut has its writes passed in each part. Each scan besides costs a
+/// `scan_at`, and each scan back an `rscan_at`. `Memory` is answered where a list or a reply finds none, in any part.
+pub fn replies<R: Threads + Sync>(
+    rt: &R,
     alloc: Alloc,
     tree: &Tree,
     base: u64,
     batch: &Grouping<'_>,
+    workers: u64,
 ) -> Result<Replies, Memory>
     requires reads { (i : ℕ) → contents_at tree.now (base + i) ≡ contents_after (take i batch.now.ops) (contents_at tree.now base) }
     requires fits { base + length batch.now.ops ≤ 2 ^ 40 }
     ensures { IfOk result (λ replies. replies ≡ replies_of batch.now.ops (contents_at tree.now base)) }
 {
-    let mut replies = unanswered(alloc, batch.ops.len())?;
+    let count = count_parts(batch.points.len(), batch.scans.len(), workers);
+    replies_in_parts(rt, alloc, tree, base, batch, count)
+}
+
+/// The replies to a batch that is cut into at most so many parts.
+pub(crate) fn replies_in_parts<R: Threads + Sync>(
+    rt: &R,
+    alloc: Alloc,
+    tree: &Tree,
+    base: u64,
+    batch: &Grouping<'_>,
+    count: usize,
+) -> Result<Replies, Memory>
+    requires reads { (i : ℕ) → contents_at tree.now (base + i) ≡ contents_after (take i batch.now.ops) (contents_at tree.now base) }
+    requires fits { base + length batch.now.ops ≤ 2 ^ 40 }
+    requires count { 0 < count }
+    ensures { IfOk result (λ replies. replies ≡ replies_of batch.now.ops (contents_at tree.now base)) }
+{
     let standing = StandingBatch {
         tree,
         ops: batch.ops,
         base,
     };
-    standing.answer(alloc, &batch.points, &mut replies)?;
+    let (points, scans) = (&batch.points, &batch.scans);
+    let parts = parts(alloc, points.len(), scans.len(), count)?;
+    let answered = standing.answer_parts(rt, alloc, points, scans, &parts)?;
+    let mut replies = unanswered(alloc, batch.ops.len())?;
+    place_lists(&mut replies, answered);
     Ok(Replies::from_vec(replies))
 }
 
@@ -46,4 +77,24 @@ fn unanswered(alloc: Alloc, len: usize) -> Result<Vec<Reply, Alloc>, Memory>
         replies.push(Reply::Absent)?;
     }
     Ok(replies)
+}
+
+// Puts the answers of each list at their places.
+fn place_lists(replies: &mut [Reply], lists: Vec<Vec<Answer, Alloc>, Alloc>)
+    requires { AllByRecursion (λ a. a.place < length replies.old) (flat_map (λ list. list.items) lists.items) }
+    ensures { replies.new ≡ with_answers replies.old (flat_map (λ list. list.items) lists.entry.items) }
+{
+    for list in lists {
+        place_answers(replies, list);
+    }
+}
+
+// Puts answers at their places.
+fn place_answers(replies: &mut [Reply], answers: Vec<Answer, Alloc>)
+    requires { AllByRecursion (λ a. a.place < length replies.old) answers.items }
+    ensures { replies.new ≡ with_answers replies.old answers.entry.items }
+{
+    for answer in answers {
+        replies[answer.place] = answer.reply;
+    }
 }

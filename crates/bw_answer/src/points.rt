@@ -5,18 +5,19 @@ ghost use Rattle.std.specs.List.Sorted.{IsSortedBy};
 ghost use Rattle.std.specs.Ordering.{is_lt};
 ghost use Rattle.std.specs.Option.{option_copied};
 ghost use Rattle.bw_key.specs.Order.{KeyBytes, key_cmp, key_eq};
-ghost use Rattle.bw_answer.specs.Points.{key_of, entries_from, entries_of, entries_at, HasKey};
+ghost use Rattle.bw_answer.specs.Points.{key_of, entries_from, entries_of, entries_at, scans_from, HasKey};
 
 use bw_key::{Key, Memory};
 use bw_memory::Alloc;
 use bw_model::Op;
 use std::marker::Model;
 
-/// The operations of a batch, those on one key each grouped by key.
+/// The operations of a batch, those on one key each grouped by key, and the scans.
 #[derive(Drop)]
 pub struct Grouping<'a> {
     pub(crate) ops: &'a [Op],
     pub(crate) points: Vec<Point<'a>, Alloc>,
+    pub(crate) scans: Vec<usize, Alloc>,
 }
 
 impl<'a> Model for Grouping<'a> {
@@ -24,20 +25,21 @@ impl<'a> Model for Grouping<'a> {
 
     ghost Value = { GroupingView };
 
-    ghost view = { λ g. record { ops = g.ops.now; points = entries_of g.points.items } };
+    ghost view = { λ g. record { ops = g.ops.now; points = entries_of g.points.items; scans = g.scans.items } };
 
-    ghost invariant = { λ g. AreGrouped (record { ops = g.ops.now; points = entries_of g.points.items }) };
+    ghost invariant = { λ g. AreGrouped (record { ops = g.ops.now; points = entries_of g.points.items; scans = g.scans.items }) };
 }
 
 impl<'a> Grouping<'a> {
     /// Groups the operations of a batch by key, in about n log2 n key comparisons for n operations. It copies no key.
-    /// `Memory` is answered where the list finds none.
+    /// `Memory` is answered where a list finds none.
     pub fn new(alloc: Alloc, ops: &'a [Op]) -> Result<Grouping<'a>, Memory>
         ensures { IfOk result (λ grouping. grouping.ops ≡ ops.now) }
     {
         let mut points = points_of(alloc, ops)?;
         group(&mut points)?;
-        Ok(Grouping { ops, points })
+        let scans = scans_of(alloc, ops)?;
+        Ok(Grouping { ops, points, scans })
     }
 }
 
@@ -60,6 +62,20 @@ pub(crate) fn points_of<'a>(alloc: Alloc, ops: &'a [Op]) -> Result<Vec<Point<'a>
         }
     }
     Ok(points)
+}
+
+// The places of the operations on no key of their own, in the order of the batch.
+fn scans_of(alloc: Alloc, ops: &[Op]) -> Result<Vec<usize, Alloc>, Memory>
+    ensures { IfOk result (λ scans. scans.items ≡ scans_from 0 ops.now) }
+{
+    let mut scans = Vec::new(alloc);
+    for (place, op) in ops.iter().enumerate() {
+        match point_key(op) {
+            Some(_) => {}
+            None => scans.push(place)?,
+        }
+    }
+    Ok(scans)
 }
 
 // The key that an operation reads or writes, where it is one.

@@ -1,8 +1,8 @@
 // A batch whose writes stand in a tree.
-ghost use Rattle.std.specs.Prelude.{◌≡◌, ℕ, length, IfOk, OnOk, Some, None, MatchOption, is_some, true, slice_get, ◌<◌};
+ghost use Rattle.std.specs.Prelude.{◌≡◌, ℕ, ◌<◌, ◌++◌, length, IfOk, OnOk, Some, None, is_some, true, slice_get, flat_map};
 ghost use Rattle.std.specs.List.{AllByRecursion, Contains};
 ghost use Rattle.std.specs.List.Sorted.{IsSortedBy};
-ghost use Rattle.std.specs.Option.{option_copied, option_map};
+ghost use Rattle.std.specs.Option.{option_copied};
 ghost use Rattle.std.specs.Ordering.{is_lt};
 ghost use Rattle.bw_key.specs.Order.{KeyBytes, key_cmp};
 ghost use Rattle.bw_model.specs.Model.{reply_of};
@@ -10,9 +10,11 @@ ghost use Rattle.bw_delta.specs.History.{pointed_to};
 ghost use Rattle.bw_delta.specs.Rising.{HasRisingStamps};
 ghost use Rattle.bw_tree.specs.Levels.{IsHome, row};
 ghost use Rattle.bw_tree.specs.View.{contents_at};
-ghost use Rattle.bw_answer.specs.Points.{key_of, entries_from, entries_of, entries_at, HasRisingPlaces, IsEntryOf};
-ghost use Rattle.bw_answer.specs.Standing.{replies_to, IsAnswered, IsReadBy, IsReplyAt};
+ghost use Rattle.bw_answer.specs.Points.{key_of, entries_of, entries_at, places_of, HasRisingPlaces, IsEntryOf, IsScanOf};
+ghost use Rattle.bw_answer.specs.Parts.{IsPartOf, places_in};
+ghost use Rattle.bw_answer.specs.Standing.{answers_to, IsReadBy, IsReplyAt};
 
+use crate::parts::Part;
 use crate::points::{Point, group_end};
 use crate::runs::run_from;
 use crate::writes::{by_key, group_of};
@@ -21,7 +23,9 @@ use bw_key::Memory;
 use bw_memory::Alloc;
 use bw_model::{Op, Reply, Value};
 use bw_tree::{PageId, Tree};
+use rayon::prelude::*;
 use std::marker::Model;
+use std::thread::Threads;
 
 /// A batch whose writes stand in a tree: as of the stamp of an operation the tree has the map that the operations
 /// before it leave.
@@ -42,62 +46,106 @@ impl<'a> Model for StandingBatch<'a> {
     ghost invariant = { λ b. IsReadInTurn (record { tree = b.tree.now; ops = b.ops.now; base = b.base }) };
 }
 
+/// The reply to the operation at a place of a batch.
+#[derive(Drop)]
+pub(crate) struct Answer {
+    pub(crate) place: usize,
+    pub(crate) reply: Reply,
+}
+
 impl<'a> StandingBatch<'a> {
-    /// Gives each operation its reply. The points are those of the operations, grouped by key.
-    pub(crate) fn answer(
+    /// The answers to the points and scans of each part, in lists of their own. The parts are shared out among threads.
+    pub(crate) fn answer_parts<R: Threads + Sync>(
+        &self,
+        rt: &R,
+        alloc: Alloc,
+        points: &[Point<'_>],
+        scans: &[usize],
+        parts: &[Part],
+    ) -> Result<Vec<Vec<Answer, Alloc>, Alloc>, Memory>
+        requires sorted { IsSortedBy (λ d e. is_lt (key_cmp d.0 e.0)) (entries_of points.now) }
+        requires entries { AllByRecursion (IsEntryOf self.now.ops) (entries_of points.now) }
+        requires rising { (key : KeyBytes) → HasRisingPlaces 0 (entries_at key (entries_of points.now)) }
+        requires scans { AllByRecursion (IsScanOf self.now.ops) scans.now }
+        requires within { AllByRecursion (IsPartOf (length points.now) (length scans.now)) parts.now }
+        ensures { let places = flat_map (places_in (places_of (entries_of points.now)) scans.now) parts.now in
+            IfOk result (λ lists. flat_map (λ list. list.items) lists.items ≡ answers_to self.now places) }
+    {
+        parts
+            .par_iter()
+            .with_min_len(1)
+            .map(
+                move |part: &Part| -> Result<Vec<Answer, Alloc>, Memory>
+                    requires { IsSortedBy (λ d e. is_lt (key_cmp d.0 e.0)) (entries_of points.now)
+                        × AllByRecursion (IsEntryOf self.now.ops) (entries_of points.now)
+                        × ((key : KeyBytes) → HasRisingPlaces 0 (entries_at key (entries_of points.now)))
+                        × AllByRecursion (IsScanOf self.now.ops) scans.now
+                        × IsPartOf (length points.now) (length scans.now) part.now }
+                    ensures { IfOk result (λ answers. answers.items ≡ answers_to self.entry.now (places_in (places_of (entries_of points.entry.now)) scans.entry.now part.entry.now)) }
+                { self.answer_part(alloc, points, scans, *part) },
+            )
+            .collect::<Result<Vec<Vec<Answer, Alloc>, Alloc>, Memory>>(rt, alloc)?
+    }
+
+    // The answers to the points and the scans of a part.
+    fn answer_part(
         &self,
         alloc: Alloc,
         points: &[Point<'_>],
-        replies: &mut [Reply],
-    ) -> Result<(), Memory>
-        requires places { length replies.old ≡ length self.now.ops }
+        scans: &[usize],
+        part: Part,
+    ) -> Result<Vec<Answer, Alloc>, Memory>
         requires sorted { IsSortedBy (λ d e. is_lt (key_cmp d.0 e.0)) (entries_of points.now) }
-        requires points { (key : KeyBytes) → entries_at key (entries_of points.now) ≡ entries_at key (entries_from 0 self.now.ops) }
-        ensures { OnOk result (replies.new ≡ replies_to self.now) }
+        requires entries { AllByRecursion (IsEntryOf self.now.ops) (entries_of points.now) }
+        requires rising { (key : KeyBytes) → HasRisingPlaces 0 (entries_at key (entries_of points.now)) }
+        requires scans { AllByRecursion (IsScanOf self.now.ops) scans.now }
+        requires within { IsPartOf (length points.now) (length scans.now) part }
+        ensures { IfOk result (λ answers. answers.items ≡ answers_to self.now (places_in (places_of (entries_of points.now)) scans.now part)) }
     {
-        self.answer_points(alloc, points, replies)?;
-        self.answer_scans(replies)
+        let mut answers = Vec::new(alloc);
+        self.answer_points(
+            alloc,
+            &points[part.points.start..part.points.end],
+            &mut answers,
+        )?;
+        self.answer_scans(&scans[part.scans.start..part.scans.end], &mut answers)?;
+        Ok(answers)
     }
 
-    // Answers the operations on one key each, a run of them for each leaf.
+    // Adds the answers to operations on one key each, a run of them for each leaf.
     fn answer_points(
         &self,
         alloc: Alloc,
         points: &[Point<'_>],
-        replies: &mut [Reply],
+        answers: &mut Vec<Answer, Alloc>,
     ) -> Result<(), Memory>
-        requires places { length replies.old ≡ length self.now.ops }
         requires sorted { IsSortedBy (λ d e. is_lt (key_cmp d.0 e.0)) (entries_of points.now) }
         requires entries { AllByRecursion (IsEntryOf self.now.ops) (entries_of points.now) }
         requires rising { (key : KeyBytes) → HasRisingPlaces 0 (entries_at key (entries_of points.now)) }
-        ensures len { length replies.new ≡ length replies.old }
-        ensures answered { OnOk result (AllByRecursion (λ e. IsAnswered self.now replies.new e.1) (entries_of points.now)) }
+        ensures { OnOk result (answers.new.items ≡ answers.old.items ++ answers_to self.now (places_of (entries_of points.now))) }
     {
         let mut start = 0;
         while start < points.len() {
             let (page, end) = run_from(self.tree, points, start);
-            self.answer_run(alloc, page, &points[start..end], replies)?;
+            self.answer_run(alloc, page, &points[start..end], answers)?;
             start = end;
         }
         Ok(())
     }
 
-    // Answers the operations on the keys of one leaf.
+    // Adds the answers to operations on the keys of one leaf.
     fn answer_run(
         &self,
         alloc: Alloc,
         page: PageId,
         points: &[Point<'_>],
-        replies: &mut [Reply],
+        answers: &mut Vec<Answer, Alloc>,
     ) -> Result<(), Memory>
-        requires places { length replies.old ≡ length self.now.ops }
         requires leaf { Contains (row self.now.tree.levels 0) page }
         requires homes { AllByRecursion (λ e. IsHome self.now.tree.slots self.now.tree.levels e.0 page) (entries_of points.now) }
         requires entries { AllByRecursion (IsEntryOf self.now.ops) (entries_of points.now) }
         requires rising { (key : KeyBytes) → HasRisingPlaces 0 (entries_at key (entries_of points.now)) }
-        ensures len { length replies.new ≡ length replies.old }
-        ensures answered { OnOk result (AllByRecursion (λ e. IsAnswered self.now replies.new e.1) (entries_of points.now)) }
-        ensures keeps { OnOk result ((place : ℕ) → IsAnswered self.now replies.old place → IsAnswered self.now replies.new place) }
+        ensures { OnOk result (answers.new.items ≡ answers.old.items ++ answers_to self.now (places_of (entries_of points.now))) }
     {
         self.tree.know_homes();
         let leaf = self.tree.base(page);
@@ -108,87 +156,68 @@ impl<'a> StandingBatch<'a> {
             let end = group_end(points, start);
             let key = points[start].key;
             let group = &points[start..end];
-            self.answer_group(leaf.find(key), group_of(&writes, key), group, replies)?;
+            self.answer_group(leaf.find(key), group_of(&writes, key), group, answers)?;
             start = end;
         }
         Ok(())
     }
 
-    // Answers the operations on one key, in the order of the batch, by the value and the writes that the tree has there.
+    // Adds the answers to operations on one key, in the order of the batch, by the value and the writes that the tree has
+    // there.
     fn answer_group<'b>(
         &self,
         start: Option<&'b Value>,
         writes: &'b [&'b Write],
         points: &[Point<'_>],
-        replies: &mut [Reply],
+        answers: &mut Vec<Answer, Alloc>,
     ) -> Result<(), Memory>
-        requires places { length replies.old ≡ length self.now.ops }
         requires stamps { HasRisingStamps 0 (pointed_to writes.now) }
         requires reads { AllByRecursion (λ e. IsReadBy self.now.tree (option_copied start) (pointed_to writes.now) e.0) (entries_of points.now) }
         requires entries { AllByRecursion (IsEntryOf self.now.ops) (entries_of points.now) }
         requires rising { HasRisingPlaces 0 (entries_of points.now) }
-        ensures len { length replies.new ≡ length replies.old }
-        ensures answered { OnOk result (AllByRecursion (λ e. IsAnswered self.now replies.new e.1) (entries_of points.now)) }
-        ensures keeps { OnOk result ((place : ℕ) → IsAnswered self.now replies.old place → IsAnswered self.now replies.new place) }
+        ensures { OnOk result (answers.new.items ≡ answers.old.items ++ answers_to self.now (places_of (entries_of points.now))) }
     {
         let mut reading = Reading::new(start, writes);
         for point in points {
-            reading.advance(self.base + point.place as u64);
-            replies[point.place] = point_reply(op_at(self.ops, point.place), reading.value())?;
+            let place = point.place;
+            reading.advance(self.base + place as u64);
+            let reply = point_reply(op_at(self.ops, place), reading.value())?;
+            answers.push(Answer { place, reply })?;
         }
         Ok(())
     }
 
-    // Answers the scans.
-    fn answer_scans(&self, replies: &mut [Reply]) -> Result<(), Memory>
-        requires places { length replies.old ≡ length self.now.ops }
-        ensures len { length replies.new ≡ length replies.old }
-        ensures answered { OnOk result ((place : ℕ) → option_map key_of (slice_get self.now.ops place) ≡ Some None → IsAnswered self.now replies.new place) }
-        ensures keeps { OnOk result ((place : ℕ) → IsAnswered self.now replies.old place → IsAnswered self.now replies.new place) }
+    // Adds the answers to scans, in the order of the batch.
+    fn answer_scans(&self, scans: &[usize], answers: &mut Vec<Answer, Alloc>) -> Result<(), Memory>
+        requires { AllByRecursion (IsScanOf self.now.ops) scans.now }
+        ensures { OnOk result (answers.new.items ≡ answers.old.items ++ answers_to self.now scans.now) }
     {
-        for (place, op) in self.ops.iter().enumerate() {
-            self.answer_scan(op, place, replies)?;
+        for scan in scans {
+            let place = *scan;
+            let stamp = self.base + place as u64;
+            let reply = scan_reply(self.tree, op_at(self.ops, place), stamp)?;
+            answers.push(Answer { place, reply })?;
         }
-        Ok(())
-    }
-
-    // Answers an operation at its place, where it is a scan.
-    fn answer_scan(&self, op: &Op, place: usize, replies: &mut [Reply]) -> Result<(), Memory>
-        requires places { length replies.old ≡ length self.now.ops }
-        requires op { slice_get self.now.ops place ≡ Some op.now }
-        ensures len { length replies.new ≡ length replies.old }
-        ensures answered { OnOk result (option_map key_of (slice_get self.now.ops place) ≡ Some None → IsAnswered self.now replies.new place) }
-        ensures keeps { OnOk result ((other : ℕ) → IsAnswered self.now replies.old other → IsAnswered self.now replies.new other) }
-    {
-        let Some(reply) = scan_reply(self.tree, op, self.base + place as u64)? else {
-            return Ok(());
-        };
-        replies[place] = reply;
         Ok(())
     }
 }
 
-// The reply to a scan as of a stamp, and none to another operation.
-fn scan_reply(tree: &Tree, op: &Op, stamp: u64) -> Result<Option<Reply>, Memory>
-    ensures { IfOk result (λ reply. MatchOption reply (is_some (key_of op.now) ≡ true)
-        (λ reply. (key_of op.now ≡ None) × (reply ≡ reply_of op.now (contents_at tree.now stamp)))) }
+// The reply to a scan as of a stamp.
+fn scan_reply(tree: &Tree, op: &Op, stamp: u64) -> Result<Reply, Memory>
+    requires { key_of op.now ≡ None }
+    ensures { IfOk result (λ reply. reply ≡ reply_of op.now (contents_at tree.now stamp)) }
 {
-    match op {
-        Op::Scan { from, to, most } => {
-            let pairs = tree.scan_at(from, to.as_ref(), *most, stamp)?;
-            Ok(Some(Reply::Pairs(pairs)))
-        }
-        Op::Rscan { from, to, most } => {
-            let pairs = tree.rscan_at(from, to.as_ref(), *most, stamp)?;
-            Ok(Some(Reply::Pairs(pairs)))
-        }
+    let pairs = match op {
+        Op::Scan { from, to, most } => tree.scan_at(from, to.as_ref(), *most, stamp)?,
+        Op::Rscan { from, to, most } => tree.rscan_at(from, to.as_ref(), *most, stamp)?,
         Op::Get(_)
         | Op::Insert(_, _)
         | Op::Upsert(_, _)
         | Op::Update(_, _)
         | Op::Delete(_)
-        | Op::SwapIf(_, _, _) => Ok(None),
-    }
+        | Op::SwapIf(_, _, _) => unreachable!(),
+    };
+    Ok(Reply::Pairs(pairs))
 }
 
 // The reply to an operation on a key that has this value. It copies no other value.

@@ -81,6 +81,6 @@ fn answer_staged<R: Threads + Sync, G: Gate>(
     let (piece, workers) = (options.piece(), options.workers());
     let Posting { closed, lost } = post_all(rt, alloc, tree, batch, piece, workers, gate)?;
     tree.adopt(closed);
-    let replies = replies(alloc, tree, tree.next_stamp(), batch)?;
+    let replies = replies(rt, alloc, tree, tree.next_stamp(), batch, workers)?;
     Ok(Answered { replies, lost })
 }

@@ -1,10 +1,11 @@
 // Keys, values, a tree and a batch from bytes.
-ghost use Rattle.std.specs.Prelude.{◌≡◌, ℕ, ◌≤◌, [], ◌∷◌, length, None, Some};
+ghost use Rattle.std.specs.Prelude.{◌≡◌, ℕ, ◌<◌, ◌≤◌, [], ◌∷◌, length, None, Some};
 ghost use Rattle.std.specs.List.{AllByRecursion};
 ghost use Rattle.bw_delta.specs.Batches.{write_of};
 ghost use Rattle.bw_tree.specs.Making.{AreAbutting};
 ghost use Rattle.bw_tree.specs.View.{contents_at};
 
+use crate::answering::replies_in_parts;
 use crate::{Grouping, Memory, homes, replies};
 use bw_key::Key;
 use bw_memory::{Alloc, Heap};
@@ -13,6 +14,7 @@ use bw_page::{Leaf, PageId};
 use bw_tree::Tree;
 use std::alloc::Global;
 use std::process::Abort;
+use std::thread::Threads;
 
 // Longer than a key or a value that takes no memory.
 const LONG: &[u8] = b"a text of more than 24 bytes";
@@ -140,14 +142,69 @@ pub fn wanted<R: Abort>(rt: &R, alloc: Alloc) -> [Reply; 6] {
     ]
 }
 
-/// The replies to reads, by a tree without writes.
-pub fn answered(alloc: Alloc, tree: &Tree, ops: &[Op]) -> Result<Replies, Memory>
+// The read of this number: mostly a get at one of seven keys.
+fn read<R: Abort>(rt: &R, alloc: Alloc, number: u64) -> Op
+    ensures { write_of result ≡ None }
+{
+    let from = key(rt, alloc, &[b'a' + (number % 7) as u8]);
+    match number % 16 {
+        3 => Op::Scan {
+            from,
+            to: None,
+            most: 2,
+        },
+        11 => Op::Rscan {
+            from,
+            to: None,
+            most: 2,
+        },
+        _ => Op::Get(from),
+    }
+}
+
+/// So many reads.
+pub fn reads<R: Abort>(rt: &R, alloc: Alloc, count: u64) -> Vec<Op, Alloc>
+    ensures len { length result.items ≡ count }
+    ensures reads { AllByRecursion (λ op. write_of op ≡ None) result.items }
+{
+    let mut ops = Vec::new(alloc);
+    for number in 0..count {
+        ops.push(read(rt, alloc, number)).expect(rt, "memory");
+    }
+    ops
+}
+
+/// The replies to reads, by a tree without writes and so many workers.
+pub fn answered<R: Threads + Sync>(
+    rt: &R,
+    alloc: Alloc,
+    tree: &Tree,
+    ops: &[Op],
+    workers: u64,
+) -> Result<Replies, Memory>
     requires quiet { (stamp : ℕ) → contents_at tree.now stamp ≡ contents_at tree.now 0 }
     requires reads { AllByRecursion (λ op. write_of op ≡ None) ops.now }
-    requires few { length ops.now ≤ 6 }
+    requires few { length ops.now ≤ 5000 }
 {
     let batch = Grouping::new(alloc, ops)?;
-    replies(alloc, tree, 0, &batch)
+    replies(rt, alloc, tree, 0, &batch, workers)
+}
+
+/// The replies to reads, by a tree without writes, in at most so many parts.
+pub fn answered_in_parts<R: Threads + Sync>(
+    rt: &R,
+    alloc: Alloc,
+    tree: &Tree,
+    ops: &[Op],
+    count: usize,
+) -> Result<Replies, Memory>
+    requires quiet { (stamp : ℕ) → contents_at tree.now stamp ≡ contents_at tree.now 0 }
+    requires reads { AllByRecursion (λ op. write_of op ≡ None) ops.now }
+    requires few { length ops.now ≤ 5000 }
+    requires count { 0 < count }
+{
+    let batch = Grouping::new(alloc, ops)?;
+    replies_in_parts(rt, alloc, tree, 0, &batch, count)
 }
 
 /// The homes of a batch.

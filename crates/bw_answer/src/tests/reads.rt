@@ -1,9 +1,12 @@
 // A batch of reads over three leaves.
-use super::making::{answered, batch, heap, homed, three, wanted};
+ghost use Rattle.std.specs.Prelude.{◌<◌};
+
+use super::making::{answered, answered_in_parts, batch, heap, homed, reads, three, wanted};
 use bw_memory::Alloc;
 use bw_model::Reply;
 use bw_page::PageId;
 use std::process::Abort;
+use std::thread::Threads;
 
 // Compares replies.
 fn same<R: Abort>(rt: &R, replies: &[Reply], wanted: &[Reply]) {
@@ -36,8 +39,33 @@ fn each_read_is_answered_at_its_place(rt: HostRuntime) {
     let alloc = heap(&rt, rt.alloc());
     let tree = three(&rt, alloc);
     let ops = batch(&rt, alloc);
-    let replies = answered(alloc, &tree, &ops).expect(&rt, "memory");
-    same(&rt, replies.as_slice(), &wanted(&rt, alloc));
+    for workers in [1, 2, 16, 64] {
+        let replies = answered(&rt, alloc, &tree, &ops, workers).expect(&rt, "memory");
+        same(&rt, replies.as_slice(), &wanted(&rt, alloc));
+    }
+}
+
+#[test]
+fn each_read_is_answered_in_parts(rt: HostRuntime) {
+    let alloc = heap(&rt, rt.alloc());
+    let tree = three(&rt, alloc);
+    let ops = batch(&rt, alloc);
+    for count in [1, 2, 3, 64] {
+        let replies = answered_in_parts(&rt, alloc, &tree, &ops, count).expect(&rt, "memory");
+        same(&rt, replies.as_slice(), &wanted(&rt, alloc));
+    }
+}
+
+#[test]
+fn many_reads_are_answered_alike_by_any_number_of_workers(rt: HostRuntime) {
+    let alloc = heap(&rt, rt.alloc());
+    let tree = three(&rt, alloc);
+    let ops = reads(&rt, alloc, 5_000);
+    let alone = answered(&rt, alloc, &tree, &ops, 1).expect(&rt, "memory");
+    for workers in [2, 16, 64] {
+        let replies = answered(&rt, alloc, &tree, &ops, workers).expect(&rt, "memory");
+        same(&rt, replies.as_slice(), alone.as_slice());
+    }
 }
 
 #[test]
@@ -53,27 +81,38 @@ fn each_key_has_its_home_at_its_place(rt: HostRuntime) {
 fn a_batch_of_no_operations_has_no_replies(rt: HostRuntime) {
     let alloc = heap(&rt, rt.alloc());
     let tree = three(&rt, alloc);
-    let replies = answered(alloc, &tree, &[]).expect(&rt, "memory");
+    let replies = answered(&rt, alloc, &tree, &[], 16).expect(&rt, "memory");
     assert_eq!(rt; replies.as_slice().len(), 0);
 }
 
-#[test]
-fn each_growth_of_replies_is_refused(rt: HostRuntime) {
-    let alloc = heap(&rt, rt.alloc());
-    let tree = three(&rt, alloc);
-    let ops = batch(&rt, alloc);
-    for growth in 1..100 {
+// Refuses each growth of the replies in so many parts, until none is left to refuse.
+fn refuse_each<R: Abort + Threads + Sync>(rt: &R, alloc: Alloc, count: usize)
+    requires { 0 < count }
+{
+    let tree = three(rt, alloc);
+    let ops = batch(rt, alloc);
+    for growth in 1..200 {
         alloc.refuse(growth);
-        let replies = answered(alloc, &tree, &ops);
+        let replies = answered_in_parts(rt, alloc, &tree, &ops, count);
         if !was_refused(alloc, growth) {
-            let replies = replies.expect(&rt, "memory");
-            same(&rt, replies.as_slice(), &wanted(&rt, alloc));
+            let replies = replies.expect(rt, "memory");
+            same(rt, replies.as_slice(), &wanted(rt, alloc));
             assert!(rt; growth > 9);
             return;
         }
         assert!(rt; replies.is_err(), "growth {growth}");
     }
     panic!(rt; "no run met no refusal")
+}
+
+#[test]
+fn each_growth_of_replies_is_refused(rt: HostRuntime) {
+    refuse_each(&rt, heap(&rt, rt.alloc()), 1);
+}
+
+#[test]
+fn each_growth_of_replies_in_parts_is_refused(rt: HostRuntime) {
+    refuse_each(&rt, heap(&rt, rt.alloc()), 4);
 }
 
 #[test]

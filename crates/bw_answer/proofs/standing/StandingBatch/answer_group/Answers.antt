@@ -7,14 +7,14 @@ use Rattle.bw_delta.specs.Readings.{from_stamp}
 use Rattle.bw_answer.specs.Standing.{StandingView, IsReadBy, IsReadInTurn, IsReplyAt}
 use Rattle.bw_answer.specs.Points.{Entry, entries_of, IsEntryOf}
 use Rattle.bw_answer.proofs.Entries.{seen_length, entry_is, entry_holds, entry_key, place_within}
-use Rattle.bw_answer.proofs.ReplyLemmas.{answering_none, answer_more}
+use Rattle.bw_answer.proofs.ReplyLemmas.{all_answering, answering_none, answer_more}
 use Rattle.bw_answer.proofs.standing.StandingBatch.answer_group.Goals as goal
 
 pub loop-point-init : goal.loop-point-init
 loop-point-init c =
     rw c.new-reading.ensures.stamp
-    (answering_none c.args.self.now (option_copied c.args.start) (pointed_to c.args.writes.now) c.requires.stamps (entries_of c.args.points.now) c.args.replies.now c.new-reading.result.value c.new-reading.result.rest
-    c.requires.rising c.requires.places c.new-reading.ensures.value c.new-reading.ensures.rest)
+    (answering_none c.args.self.now (option_copied c.args.start) (pointed_to c.args.writes.now) c.requires.stamps (entries_of c.args.points.now) c.args.answers.now.items c.new-reading.result.value c.new-reading.result.rest
+    c.requires.rising c.new-reading.ensures.value c.new-reading.ensures.rest)
 
 pub overflow_add-self-inside : goal.overflow_add-self-inside
 overflow_add-self-inside c =
@@ -42,23 +42,6 @@ point_reply-requires c =
     let op_is = ap (λ (v : StandingView). slice_get v.ops p.place) (sym c.self.view_is) ∙ c.op_at.ensures in
     ap is_some (entry_key batch.ops (p.key.now, p.place) c.op_at.result.now entry op_is)
 
-pub bounds-replies-point : goal.bounds-replies-point
-bounds-replies-point c =
-    let batch = c.args.self.now in
-    let p = c.point-item.result in
-    let entry = entry_holds (IsEntryOf batch.ops) c.args.points.now c.loop-point.point-index p c.loop-point-test.true c.point-item.is c.requires.entries in
-    let within = place_within batch.ops (p.key.now, p.place) entry in
-    omega (arith, within, c.loop-point.invariant.len)
-
-pub offset_bounds-replies-point : goal.offset_bounds-replies-point
-offset_bounds-replies-point c =
-    let batch = c.args.self.now in
-    let p = c.point-item.result in
-    let entry = entry_holds (IsEntryOf batch.ops) c.args.points.now c.loop-point.point-index p c.loop-point-test.true c.point-item.is c.requires.entries in
-    let within = place_within batch.ops (p.key.now, p.place) entry in
-    let same : length c.self.inside.ops.now ≡ length batch.ops = ap (λ (v : StandingView). length v.ops) c.self.view_is in
-    omega (arith, within, same, c.self.invariant.fits)
-
 pub loop-point-preserved : goal.loop-point-preserved
 loop-point-preserved c =
     let batch = c.args.self.now in
@@ -78,8 +61,14 @@ loop-point-preserved c =
     let stamp = c.advance.ensures.stamp ∙ base in
     let value = c.advance.ensures.value ∙ ap (λ (n : ℕ). history old.value (action_at old.rest) n) base in
     let rest = c.advance.ensures.rest ∙ ap (λ (n : ℕ). from_stamp n old.rest) base in
-    let reply = subst (λ (v : Option ValueBytes). IsReplyAt op v c.in_ok-replies.field-0) c.value.ensures c.in_ok-replies.ensures in
+    let reply = subst (λ (v : Option ValueBytes). IsReplyAt op v c.in_ok-reply.reply) c.value.ensures c.in_ok-reply.ensures in
     rw stamp
-    (answer_more batch (subst IsReadInTurn c.self.view_is c.self.invariant) start writes c.requires.stamps (entries_of points) at c.args.replies.now c.loop-point.replies _ old.stamp old.value old.rest here op
-    reading.value reading.rest c.in_ok-replies.field-0 (omega (arith, c.loop-point-test.true, seen_length points)) here (entry_is points at p here c.loop-point-test.true c.point-item.is)
-    op_is (entry_key batch.ops here op entry op_is) reads c.loop-point.invariant value rest reply refl)
+    (answer_more batch (subst IsReadInTurn c.self.view_is c.self.invariant) start writes c.requires.stamps (entries_of points) at c.args.answers.now.items c.loop-point.answers.items c.push.new.self.items old.stamp old.value old.rest here op
+    reading.value reading.rest c.in_ok-reply.reply (omega (arith, c.loop-point-test.true, seen_length points)) here (entry_is points at p here c.loop-point-test.true c.point-item.is)
+    op_is (entry_key batch.ops here op entry op_is) reads c.loop-point.invariant value rest reply c.in_ok-push.ensures.items)
+
+pub returns : goal.returns
+returns c =
+    let points = c.args.points.now in
+    all_answering c.args.self.now (option_copied c.args.start) (pointed_to c.args.writes.now) (entries_of points) c.loop-point.point-index c.args.answers.now.items c.loop-point.answers.items c.loop-point.reading.stamp c.loop-point.reading.value
+    c.loop-point.reading.rest (omega (arith, c.loop-point-test.false, seen_length points)) c.loop-point.invariant

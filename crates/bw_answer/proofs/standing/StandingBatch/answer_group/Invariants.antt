@@ -5,4 +5,4 @@ use Rattle.bw_answer.proofs.ReplyLemmas.{IsAnswering}
 use Rattle.bw_answer.proofs.standing.StandingBatch.answer_group.Given as goal
 
 abbrev pub invariant-loop-point : goal.invariant-loop-point
-invariant-loop-point l = IsAnswering l.self (option_copied l.start) (pointed_to l.writes) (entries_of l.points) l.point-index l.fn.replies l.replies l.reading.stamp l.reading.value l.reading.rest
+invariant-loop-point l = IsAnswering l.self (option_copied l.start) (pointed_to l.writes) (entries_of l.points) l.point-index l.fn.answers.items l.answers.items l.reading.stamp l.reading.value l.reading.rest

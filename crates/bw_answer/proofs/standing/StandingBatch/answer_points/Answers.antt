@@ -6,7 +6,7 @@ use Rattle.bw_answer.specs.Points.{IsEntryOf, entries_of}
 use Rattle.bw_answer.specs.Standing.{StandingView}
 use Rattle.bw_answer.proofs.Entries.{part_holds, part_rises}
 use Rattle.bw_answer.proofs.Lists.{all_same}
-use Rattle.bw_answer.proofs.ReplyLemmas.{all_answered, part_answered}
+use Rattle.bw_answer.proofs.ReplyLemmas.{all_answered, answered_none, part_answered}
 use Rattle.bw_answer.proofs.standing.StandingBatch.answer_points.Goals as goal
 
 pub answer_run-requires-clause-homes : goal.answer_run-requires-clause-homes
@@ -23,10 +23,13 @@ answer_run-requires-clause-entries c = part_holds (IsEntryOf c.args.self.now.ops
 pub answer_run-requires-clause-rising : goal.answer_run-requires-clause-rising
 answer_run-requires-clause-rising c = part_rises c.args.points.now c.loop-start.start (c.run_from-page.result.1 - c.loop-start.start) c.requires.rising
 
+pub loop-start-init : goal.loop-start-init
+loop-start-init c = answered_none c.args.self.now c.args.points.now c.args.answers.now.items
+
 pub loop-start-preserved : goal.loop-start-preserved
 loop-start-preserved c =
-    part_answered c.args.self.now c.args.points.now c.loop-start.start c.run_from-page.result.1 c.args.replies.now c.loop-start.replies c.answer_run.new.replies (omega (arith, c.run_from-page.ensures.more)) c.run_from-page.ensures.bound
-    c.loop-start.invariant c.in_ok-answer_run.ensures.len c.in_ok-answer_run.ensures.keeps c.in_ok-answer_run.ensures.answered
+    part_answered c.args.self.now c.args.points.now c.loop-start.start c.run_from-page.result.1 c.args.answers.now.items c.loop-start.answers.items c.answer_run.new.answers.items (omega (arith, c.run_from-page.ensures.more))
+    c.run_from-page.ensures.bound c.loop-start.invariant c.in_ok-answer_run.ensures
 
-pub returns-clause-answered : goal.returns-clause-answered
-returns-clause-answered c = all_answered c.args.self.now c.args.points.now c.loop-start.start c.args.replies.now c.loop-start.replies c.loop-start-test.false c.loop-start.invariant
+pub returns : goal.returns
+returns c = all_answered c.args.self.now c.args.points.now c.loop-start.start c.args.answers.now.items c.loop-start.answers.items c.loop-start-test.false c.loop-start.invariant

@@ -10,7 +10,7 @@ use Rattle.bw_tree.specs.View.{TreeView}
 use Rattle.bw_answer.specs.Points.{IsEntryOf, entries_of}
 use Rattle.bw_answer.specs.Standing.{IsReadBy, StandingView}
 use Rattle.bw_answer.proofs.Entries.{group_rises, part_holds}
-use Rattle.bw_answer.proofs.ReplyLemmas.{all_answered, part_answered}
+use Rattle.bw_answer.proofs.ReplyLemmas.{all_answered, answered_none, part_answered}
 use Rattle.bw_answer.proofs.RunLemmas.{group_read, group_reads}
 use Rattle.bw_answer.proofs.standing.StandingBatch.answer_run.Goals as goal
 
@@ -44,10 +44,13 @@ pub answer_group-requires-clause-rising : goal.answer_group-requires-clause-risi
 answer_group-requires-clause-rising c =
     group_rises _ c.args.points.now c.loop-start.start c.group_end-end.result (omega (arith, c.group_end-end.ensures.more)) (c.requires.rising _) (c.group_end-end.ensures.same c.index-points-start.result)
 
+pub loop-start-init : goal.loop-start-init
+loop-start-init c = answered_none c.args.self.now c.args.points.now c.args.answers.now.items
+
 pub loop-start-preserved : goal.loop-start-preserved
 loop-start-preserved c =
-    part_answered c.args.self.now c.args.points.now c.loop-start.start c.group_end-end.result c.args.replies.now c.loop-start.replies c.answer_group.new.replies (omega (arith, c.group_end-end.ensures.more)) c.group_end-end.ensures.bound
-    c.loop-start.invariant c.in_ok-answer_group.ensures.len c.in_ok-answer_group.ensures.keeps c.in_ok-answer_group.ensures.answered
+    part_answered c.args.self.now c.args.points.now c.loop-start.start c.group_end-end.result c.args.answers.now.items c.loop-start.answers.items c.answer_group.new.answers.items (omega (arith, c.group_end-end.ensures.more))
+    c.group_end-end.ensures.bound c.loop-start.invariant c.in_ok-answer_group.ensures
 
-pub returns-clause-answered : goal.returns-clause-answered
-returns-clause-answered c = all_answered c.args.self.now c.args.points.now c.loop-start.start c.args.replies.now c.loop-start.replies c.loop-start-test.false c.loop-start.invariant
+pub returns : goal.returns
+returns c = all_answered c.args.self.now c.args.points.now c.loop-start.start c.args.answers.now.items c.loop-start.answers.items c.loop-start-test.false c.loop-start.invariant

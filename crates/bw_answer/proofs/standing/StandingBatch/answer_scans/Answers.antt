@@ -1,5 +1,18 @@
-use Rattle.std.proofs.Common.{arith}
+use Rattle.std.proofs.Common.{◌≡◌, ◌+◌, get_or, slice_get, sym, ap, subst, ◌∙◌}
+use Rattle.std.proofs.lemmas.List.{get_or_default}
+use Rattle.bw_model.specs.Model.{reply_of}
+use Rattle.bw_tree.specs.View.{contents_at}
+use Rattle.bw_answer.specs.Standing.{StandingView, IsReadInTurn}
+use Rattle.bw_answer.proofs.ReplyLemmas.{scan_more}
 use Rattle.bw_answer.proofs.standing.StandingBatch.answer_scans.Goals as goal
 
-pub loop-place-init : goal.loop-place-init
-loop-place-init c = record { len = c.requires.places; keeps = λ place old. old; done = λ place lt scan. absurd (omega (arith, lt)) }
+pub loop-scan-preserved : goal.loop-scan-preserved
+loop-scan-preserved c =
+    let batch = c.args.self.now in
+    let scans = c.args.scans.now in
+    let n = c.loop-scan.scan-index in
+    let place = get_or scans n 0 in
+    let op = c.op_at.result.now in
+    let op_is = ap (λ (v : StandingView). slice_get v.ops place) (sym c.self.view_is) ∙ c.op_at.ensures in
+    scan_more batch (subst IsReadInTurn c.self.view_is c.self.invariant) scans n place op c.args.answers.now.items c.loop-scan.answers.items c.push.new.self.items c.in_ok-reply.reply c.loop-scan-test.true
+    (get_or_default scans n 0 place c.loop-scan-test.true) op_is (c.in_ok-reply.ensures ∙ ap (λ (v : StandingView). reply_of op (contents_at v.tree (v.base + place))) c.self.view_is) c.loop-scan.invariant c.in_ok-push.ensures.items

@@ -1,5 +1,6 @@
-use Rattle.bw_answer.proofs.ReplyLemmas.{AreScansAnswered}
+use Rattle.std.proofs.Common.{◌≡◌, ◌++◌, take}
+use Rattle.bw_answer.specs.Standing.{answers_to}
 use Rattle.bw_answer.proofs.standing.StandingBatch.answer_scans.Given as goal
 
-abbrev pub invariant-loop-place : goal.invariant-loop-place
-invariant-loop-place l = AreScansAnswered l.self l.place l.fn.replies l.replies
+abbrev pub invariant-loop-scan : goal.invariant-loop-scan
+invariant-loop-scan l = l.answers.items ≡ l.fn.answers.items ++ answers_to l.self (take l.scan-index l.scans)

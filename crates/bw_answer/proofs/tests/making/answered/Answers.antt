@@ -6,6 +6,6 @@ use Rattle.bw_answer.proofs.ReadOnly.{reads_leave}
 use Rattle.bw_answer.proofs.tests.making.answered.Goals as goal
 
 pub replies-requires-clause-reads : goal.replies-requires-clause-reads
-replies-requires-clause-reads c = λ i.
+replies-requires-clause-reads g c κs within = λ i.
     let before = contents_at c.args.tree.now 0 in
     c.requires.quiet (0 + i) ∙ sym (ap (λ (l : List Op). contents_after (take i l) before) c.in_ok-batch.ensures ∙ reads_leave c.args.ops.now c.requires.reads i before)

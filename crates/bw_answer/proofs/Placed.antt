@@ -1,0 +1,104 @@
+-- Answers that are put at their places.
+use Rattle.std.proofs.Common.{◌≡◌, inl, inr, ℕ, zero, suc, ◌<◌, List, [], ◌∷◌, ◌++◌, length, get_or, slice_get, slice_set, Some, refl, sym, ap, ◌∙◌, subst, arith}
+use Rattle.std.specs.List.{AllByRecursion, flat_map}
+use Rattle.std.specs.declared.vec.Vec.{Vec}
+use Rattle.std.proofs.lemmas.Bool.{cases_eq}
+use Rattle.std.proofs.lemmas.List.{length-set}
+use Rattle.bw_model.specs.declared.operations.Reply.{Reply}
+use Rattle.bw_model.specs.declared.operations.Reply.TheVariants.{Absent}
+use Rattle.bw_answer.specs.declared.standing.Answer.{Answer}
+use Rattle.bw_answer.specs.Standing.{StandingView, contents_before, replies_to, answers_to, with_answers}
+use Rattle.bw_answer.proofs.Lists.{all_back, all_front, get_other, get_set, same_list}
+use Rattle.bw_answer.proofs.ReplyLemmas.{replies_length}
+
+-- the reply at this place is the one that the batch wants there
+abbrev pub IsAnswered : StandingView → List Reply → ℕ → Type 0
+IsAnswered batch replies place = slice_get replies place ≡ slice_get (replies_to batch) place
+
+abbrev pub IsPlace : StandingView → ℕ → Type 0
+IsPlace batch place = place < length (replies_to batch)
+
+pub placed_length : (replies : List Reply) (answers : List Answer) → length (with_answers replies answers) ≡ length replies
+placed_length replies [] = refl
+placed_length replies (a ∷ rest) = placed_length (slice_set replies a.place a.reply) rest ∙ length-set replies a.place a.reply
+
+-- the answers to places are at these places
+pub all_within : (batch : StandingView) (n : ℕ) (places : List ℕ) → AllByRecursion (λ place. place < n) places → AllByRecursion (λ (a : Answer). a.place < n) (answers_to batch places)
+all_within batch n [] all = tt
+all_within batch n (place ∷ places) all = (all.0, all_within batch n places all.1)
+
+module _ (batch : StandingView) where
+  there : (rs : List Reply) (i : ℕ) → i < length rs → slice_get rs i ≡ Some (get_or rs i Absent)
+  there [] i lt = absurd (omega arith)
+  there (r ∷ rs) zero lt = refl
+  there (r ∷ rs) (suc i) lt = there rs i (omega arith)
+
+  answered : (replies : List Reply) (place : ℕ) → length replies ≡ length (replies_to batch) → IsPlace batch place → IsAnswered batch (slice_set replies place (get_or (replies_to batch) place Absent)) place
+  answered replies place len lt = get_set replies place (get_or (replies_to batch) place Absent) (omega (arith, len, lt)) ∙ sym (there (replies_to batch) place lt)
+
+  -- an answer leaves the others
+  still : (replies : List Reply) (place other : ℕ) → length replies ≡ length (replies_to batch) → IsPlace batch place → IsAnswered batch replies other → IsAnswered batch (slice_set replies place (get_or (replies_to batch) place Absent)) other
+  still replies place other len lt old =
+      let reply = get_or (replies_to batch) place Absent in
+      elim (cases_eq place other) [
+        | inl same ↦ subst (IsAnswered batch (slice_set replies place reply)) same (answered replies place len lt)
+        | inr apart ↦ get_other replies place other reply apart ∙ old
+      ]
+
+  kept : (places : List ℕ) (replies : List Reply) (other : ℕ) → length replies ≡ length (replies_to batch) → AllByRecursion (IsPlace batch) places → IsAnswered batch replies other → IsAnswered batch (with_answers replies (answers_to batch places)) other
+  kept [] replies other len all old = old
+  kept (place ∷ places) replies other len all old =
+      let reply = get_or (replies_to batch) place Absent in
+      kept places (slice_set replies place reply) other (length-set replies place reply ∙ len) all.1 (still replies place other len all.0 old)
+
+  pub all_placed : (places : List ℕ) (replies : List Reply) → length replies ≡ length (replies_to batch) → AllByRecursion (IsPlace batch) places → AllByRecursion (IsAnswered batch (with_answers replies (answers_to batch places))) places
+  all_placed [] replies len all = tt
+  all_placed (place ∷ places) replies len all =
+      let reply = get_or (replies_to batch) place Absent in
+      let next = slice_set replies place reply in
+      let size = length-set replies place reply ∙ len in
+      (kept places next place size all.1 (answered replies place len all.0), all_placed places next size all.1)
+
+  -- where each place is answered, the batch is
+  pub all_replied : (replies : List Reply) → length replies ≡ length (replies_to batch) → ((place : ℕ) → place < length batch.ops → IsAnswered batch replies place) → replies ≡ replies_to batch
+  all_replied replies len each =
+      let size = replies_length batch.ops (contents_before batch) in
+      same_list replies (replies_to batch) len (λ i lt. each i (omega (arith, lt, len, size)))
+
+-- one answer further
+pub next_placed : (replies : List Reply) (rest rest' : List Answer) (a : Answer) → rest ≡ a ∷ rest' → AllByRecursion (λ (b : Answer). b.place < length replies) rest →
+    (a.place < length replies) × (with_answers (slice_set replies a.place a.reply) rest' ≡ with_answers replies rest) × AllByRecursion (λ (b : Answer). b.place < length (slice_set replies a.place a.reply)) rest'
+next_placed replies rest rest' a is within =
+    let all = subst (AllByRecursion (λ (b : Answer). b.place < length replies)) is within in (
+      all.0,
+      sym (ap (with_answers replies) is),
+      subst (λ (n : ℕ). AllByRecursion (λ (b : Answer). b.place < n) rest') (sym (length-set replies a.place a.reply)) all.1,
+    )
+
+pub none_left : (replies : List Reply) (rest : List Answer) → length rest ≡ 0 → replies ≡ with_answers replies rest
+none_left replies [] none = refl
+none_left replies (a ∷ rest) none = absurd (omega (arith, none))
+
+placed_append : (replies : List Reply) (xs ys : List Answer) → with_answers replies (xs ++ ys) ≡ with_answers (with_answers replies xs) ys
+placed_append replies [] ys = refl
+placed_append replies (x ∷ xs) ys = placed_append (slice_set replies x.place x.reply) xs ys
+
+module _ {Z : Type 0} where
+  -- one list further
+  pub list_placed : (replies replies' : List Reply) (rest rest' : List (Vec Answer Z)) (list : Vec Answer Z) → rest ≡ list ∷ rest' → replies' ≡ with_answers replies list.items →
+      AllByRecursion (λ (b : Answer). b.place < length replies) (flat_map (λ list. list.items) rest) →
+      AllByRecursion (λ (b : Answer). b.place < length replies) list.items × (with_answers replies' (flat_map (λ list. list.items) rest') ≡ with_answers replies (flat_map (λ list. list.items) rest))
+      × AllByRecursion (λ (b : Answer). b.place < length replies') (flat_map (λ list. list.items) rest')
+  list_placed replies replies' rest rest' list is placed within =
+      let more = flat_map (λ (l : Vec Answer Z). l.items) rest' in
+      let all : AllByRecursion (λ (b : Answer). b.place < length replies) (list.items ++ more) =
+      subst (λ (l : List (Vec Answer Z)). AllByRecursion (λ (b : Answer). b.place < length replies) (flat_map (λ l. l.items) l)) is within in
+      let size : length replies ≡ length replies' = sym (ap length placed ∙ placed_length replies list.items) in (
+        all_front (λ (b : Answer). b.place < length replies) list.items more all,
+        ap (λ r. with_answers r more) placed ∙ sym (placed_append replies list.items more) ∙ sym (ap (λ (l : List (Vec Answer Z)). with_answers replies (flat_map (λ l. l.items) l)) is),
+        subst (λ (n : ℕ). AllByRecursion (λ (b : Answer). b.place < n) more) size (all_back (λ (b : Answer). b.place < length replies) list.items more all),
+      )
+
+  pub none_listed : (replies : List Reply) (rest : List (Vec Answer Z)) → length rest ≡ 0 → replies ≡ with_answers replies (flat_map (λ list. list.items) rest)
+  none_listed replies [] none = refl
+  none_listed replies (l ∷ rest) none = absurd (omega (arith, none))

@@ -1,0 +1,44 @@
+-- All replies of a batch, from the answers to its parts.
+use Rattle.std.proofs.Common.{◌≡◌, ℕ, ◌<◌, List, [], ◌∷◌, length, sym, ap, ◌∙◌, subst}
+use Rattle.std.specs.List.{AllByRecursion, flat_map}
+use Rattle.bw_model.specs.declared.operations.Op.{Op}
+use Rattle.bw_model.specs.declared.operations.Reply.{Reply}
+use Rattle.bw_answer.specs.Parts.{places_in, spanned}
+use Rattle.bw_answer.specs.Points.{Entry, places_of, AreGrouped, GroupingView, IsScanOf}
+use Rattle.bw_answer.specs.Standing.{StandingView, contents_before, replies_to, answers_to, with_answers}
+use Rattle.bw_answer.specs.declared.parts.Part.{Part}
+use Rattle.bw_answer.proofs.Entries.{places_within, scan_within}
+use Rattle.bw_answer.proofs.Lists.{all_same}
+use Rattle.bw_answer.proofs.PartLemmas.{in_parts, points_of_parts, scans_of_parts}
+use Rattle.bw_answer.proofs.Placed.{all_placed, all_replied, placed_length, IsAnswered}
+use Rattle.bw_answer.proofs.ReplyLemmas.{replies_length}
+use Rattle.bw_answer.proofs.Wholes.{at_each_place, batch_entries, batch_scans}
+
+of_entries : (P : ℕ → Type 0) (es : List Entry) → AllByRecursion (λ e. P e.1) es → AllByRecursion P (places_of es)
+of_entries P [] all = tt
+of_entries P (e ∷ es) all = (all.0, of_entries P es all.1)
+
+-- the places of all parts are those of operations
+pub places_are : (batch : GroupingView) → AreGrouped batch → (n : ℕ) → length batch.ops ≡ n → (parts : List Part) → AllByRecursion (λ place. place < n) (flat_map (places_in (places_of batch.points) batch.scans) parts)
+places_are batch grouped n size parts =
+    in_parts (λ place. place < n) (places_of batch.points) batch.scans
+    (of_entries (λ place. place < n) batch.points (places_within batch.ops n batch.points size (batch_entries batch.ops batch.points grouped.same)))
+    (all_same (IsScanOf batch.ops) (λ place. place < n) (λ place scan. subst (λ (m : ℕ). place < m) size (scan_within batch.ops place scan)) batch.scans (batch_scans batch.ops batch.scans grouped.scans))
+    parts
+
+-- where the parts have all points and all scans, their answers are all replies
+pub parts_replied : (batch : StandingView) (grouping : GroupingView) → AreGrouped grouping → grouping.ops ≡ batch.ops → (parts : List Part) →
+    flat_map (λ part. spanned part.points (places_of grouping.points)) parts ≡ places_of grouping.points → flat_map (λ part. spanned part.scans grouping.scans) parts ≡ grouping.scans →
+    (replies : List Reply) → length replies ≡ length batch.ops → with_answers replies (answers_to batch (flat_map (places_in (places_of grouping.points) grouping.scans) parts)) ≡ replies_to batch
+parts_replied batch grouping grouped ops parts points scans replies len =
+    let places = flat_map (places_in (places_of grouping.points) grouping.scans) parts in
+    let whole = with_answers replies (answers_to batch places) in
+    let size = len ∙ sym (replies_length batch.ops (contents_before batch)) in
+    let within = places_are grouping grouped (length (replies_to batch)) (ap length ops ∙ sym (replies_length batch.ops (contents_before batch))) parts in
+    let placed = all_placed batch places replies size within in
+    let answered = IsAnswered batch whole in
+    all_replied batch whole (placed_length replies (answers_to batch places) ∙ size)
+    (λ place lt. at_each_place answered grouping grouped
+    (subst (AllByRecursion answered) points (points_of_parts answered (places_of grouping.points) grouping.scans parts placed))
+    (subst (AllByRecursion answered) scans (scans_of_parts answered (places_of grouping.points) grouping.scans parts placed))
+    place (subst (λ (l : List Op). place < length l) (sym ops) lt))
