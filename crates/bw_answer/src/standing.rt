@@ -22,7 +22,7 @@ use bw_delta::{Reading, Write};
 use bw_key::Memory;
 use bw_memory::Alloc;
 use bw_model::{Op, Reply, Value};
-use bw_tree::{PageId, Tree};
+use bw_tree::{PageId, Scans, Tree};
 use rayon::prelude::*;
 use std::marker::Model;
 use std::thread::Threads;
@@ -108,7 +108,11 @@ impl<'a> StandingBatch<'a> {
             &points[part.points.start..part.points.end],
             &mut answers,
         )?;
-        self.answer_scans(&scans[part.scans.start..part.scans.end], &mut answers)?;
+        self.answer_scans(
+            alloc,
+            &scans[part.scans.start..part.scans.end],
+            &mut answers,
+        )?;
         Ok(answers)
     }
 
@@ -187,15 +191,21 @@ impl<'a> StandingBatch<'a> {
         Ok(())
     }
 
-    // Adds the answers to scans, in the order of the batch.
-    fn answer_scans(&self, scans: &[usize], answers: &mut Vec<Answer, Alloc>) -> Result<(), Memory>
+    // Adds the answers to scans. They are in the order of the batch, so the stamps of the reads rise.
+    fn answer_scans(
+        &self,
+        alloc: Alloc,
+        scans: &[usize],
+        answers: &mut Vec<Answer, Alloc>,
+    ) -> Result<(), Memory>
         requires { AllByRecursion (IsScanOf self.now.ops) scans.now }
         ensures { OnOk result (answers.new.items ≡ answers.old.items ++ answers_to self.now scans.now) }
     {
+        let mut reading = Scans::new(alloc, self.tree);
         for scan in scans {
             let place = *scan;
             let stamp = self.base + place as u64;
-            let reply = scan_reply(self.tree, op_at(self.ops, place), stamp)?;
+            let reply = scan_reply(&mut reading, op_at(self.ops, place), stamp)?;
             answers.push(Answer { place, reply })?;
         }
         Ok(())
@@ -203,13 +213,14 @@ impl<'a> StandingBatch<'a> {
 }
 
 // The reply to a scan as of a stamp.
-fn scan_reply(tree: &Tree, op: &Op, stamp: u64) -> Result<Reply, Memory>
+fn scan_reply(scans: &mut Scans<'_>, op: &Op, stamp: u64) -> Result<Reply, Memory>
     requires { key_of op.now ≡ None }
-    ensures { IfOk result (λ reply. reply ≡ reply_of op.now (contents_at tree.now stamp)) }
+    ensures tree { scans.new.tree ≡ scans.old.tree }
+    ensures reply { IfOk result (λ reply. reply ≡ reply_of op.now (contents_at scans.old.tree stamp)) }
 {
     let pairs = match op {
-        Op::Scan { from, to, most } => tree.scan_at(from, to.as_ref(), *most, stamp)?,
-        Op::Rscan { from, to, most } => tree.rscan_at(from, to.as_ref(), *most, stamp)?,
+        Op::Scan { from, to, most } => scans.scan(from, to.as_ref(), *most, stamp)?,
+        Op::Rscan { from, to, most } => scans.scan_back(from, to.as_ref(), *most, stamp)?,
         Op::Get(_)
         | Op::Insert(_, _)
         | Op::Upsert(_, _)

@@ -1,7 +1,7 @@
 use Rattle.std.proofs.Common.{◌≡◌, ◌+◌, get_or, slice_get, sym, ap, subst, ◌∙◌}
 use Rattle.std.proofs.lemmas.List.{get_or_default}
 use Rattle.bw_model.specs.Model.{reply_of}
-use Rattle.bw_tree.specs.View.{contents_at}
+use Rattle.bw_tree.specs.View.{TreeView, contents_at}
 use Rattle.bw_answer.specs.Standing.{StandingView, IsReadInTurn}
 use Rattle.bw_answer.proofs.ReplyLemmas.{scan_more}
 use Rattle.bw_answer.proofs.standing.StandingBatch.answer_scans.Goals as goal
@@ -14,5 +14,10 @@ loop-scan-preserved c =
     let place = get_or scans n 0 in
     let op = c.op_at.result.now in
     let op_is = ap (λ (v : StandingView). slice_get v.ops place) (sym c.self.view_is) ∙ c.op_at.ensures in
-    scan_more batch (subst IsReadInTurn c.self.view_is c.self.invariant) scans n place op c.args.answers.now.items c.loop-scan.answers.items c.push.new.self.items c.in_ok-reply.reply c.loop-scan-test.true
-    (get_or_default scans n 0 place c.loop-scan-test.true) op_is (c.in_ok-reply.ensures ∙ ap (λ (v : StandingView). reply_of op (contents_at v.tree (v.base + place))) c.self.view_is) c.loop-scan.invariant c.in_ok-push.ensures.items
+    let asked = c.in_ok-reply.ensures.reply ∙ ap (λ (t : TreeView). reply_of op (contents_at t (c.self.inside.base + place))) c.loop-scan.invariant.same in
+    record {
+      same = c.in_ok-reply.ensures.tree ∙ c.loop-scan.invariant.same;
+      answered =
+          scan_more batch (subst IsReadInTurn c.self.view_is c.self.invariant) scans n place op c.args.answers.now.items c.loop-scan.answers.items c.push.new.self.items c.in_ok-reply.reply c.loop-scan-test.true
+          (get_or_default scans n 0 place c.loop-scan-test.true) op_is (asked ∙ ap (λ (v : StandingView). reply_of op (contents_at batch.tree (v.base + place))) c.self.view_is) c.loop-scan.invariant.answered c.in_ok-push.ensures.items;
+    }

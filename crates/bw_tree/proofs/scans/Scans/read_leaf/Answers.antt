@@ -35,10 +35,10 @@ returns-clause-read c =
     let left = c.args.most - length read in
     let on_leaf : TreeView → ℕ → List Pair = λ t stamp. where_key key_cmp (is_on (slot_at t.slots page)) (pairs_of_range (contents_at t stamp) from to) in
     let leaf_pairs =
-        pairs_on_leaf tree c.know_levels.ensures.lawful c.know_levels.ensures.distinct page replay from to (option_copied c.lower_end-end.result)
-        (subst (λ (t : TreeView). Contains (row t.levels 0) page) (sym now) c.requires)
-        (λ key. c.lower_end-end.ensures key ∙ ap (λ o. is_below_end o key && is_below_end to key) c.end.ensures)
-        c.add_first.ensures.sorted (subst (λ (t : TreeView). IsLeafReplay (slot_at t.slots page) replay) (sym now) c.in_ok-replay.ensures.replay) in
+    pairs_on_leaf tree c.know_levels.ensures.lawful c.know_levels.ensures.distinct page replay from to (option_copied c.lower_end-end.result)
+    (subst (λ (t : TreeView). Contains (row t.levels 0) page) (sym now) c.requires)
+    (λ key. c.lower_end-end.ensures key ∙ ap (λ o. is_below_end o key && is_below_end to key) c.end.ensures)
+    c.add_first.ensures.sorted (subst (λ (t : TreeView). IsLeafReplay (slot_at t.slots page) replay) (sym now) c.in_ok-replay.ensures.replay) in
     c.in_ok-add_first.ensures.added
     ∙ ap (λ n. read ++ take n ((filter (is_pair_in_range from (option_copied c.lower_end-end.result)) replay.pairs))) (omega (arith, c.saturating_sub-left.ensures, c.len.ensures, c.args.read.now.ok))
     ∙ ap (λ (l : List Pair). read ++ take left (l)) (leaf_pairs ∙ ap (on_leaf tree) c.in_ok-replay.ensures.stamp ∙ ap (λ (t : TreeView). on_leaf t c.args.stamp) now)

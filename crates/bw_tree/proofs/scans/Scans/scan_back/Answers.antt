@@ -28,12 +28,12 @@ returns-then-le-clause-pairs c =
     let read = c.loop-read.read.items in
     let page = c.route_before-page.result in
     let back =
-        is_back c.args.self.now.tree c.args.stamp c.args.most c.args.from.now (option_copied c.args.to) c.low-low.result.now (option_copied c.loop-read.end) page read c.read_leaf_back.new.read.items
-        (subst (λ (v : ScansView). IsBefore v.tree.slots v.tree.levels (option_copied c.loop-read.end) page) c.self.view_is c.route_before-page.ensures)
-        c.loop-read.invariant.has_read
-        (c.in_ok-read_leaf_back.ensures.read
-        ∙ ap (λ (t : TreeView). read ++ take (c.args.most - length read) (reverse (leaf_of t c.args.stamp c.args.from.now (option_copied c.loop-read.end) page))) c.loop-read.invariant.same)
-        (c.low-low.ensures ∙ ap (λ (v : ScansView). low_of (slot_at v.tree.slots page)) c.self.view_is) in
+    is_back c.args.self.now.tree c.args.stamp c.args.most c.args.from.now (option_copied c.args.to) c.low-low.result.now (option_copied c.loop-read.end) page read c.read_leaf_back.new.read.items
+    (subst (λ (v : ScansView). IsBefore v.tree.slots v.tree.levels (option_copied c.loop-read.end) page) c.self.view_is c.route_before-page.ensures)
+    c.loop-read.invariant.has_read
+    (c.in_ok-read_leaf_back.ensures.read
+    ∙ ap (λ (t : TreeView). read ++ take (c.args.most - length read) (reverse (leaf_of t c.args.stamp c.args.from.now (option_copied c.loop-read.end) page))) c.loop-read.invariant.same)
+    (c.low-low.ensures ∙ ap (λ (v : ScansView). low_of (slot_at v.tree.slots page)) c.self.view_is) in
     c.from_vec-then-le.ensures
     ∙ ends_at_leaf c.args.self.now.tree c.args.stamp c.args.most c.args.from.now (option_copied c.args.to) c.low-low.result.now (option_copied c.loop-read.end) c.read_leaf_back.new.read.items back
     (not_below c.args.from.now c.low-low.result.now (sym c.le.ensures ∙ c.if-le.true))
@@ -43,12 +43,12 @@ returns-then-len-most-clause-pairs c =
     let read = c.loop-read.read.items in
     let page = c.route_before-page.result in
     let back =
-        is_back c.args.self.now.tree c.args.stamp c.args.most c.args.from.now (option_copied c.args.to) c.low-low.result.now (option_copied c.loop-read.end) page read c.read_leaf_back.new.read.items
-        (subst (λ (v : ScansView). IsBefore v.tree.slots v.tree.levels (option_copied c.loop-read.end) page) c.self.view_is c.route_before-page.ensures)
-        c.loop-read.invariant.has_read
-        (c.in_ok-read_leaf_back.ensures.read
-        ∙ ap (λ (t : TreeView). read ++ take (c.args.most - length read) (reverse (leaf_of t c.args.stamp c.args.from.now (option_copied c.loop-read.end) page))) c.loop-read.invariant.same)
-        (c.low-low.ensures ∙ ap (λ (v : ScansView). low_of (slot_at v.tree.slots page)) c.self.view_is) in
+    is_back c.args.self.now.tree c.args.stamp c.args.most c.args.from.now (option_copied c.args.to) c.low-low.result.now (option_copied c.loop-read.end) page read c.read_leaf_back.new.read.items
+    (subst (λ (v : ScansView). IsBefore v.tree.slots v.tree.levels (option_copied c.loop-read.end) page) c.self.view_is c.route_before-page.ensures)
+    c.loop-read.invariant.has_read
+    (c.in_ok-read_leaf_back.ensures.read
+    ∙ ap (λ (t : TreeView). read ++ take (c.args.most - length read) (reverse (leaf_of t c.args.stamp c.args.from.now (option_copied c.loop-read.end) page))) c.loop-read.invariant.same)
+    (c.low-low.ensures ∙ ap (λ (v : ScansView). low_of (slot_at v.tree.slots page)) c.self.view_is) in
     c.from_vec-then-len-most.ensures
     ∙ enough_at_leaf c.args.self.now.tree c.args.stamp c.args.most c.args.from.now (option_copied c.args.to) c.low-low.result.now (option_copied c.loop-read.end) c.read_leaf_back.new.read.items back
     (omega (arith, c.if-len-most.true, c.len.ensures, c.read_leaf_back.new.read.ok))
@@ -58,12 +58,12 @@ loop-read-smaller c =
     let read = c.loop-read.read.items in
     let page = c.route_before-page.result in
     let back =
-        is_back c.args.self.now.tree c.args.stamp c.args.most c.args.from.now (option_copied c.args.to) c.low-low.result.now (option_copied c.loop-read.end) page read c.read_leaf_back.new.read.items
-        (subst (λ (v : ScansView). IsBefore v.tree.slots v.tree.levels (option_copied c.loop-read.end) page) c.self.view_is c.route_before-page.ensures)
-        c.loop-read.invariant.has_read
-        (c.in_ok-read_leaf_back.ensures.read
-        ∙ ap (λ (t : TreeView). read ++ take (c.args.most - length read) (reverse (leaf_of t c.args.stamp c.args.from.now (option_copied c.loop-read.end) page))) c.loop-read.invariant.same)
-        (c.low-low.ensures ∙ ap (λ (v : ScansView). low_of (slot_at v.tree.slots page)) c.self.view_is) in
+    is_back c.args.self.now.tree c.args.stamp c.args.most c.args.from.now (option_copied c.args.to) c.low-low.result.now (option_copied c.loop-read.end) page read c.read_leaf_back.new.read.items
+    (subst (λ (v : ScansView). IsBefore v.tree.slots v.tree.levels (option_copied c.loop-read.end) page) c.self.view_is c.route_before-page.ensures)
+    c.loop-read.invariant.has_read
+    (c.in_ok-read_leaf_back.ensures.read
+    ∙ ap (λ (t : TreeView). read ++ take (c.args.most - length read) (reverse (leaf_of t c.args.stamp c.args.from.now (option_copied c.loop-read.end) page))) c.loop-read.invariant.same)
+    (c.low-low.ensures ∙ ap (λ (v : ScansView). low_of (slot_at v.tree.slots page)) c.self.view_is) in
     back.passed.less
 
 pub loop-read-preserved : goal.loop-read-preserved
@@ -71,12 +71,12 @@ loop-read-preserved c =
     let read = c.loop-read.read.items in
     let page = c.route_before-page.result in
     let back =
-        is_back c.args.self.now.tree c.args.stamp c.args.most c.args.from.now (option_copied c.args.to) c.low-low.result.now (option_copied c.loop-read.end) page read c.read_leaf_back.new.read.items
-        (subst (λ (v : ScansView). IsBefore v.tree.slots v.tree.levels (option_copied c.loop-read.end) page) c.self.view_is c.route_before-page.ensures)
-        c.loop-read.invariant.has_read
-        (c.in_ok-read_leaf_back.ensures.read
-        ∙ ap (λ (t : TreeView). read ++ take (c.args.most - length read) (reverse (leaf_of t c.args.stamp c.args.from.now (option_copied c.loop-read.end) page))) c.loop-read.invariant.same)
-        (c.low-low.ensures ∙ ap (λ (v : ScansView). low_of (slot_at v.tree.slots page)) c.self.view_is) in
+    is_back c.args.self.now.tree c.args.stamp c.args.most c.args.from.now (option_copied c.args.to) c.low-low.result.now (option_copied c.loop-read.end) page read c.read_leaf_back.new.read.items
+    (subst (λ (v : ScansView). IsBefore v.tree.slots v.tree.levels (option_copied c.loop-read.end) page) c.self.view_is c.route_before-page.ensures)
+    c.loop-read.invariant.has_read
+    (c.in_ok-read_leaf_back.ensures.read
+    ∙ ap (λ (t : TreeView). read ++ take (c.args.most - length read) (reverse (leaf_of t c.args.stamp c.args.from.now (option_copied c.loop-read.end) page))) c.loop-read.invariant.same)
+    (c.low-low.ensures ∙ ap (λ (v : ScansView). low_of (slot_at v.tree.slots page)) c.self.view_is) in
     record {
       same = c.in_ok-read_leaf_back.ensures.tree ∙ c.loop-read.invariant.same;
       has_read = goes_before c.args.self.now.tree c.args.stamp c.args.most c.args.from.now (option_copied c.args.to) c.low-low.result.now (option_copied c.loop-read.end) read c.read_leaf_back.new.read.items c.loop-read.invariant.has_read back (no_le c.args.from.now c.low-low.result.now (sym c.le.ensures ∙ c.if-le.false));
