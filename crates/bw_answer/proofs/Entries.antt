@@ -1,5 +1,5 @@
 -- The points of a batch, and groups of them.
-use Rattle.std.proofs.Common.{◌≡◌, ℕ, zero, suc, ◌+◌, ◌-◌, ◌<◌, ◌≤◌, Bool, true, false, cond, not, List, [], ◌∷◌, ◌++◌, length, take, drop, get_or, slice_get, Option, Some, None, refl, sym, ap, ◌∙◌, subst, arith, add-one, length-drop, min}
+use Rattle.std.proofs.Common.{◌≡◌, ℕ, zero, suc, ◌+◌, ◌-◌, ◌<◌, ◌≤◌, Bool, true, false, cond, not, List, [], ◌∷◌, ◌++◌, length, take, drop, get_or, slice_get, Option, Some, None, refl, sym, ap, ◌∙◌, subst, arith, add-one, length-drop}
 use Rattle.std.specs.Option.{option_map}
 use Rattle.std.specs.List.{AllByRecursion}
 use Rattle.std.specs.List.Sorted.{IsSortedBy}
@@ -272,7 +272,7 @@ place_within ops e entry = go (slice_get ops e.1) refl entry
         none e = cc
     go (Some op) is has = get_within ops e.1 op is
 
--- the operation at a place without a key
+-- the place of an operation without a key
 pub scan_within : (ops : List Op) (place : ℕ) → IsScanOf ops place → place < length ops
 scan_within ops place scan = go (slice_get ops place) refl scan
   where
@@ -282,12 +282,6 @@ scan_within ops place scan = go (slice_get ops place) refl scan
         none : ◌≡◌ {A = Option (Option KeyBytes)} None (Some None) → ⊥
         none e = cc
     go (Some op) is has = get_within ops place op is
-
-pub scan_key : (ops : List Op) (place : ℕ) (op : Op) → IsScanOf ops place → slice_get ops place ≡ Some op → key_of op ≡ None
-scan_key ops place op scan is = one (sym (ap (option_map key_of) is) ∙ scan)
-  where
-    one : Some (key_of op) ≡ Some None → key_of op ≡ None
-    one e = cc
 
 -- the operation at an entry's place is one on its key
 pub entry_key : (ops : List Op) (e : Entry) (op : Op) → IsEntryOf ops e → slice_get ops e.1 ≡ Some op → key_of op ≡ Some e.0

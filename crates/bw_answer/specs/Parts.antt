@@ -1,5 +1,5 @@
 -- The parts into which the points and the scans of a batch are cut.
-use Rattle.std.specs.Prelude.{ℕ, ◌-◌, ◌≤◌, ◌++◌, List, length, take, drop}
+use Rattle.std.specs.Prelude.{ℕ, ◌-◌, ◌≤◌, ◌++◌, List, take, drop}
 use Rattle.bw_answer.specs.declared.parts.Span.{Span}
 use Rattle.bw_answer.specs.declared.parts.Part.{Part}
 

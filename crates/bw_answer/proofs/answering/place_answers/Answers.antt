@@ -1,7 +1,4 @@
-use Rattle.std.proofs.Common.{◌≡◌, ◌<◌, length, rules, sym, ap, ◌∙◌, subst}
-use Rattle.std.specs.List.{AllByRecursion}
-use Rattle.bw_answer.specs.Standing.{with_answers}
-use Rattle.bw_answer.specs.declared.standing.Answer.{Answer}
+use Rattle.std.proofs.Common.{◌≡◌, length, rules, ◌∙◌}
 use Rattle.bw_answer.proofs.Placed.{next_placed, none_left}
 use Rattle.bw_answer.proofs.answering.place_answers.Goals as goal
 

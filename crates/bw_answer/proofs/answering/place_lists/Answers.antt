@@ -1,4 +1,4 @@
-use Rattle.std.proofs.Common.{◌≡◌, ◌<◌, length, rules, refl, sym, ap, ◌∙◌, subst}
+use Rattle.std.proofs.Common.{◌≡◌, length, rules, refl, ◌∙◌}
 use Rattle.bw_answer.proofs.Placed.{list_placed, none_listed}
 use Rattle.bw_answer.proofs.answering.place_lists.Goals as goal
 

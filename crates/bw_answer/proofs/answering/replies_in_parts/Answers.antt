@@ -1,7 +1,6 @@
 use Rattle.std.proofs.Common.{◌≡◌, ◌<◌, ◌++◌, ℕ, List, length, take, drop, refl, sym, ap, subst, ◌∙◌, arith}
 use Rattle.std.specs.List.{AllByRecursion, flat_map}
 use Rattle.bw_model.specs.Model.{replies_of}
-use Rattle.bw_model.specs.declared.operations.Op.{Op}
 use Rattle.bw_delta.proofs.Zips.{whole}
 use Rattle.bw_tree.specs.View.{contents_at}
 use Rattle.bw_answer.specs.Parts.{places_in}
