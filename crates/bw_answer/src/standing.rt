@@ -102,17 +102,11 @@ impl<'a> StandingBatch<'a> {
         requires within { IsPartOf (length points.now) (length scans.now) part }
         ensures { IfOk result (λ answers. answers.items ≡ answers_to self.now (places_in (places_of (entries_of points.now)) scans.now part)) }
     {
+        let points = &points[part.points.start..part.points.end];
+        let scans = &scans[part.scans.start..part.scans.end];
         let mut answers = Vec::new(alloc);
-        self.answer_points(
-            alloc,
-            &points[part.points.start..part.points.end],
-            &mut answers,
-        )?;
-        self.answer_scans(
-            alloc,
-            &scans[part.scans.start..part.scans.end],
-            &mut answers,
-        )?;
+        self.answer_points(alloc, points, &mut answers)?;
+        self.answer_scans(alloc, scans, &mut answers)?;
         Ok(answers)
     }
 
