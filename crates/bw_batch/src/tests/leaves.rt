@@ -2,12 +2,13 @@
 ghost use Rattle.std.specs.Prelude.{◌≡◌, ◌<◌, None};
 ghost use Rattle.bw_tree.specs.Making.{AreAbutting};
 
-use super::making::{LONG, Maker, same};
+use super::making::{LONG, Maker, WORKERS, same};
 use super::randomly::Random;
 use crate::{Index, Key, Leaf, Op, OpenGate, PageId, Pairs, Tree};
 use bw_memory::Alloc;
 use bw_model::ReferenceMap;
 use std::process::Abort;
+use std::thread::Threads;
 
 // The leaf at place i begins at the key of the byte 4 i, and the first one at the least key.
 const LEAVES: u32 = 64;
@@ -34,12 +35,12 @@ fn leaves_from<R: Abort>(rt: &R, make: &Maker<R>, low: Key, place: u32) -> Vec<L
     leaves
 }
 
-// An index over empty leaves.
-fn over_leaves<R: Abort>(rt: &R, make: &Maker<R>) -> Index {
+// An index over empty leaves, with so many workers and pieces of so many records.
+fn over_leaves<R: Abort>(rt: &R, make: &Maker<R>, workers: u64, piece: u64) -> Index {
     let leaves = leaves_from(rt, make, key(rt, make, &[]), 0);
     let tree = Tree::from_level(make.alloc, leaves).expect(rt, "a tree");
     assert_eq!(rt; tree.heads().len(), LEAVES as usize + 1);
-    Index::from_tree(make.alloc, make.options(65536), tree)
+    Index::from_tree(make.alloc, make.working(workers, piece), tree)
 }
 
 fn key<R: Abort>(rt: &R, make: &Maker<R>, bytes: &[u8]) -> Key
@@ -96,19 +97,42 @@ fn batch<R: Abort>(rt: &R, make: &Maker<R>, random: &mut Random, len: usize) -> 
     ops
 }
 
+// Runs batches of so many operations, drawn from a seed.
+fn compare<R: Abort + Threads + Sync>(
+    rt: &R,
+    make: &Maker<R>,
+    seed: u64,
+    mut index: Index,
+    batches: u64,
+    len: usize,
+) {
+    let mut random = Random { state: seed };
+    let mut map = ReferenceMap::new(make.alloc);
+    for number in 0..batches {
+        let ops = batch(rt, make, &mut random, len);
+        let done = index.run(rt, &ops, &OpenGate).expect(rt, "memory");
+        let expected = map.run(&ops).expect(rt, "memory");
+        same(rt, done.replies.as_slice(), expected.as_slice());
+        let contents = index.contents().expect(rt, "memory");
+        let expected = map.entries().expect(rt, "memory");
+        assert_eq!(rt; contents, expected, "seed {seed}, batch {number}");
+    }
+}
+
 #[test]
 fn batches_over_many_leaves_are_answered_as_by_the_plain_program(rt: HostRuntime) {
     let make = Maker::new(&rt, rt.alloc());
-    let mut random = Random { state: 20130408 };
-    let mut index = over_leaves(&rt, &make);
-    let mut map = ReferenceMap::new(make.alloc);
-    for number in 0..40u64 {
-        let ops = batch(&rt, &make, &mut random, 80);
-        let done = index.run(&rt, &ops, &OpenGate).expect(&rt, "memory");
-        let expected = map.run(&ops).expect(&rt, "memory");
-        same(&rt, done.replies.as_slice(), expected.as_slice());
-        let contents = index.contents().expect(&rt, "memory");
-        let expected = map.entries().expect(&rt, "memory");
-        assert_eq!(rt; contents, expected, "batch {number}: {ops:?}");
+    let index = over_leaves(&rt, &make, 4, 64);
+    compare(&rt, &make, 20130408, index, 40, 80);
+}
+
+#[test]
+fn long_batches_are_answered_alike_by_any_number_of_workers(rt: HostRuntime) {
+    let make = Maker::new(&rt, rt.alloc());
+    for workers in WORKERS {
+        for piece in [1u64, 64, 4096] {
+            let index = over_leaves(&rt, &make, workers, piece);
+            compare(&rt, &make, workers + piece, index, 2, 6000);
+        }
     }
 }

@@ -7,6 +7,9 @@ use std::process::Abort;
 /// Longer than a key or a value that takes no memory.
 pub const LONG: &str = "a text of more than 24 bytes";
 
+/// Numbers of workers.
+pub const WORKERS: [u64; 4] = [1, 2, 16, 64];
+
 /// A key and its value.
 pub type Pair = (&'static str, &'static str);
 
@@ -38,6 +41,11 @@ impl<'a, R: Abort> Maker<'a, R> {
     /// Options with this `batch_max`.
     pub fn options(&self, batch_max: u64) -> Options {
         Options::new(4, 64, 8, 64, 16, batch_max, 1048576).expect(self.rt, "options")
+    }
+
+    /// Options with so many workers, and pieces of so many records.
+    pub fn working(&self, workers: u64, piece: u64) -> Options {
+        Options::new(workers, piece, 8, 64, 16, 65536, 1048576).expect(self.rt, "options")
     }
 
     /// An empty index with this `batch_max`.

@@ -2,7 +2,7 @@
 ghost use Rattle.std.specs.Prelude.{◌<◌};
 
 use super::making::{LONG, Maker, same};
-use crate::{Op, OpenGate, Refusal};
+use crate::{Index, Op, OpenGate, Options, Refusal};
 use bw_memory::Alloc;
 use bw_model::ReferenceMap;
 use std::process::Abort;
@@ -69,10 +69,18 @@ fn batch<R: Abort>(rt: &R, make: &Maker<R>, random: &mut Random) -> Vec<Op, Allo
     ops
 }
 
-// Runs batches that are drawn from a seed, some 1,800 writes on a few keys: the chain is folded among them.
-fn compare<R: Abort + Threads + Sync>(rt: &R, make: &Maker<R>, seed: u64) {
+// Runs batches that are drawn from a seed, some 1,800 writes on a few keys, with so many workers and pieces of so many
+// records: the chain is folded among them.
+fn compare<R: Abort + Threads + Sync>(
+    rt: &R,
+    make: &Maker<R>,
+    seed: u64,
+    workers: u64,
+    piece: u64,
+) {
     let mut random = Random { state: seed };
-    let mut index = make.index(48);
+    let options = Options::new(workers, piece, 8, 64, 16, 48, 1048576).expect(rt, "options");
+    let mut index = Index::new(make.alloc, options).expect(rt, "an index");
     let mut map = ReferenceMap::new(make.alloc);
     for number in 0..150u64 {
         let ops = batch(rt, make, &mut random);
@@ -97,7 +105,8 @@ fn compare<R: Abort + Threads + Sync>(rt: &R, make: &Maker<R>, seed: u64) {
 #[test]
 fn batches_are_answered_as_by_the_plain_program(rt: HostRuntime) {
     let make = Maker::new(&rt, rt.alloc());
-    for seed in [20180610, 7] {
-        compare(&rt, &make, seed);
-    }
+    compare(&rt, &make, 20180610, 1, 64);
+    compare(&rt, &make, 7, 2, 4096);
+    compare(&rt, &make, 2013, 16, 1);
+    compare(&rt, &make, 65536, 64, 1);
 }

@@ -9,9 +9,9 @@ use std::thread::Threads;
 // The pairs that each piece of work starts from.
 const BEFORE: &[Pair] = &[("a", "1"), (LONG, LONG)];
 
-// An index that holds these pairs.
-fn filled<R: Abort + Threads + Sync>(rt: &R, make: &Maker<R>) -> Index {
-    let mut index = make.index(65536);
+// An index that holds these pairs, whose batches are posted by so many workers.
+fn filled<R: Abort + Threads + Sync>(rt: &R, make: &Maker<R>, workers: u64) -> Index {
+    let mut index = Index::new(make.alloc, make.working(workers, 1)).expect(rt, "an index");
     for (key, value) in BEFORE {
         let ops = [make.upsert(key, value)];
         index.run(rt, &ops, &OpenGate).expect(rt, "memory");
@@ -71,7 +71,7 @@ fn a_new_index_meets_each_refusal(rt: HostRuntime) {
 #[test]
 fn contents_meet_each_refusal(rt: HostRuntime) {
     let make = Maker::new(&rt, rt.alloc());
-    let index = filled(&rt, &make);
+    let index = filled(&rt, &make, 1);
     for growth in 1..1000 {
         make.alloc.refuse(growth);
         let outcome = index.contents();
@@ -85,33 +85,39 @@ fn contents_meet_each_refusal(rt: HostRuntime) {
     panic!(rt; "no call met no refusal");
 }
 
-#[test]
-fn a_batch_meets_each_refusal(rt: HostRuntime) {
-    let make = Maker::new(&rt, rt.alloc());
+// Refuses each growth of the batch in turn, with so many workers.
+fn refuse_in_turn<R: Abort + Threads + Sync>(rt: &R, make: &Maker<R>, workers: u64) {
     let replies = [
         Reply::New,
         make.found(LONG),
         make.was("1"),
         make.scanned(&[(LONG, LONG), ("c", LONG)]),
     ];
-    let ops = batch(&rt, &make);
+    let ops = batch(rt, make);
     for growth in 1..1000 {
-        let mut index = filled(&rt, &make);
+        let mut index = filled(rt, make, workers);
         make.alloc.refuse(growth);
-        let outcome = index.run(&rt, &ops, &OpenGate);
+        let outcome = index.run(rt, &ops, &OpenGate);
         let was_refused = was_refused(make.alloc, growth);
         if let Ok(done) = outcome {
             assert!(rt; !was_refused && growth > 5);
-            same(&rt, done.replies.as_slice(), &replies);
+            same(rt, done.replies.as_slice(), &replies);
             return;
         }
         assert_eq!(rt; outcome.err(), Some(Refusal::Memory));
         assert!(rt; was_refused);
-        assert_eq!(rt; index.contents().expect(&rt, "memory"), make.pairs(BEFORE));
-        let done = index.run(&rt, &ops, &OpenGate).expect(&rt, "ample memory");
-        same(&rt, done.replies.as_slice(), &replies);
+        assert_eq!(rt; index.contents().expect(rt, "memory"), make.pairs(BEFORE));
+        let done = index.run(rt, &ops, &OpenGate).expect(rt, "ample memory");
+        same(rt, done.replies.as_slice(), &replies);
     }
     panic!(rt; "no batch met no refusal");
+}
+
+#[test]
+fn a_batch_meets_each_refusal(rt: HostRuntime) {
+    let make = Maker::new(&rt, rt.alloc());
+    refuse_in_turn(&rt, &make, 1);
+    refuse_in_turn(&rt, &make, 4);
 }
 
 // Compares the replies and the pairs in the end with those of the plain program, which runs the accepted batches.
@@ -145,18 +151,17 @@ fn follow<R: Abort>(
     refused
 }
 
-#[test]
-fn batches_meet_each_refusal(rt: HostRuntime) {
-    let make = Maker::new(&rt, rt.alloc());
-    let batches = batches(&rt, &make);
+// Refuses each growth of the batches in turn, with so many workers.
+fn refuse_all_in_turn<R: Abort + Threads + Sync>(rt: &R, make: &Maker<R>, workers: u64) {
+    let batches = batches(rt, make);
     for growth in 1..1000 {
-        let mut index = filled(&rt, &make);
+        let mut index = filled(rt, make, workers);
         make.alloc.refuse(growth);
-        let outcomes = index.run_all(&rt, &batches, &OpenGate);
+        let outcomes = index.run_all(rt, &batches, &OpenGate);
         let was_refused = was_refused(make.alloc, growth);
-        let after = index.contents().expect(&rt, "memory");
+        let after = index.contents().expect(rt, "memory");
         let refused = match outcomes {
-            Ok(outcomes) => follow(&rt, &make, &batches, &outcomes, &after),
+            Ok(outcomes) => follow(rt, make, &batches, &outcomes, &after),
             // No batch ran.
             Err(Memory) => {
                 assert_eq!(rt; after, make.pairs(BEFORE));
@@ -170,4 +175,11 @@ fn batches_meet_each_refusal(rt: HostRuntime) {
         }
     }
     panic!(rt; "no batches met no refusal");
+}
+
+#[test]
+fn batches_meet_each_refusal(rt: HostRuntime) {
+    let make = Maker::new(&rt, rt.alloc());
+    refuse_all_in_turn(&rt, &make, 1);
+    refuse_all_in_turn(&rt, &make, 4);
 }

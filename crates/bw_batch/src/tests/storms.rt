@@ -1,5 +1,5 @@
 // Many writes of one key, posted by many workers.
-use super::making::Maker;
+use super::making::{Maker, WORKERS};
 use crate::{Index, Op, OpenGate, Options, Reply};
 use bw_memory::Alloc;
 use std::process::Abort;
@@ -46,7 +46,7 @@ fn storm<R: Abort + Threads + Sync>(rt: &R, make: &Maker<R>, ops: &[Op], workers
 fn writes_of_one_key_are_answered_in_their_order(rt: HostRuntime) {
     let make = Maker::new(&rt, rt.alloc());
     let ops = batch(&rt, &make);
-    for workers in [1u64, 2, 16, 64] {
+    for workers in WORKERS {
         for piece in [1u64, 64] {
             storm(&rt, &make, &ops, workers, piece);
         }

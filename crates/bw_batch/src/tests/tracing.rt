@@ -1,6 +1,6 @@
 // Batches with the replies that are expected to them.
-use super::making::{Maker, Pair, same};
-use crate::{Done, Op, OpenGate, Refusal, Reply, Tidy};
+use super::making::{Maker, Pair, WORKERS, same};
+use crate::{Done, Index, Op, OpenGate, Options, Refusal, Reply, Tidy};
 use bw_memory::Alloc;
 use std::process::Abort;
 use std::thread::Threads;
@@ -52,17 +52,32 @@ pub fn compare_done<R: Abort>(rt: &R, outcome: &Result<Done, Refusal>, expected:
     }
 }
 
-/// Runs the batches one by one on an empty index, and all at once on another. Compares the replies, and the pairs
-/// in the end.
+/// Runs the batches with each number of workers, in the smallest pieces and in the greatest. Compares the replies, and
+/// the pairs in the end.
 pub fn compare<R: Abort + Threads + Sync>(rt: &R, make: &Maker<R>, trace: &Trace, after: &[Pair]) {
-    let mut index = make.index(65536);
+    for workers in WORKERS {
+        for piece in [1u64, 4096] {
+            compare_with(rt, make, trace, after, make.working(workers, piece));
+        }
+    }
+}
+
+// Runs the batches one by one on an empty index, and all at once on another.
+fn compare_with<R: Abort + Threads + Sync>(
+    rt: &R,
+    make: &Maker<R>,
+    trace: &Trace,
+    after: &[Pair],
+    options: Options,
+) {
+    let mut index = Index::new(make.alloc, options).expect(rt, "an index");
     for (ops, expected) in trace.batches.iter().zip(&trace.expected) {
         let outcome = index.run(rt, ops, &OpenGate);
         compare_done(rt, &outcome, expected);
     }
     assert_eq!(rt; index.contents().expect(rt, "memory"), make.pairs(after));
 
-    let mut index = make.index(65536);
+    let mut index = Index::new(make.alloc, options).expect(rt, "an index");
     let outcomes = index
         .run_all(rt, &trace.batches, &OpenGate)
         .expect(rt, "memory");
