@@ -4,3 +4,4 @@ mod arenas;
 mod making;
 mod readings;
 mod refused;
+mod replays;

@@ -112,6 +112,25 @@ fn a_value_outlasts_its_batch(rt: HostRuntime) {
 }
 
 #[test]
+fn a_batch_of_reads_and_writes_of_one_key_follows_one_of_writes(rt: HostRuntime) {
+    let make = Maker::new(&rt, rt.alloc());
+    let mut trace = Trace::new(make.alloc);
+    trace.op(&rt, make.upsert("a", "1"), Reply::New);
+    trace.op(&rt, make.upsert("a", "2"), make.was("1"));
+    trace.op(&rt, make.upsert("a", "3"), make.was("2"));
+    trace.go(&rt);
+    trace.op(&rt, make.upsert("a", "4"), make.was("3"));
+    trace.op(&rt, make.get("a"), make.found("4"));
+    trace.op(&rt, make.delete("a"), make.was("4"));
+    trace.go(&rt);
+    trace.op(&rt, make.get("a"), Reply::Absent);
+    trace.op(&rt, make.insert("a", "7"), Reply::Inserted);
+    trace.op(&rt, make.get("a"), make.found("7"));
+    trace.go(&rt);
+    compare(&rt, &make, &trace, &[("a", "7")]);
+}
+
+#[test]
 fn keys_are_ordered_by_their_bytes(rt: HostRuntime) {
     let make = Maker::new(&rt, rt.alloc());
     let mut trace = Trace::new(make.alloc);

@@ -58,9 +58,9 @@ pub fn same<R: Abort>(rt: &R, pairs: &Pairs, wanted: &[(&'static [u8], &'static 
     }
 }
 
-// Whether each of three writes has a stamp of its own.
+/// Whether each of three writes has a stamp of its own.
 #[tactic(auto, using(crate::proofs::Orders::distinct_three))]
-fn are_apart(a: &Write, b: &Write, c: &Write) -> bool
+pub fn are_apart(a: &Write, b: &Write, c: &Write) -> bool
     ensures { result ≡ true → HasDistinctStamps (a.now ∷ b.now ∷ c.now ∷ []) }
 {
     a.stamp != b.stamp && a.stamp != c.stamp && b.stamp != c.stamp

@@ -3,8 +3,8 @@ use super::making::{LONG, heap, key, leaf_of, pairs_of, value, value_of, write};
 use crate::{Action, Memory};
 use bw_memory::Alloc;
 
-// Whether the growth of this number was refused. From now on none is.
-fn was_refused(alloc: Alloc, growth: u64) -> bool {
+/// Whether the growth of this number was refused. From now on none is.
+pub fn was_refused(alloc: Alloc, growth: u64) -> bool {
     let left = alloc.left();
     alloc.refuse(0);
     left == 0 || left > growth

@@ -1,6 +1,6 @@
 // Scans over three leaves.
 use super::making::{heap, key, three_leaves};
-use crate::Memory;
+use crate::{Memory, Scans};
 use bw_memory::Alloc;
 use bw_model::Pairs;
 use std::process::Abort;
@@ -80,6 +80,27 @@ fn a_scan_back_of_no_range_has_no_pairs(rt: HostRuntime) {
     let tree = three_leaves(&rt, alloc);
     let from = key(&rt, alloc, b"c");
     has_pairs(&rt, tree.rscan_at(&from, Some(&from), 9, 0), &[]);
+}
+
+#[test]
+fn scans_follow_one_another_at_any_stamps(rt: HostRuntime) {
+    let alloc = heap(&rt, rt.alloc());
+    let tree = three_leaves(&rt, alloc);
+    let mut scans = Scans::new(alloc, &tree);
+    let from = key(&rt, alloc, b"b");
+    for stamp in [3u64, 7, 7, 2] {
+        has_pairs(
+            &rt,
+            scans.scan(&from, None, 2, stamp),
+            &[(b"b", b"2"), (b"c", b"3")],
+        );
+        has_pairs(
+            &rt,
+            scans.scan_back(&from, None, 2, stamp),
+            &[(b"e", b"5"), (b"c", b"3")],
+        );
+        has_pairs(&rt, scans.scan(&from, None, 0, stamp), &[]);
+    }
 }
 
 // Whether the growth of this number was refused. From now on none is.
