@@ -1,8 +1,8 @@
 //! What a batch costs on an index of many leaves, beside the same operations on std's `BTreeMap` by one thread.
 //!
 //! An index and a map are filled with the same keys of 8 bytes, 44 to a leaf of the index, and then run the same batches,
-//! which are drawn from a seed: gets, and then gets and upserts in equal parts. With no word there are few keys, and how
-//! many replies of the two are the same is printed. With the word `time` there are 10,000 keys and 1,000,000, and batches
+//! which are drawn from a seed: gets, then gets and upserts in equal parts, and then scans of 32 pairs and upserts in equal
+//! parts. With no word there are few keys, and how many replies of the two are the same is printed. With the word `time` there are 10,000 keys and 1,000,000, and batches
 //! of 65,536 operations: then the times in the middle are printed, and the ratio of the index's to the map's. Beside it
 //! stands the ratio of all times together, since the index folds its chains after some batches only.
 #![tactic(auto)]
@@ -14,7 +14,7 @@ mod making;
 use anyhow::{Context, Result, bail};
 use bw_batch::{Index, Key, Op, OpenGate, Options, Tree, Value};
 use bw_memory::{Alloc, Heap};
-use making::{Random, answer, drawn, leaves_for, upserts};
+use making::{Kind, Random, answer, drawn, leaves_for, upserts};
 use std::collections::BTreeMap;
 use std::env;
 use std::num::nearest_u64_to_f64;
@@ -79,7 +79,7 @@ fn run_batch<R: Threads + Clock + Sync>(
     let start = Instant::now(rt)?;
     let mut expected = Vec::with_capacity(alloc, ops.len())?;
     for op in ops {
-        expected.push(answer(&mut both.map, op)?)?;
+        expected.push(answer(alloc, &mut both.map, op)?)?;
     }
     runs.map.push(start.elapsed(rt)?)?;
     let pairs = done.replies.as_slice().iter().zip(&expected);
@@ -134,7 +134,7 @@ fn print_kind<R: Threads + Clock + Sync + Print>(
     alloc: Alloc,
     both: &mut Both,
     load: Load,
-    has_writes: bool,
+    kind: Kind,
     is_timed: bool,
 ) -> Result<()>
     requires { 0 < load.keys }
@@ -142,16 +142,12 @@ fn print_kind<R: Threads + Clock + Sync + Print>(
     let mut random = Random { state: 20130408 };
     let mut runs = no_runs(alloc);
     for _ in 0..load.rounds {
-        let ops = drawn(alloc, &mut random, load.keys, load.operations, has_writes)?;
+        let ops = drawn(alloc, &mut random, load.keys, load.operations, kind)?;
         run_batch(rt, alloc, both, &ops, &mut runs)?;
     }
-    let kind = if has_writes {
-        "gets and upserts"
-    } else {
-        "gets"
-    };
+    let words = kind.words();
     let all = load.rounds.saturating_mul(load.operations);
-    println!(rt; "  {kind}: {} of {all} replies are the map's", runs.same)?;
+    println!(rt; "  {words}: {} of {all} replies are the map's", runs.same)?;
     if is_timed {
         let (index, index_mean) = nanoseconds(&mut runs.index, load.operations)?;
         let (map, map_mean) = nanoseconds(&mut runs.map, load.operations)?;
@@ -176,8 +172,9 @@ fn print_load<R: Threads + Clock + Sync + Print>(
     for workers in [1, 2, 4] {
         println!(rt; "{} keys, workers {workers}:", load.keys)?;
         let mut both = filled(rt, alloc, workers, load.keys)?;
-        print_kind(rt, alloc, &mut both, load, false, is_timed)?;
-        print_kind(rt, alloc, &mut both, load, true, is_timed)?;
+        print_kind(rt, alloc, &mut both, load, Kind::Gets, is_timed)?;
+        print_kind(rt, alloc, &mut both, load, Kind::GetsAndUpserts, is_timed)?;
+        print_kind(rt, alloc, &mut both, load, Kind::ScansAndUpserts, is_timed)?;
     }
     Ok(())
 }

@@ -10,6 +10,9 @@ use std::collections::BTreeMap;
 // Keys of a leaf.
 const LEAF: u64 = 44;
 
+// Pairs that a scan wants.
+const SCANNED: u64 = 32;
+
 // No leaf has a greater place: the last one has all further keys.
 const PLACE_MAX: u64 = 1_000_000;
 
@@ -84,30 +87,79 @@ pub fn upserts(alloc: Alloc, from: u64, to: u64) -> Result<Vec<Op, Alloc>> {
     Ok(ops)
 }
 
-/// So many gets of keys that are drawn, or gets and upserts in equal parts.
+/// What a batch is made of; of two kinds of operations in equal parts.
+#[derive(Clone, Copy, PartialEq, Eq)]
+pub enum Kind {
+    Gets,
+    GetsAndUpserts,
+    ScansAndUpserts,
+}
+
+impl Kind {
+    /// Its words in what is printed.
+    pub fn words(self) -> &'static str {
+        match self {
+            Kind::Gets => "gets",
+            Kind::GetsAndUpserts => "gets and upserts",
+            Kind::ScansAndUpserts => "scans and upserts",
+        }
+    }
+}
+
+/// So many operations of a kind, on keys that are drawn.
 pub fn drawn(
     alloc: Alloc,
     random: &mut Random,
     keys: u64,
     operations: u64,
-    has_writes: bool,
+    kind: Kind,
 ) -> Result<Vec<Op, Alloc>>
     requires { 0 < keys }
 {
     let mut ops = Vec::new(alloc);
     for number in 0..operations {
         let drawn = random.below(keys);
-        ops.push(if has_writes && random.below(2) == 0 {
+        let is_write = kind != Kind::Gets && random.below(2) == 0;
+        ops.push(if is_write {
             upsert(alloc, drawn, number)?
         } else {
-            Op::Get(key(alloc, drawn)?)
+            read(key(alloc, drawn)?, kind)
         })?;
     }
     Ok(ops)
 }
 
-/// What the map answers to a get or an upsert, after which it is changed.
-pub fn answer(map: &mut BTreeMap<Key, Value, Alloc>, op: &Op) -> Result<Reply> {
+// The read at a key that stands in a batch of a kind.
+fn read(key: Key, kind: Kind) -> Op {
+    match kind {
+        Kind::Gets | Kind::GetsAndUpserts => Op::Get(key),
+        Kind::ScansAndUpserts => Op::Scan {
+            from: key,
+            to: None,
+            most: SCANNED,
+        },
+    }
+}
+
+// The first pairs of a map from a key on.
+fn scanned(
+    alloc: Alloc,
+    map: &BTreeMap<Key, Value, Alloc>,
+    from: &Key,
+    most: u64,
+) -> Result<Pairs> {
+    let mut pairs = Vec::new(alloc);
+    for (key, value) in map.range(from..) {
+        if pairs.len() as u64 >= most {
+            break;
+        }
+        pairs.push((key.copy()?, value.copy()?))?;
+    }
+    Ok(Pairs::from_vec(pairs))
+}
+
+/// What the map answers to a get, an upsert or a scan without an end, after which it is changed.
+pub fn answer(alloc: Alloc, map: &mut BTreeMap<Key, Value, Alloc>, op: &Op) -> Result<Reply> {
     Ok(match op {
         Op::Get(key) => match map.get(key) {
             Some(value) => Reply::Found(value.copy()?),
@@ -117,6 +169,11 @@ pub fn answer(map: &mut BTreeMap<Key, Value, Alloc>, op: &Op) -> Result<Reply> {
             Some(value) => Reply::Was(value),
             None => Reply::New,
         },
-        _ => bail!("neither a get nor an upsert"),
+        Op::Scan {
+            from,
+            to: None,
+            most,
+        } => Reply::Pairs(scanned(alloc, map, from, *most)?),
+        _ => bail!("no get, no upsert, and no scan without an end"),
     })
 }
