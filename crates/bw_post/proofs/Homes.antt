@@ -3,6 +3,7 @@ use Rattle.std.proofs.Common.{◌≡◌, ◌≢◌, ℕ, zero, suc, ◌+◌, ◌
 use Rattle.std.specs.Prelude.{slice_get, slice_index, slice_index_or, Result, Ok, Err, IfOk, OnOk, MatchOption}
 use Rattle.std.proofs.lemmas.Bool.{cases_eq}
 use Rattle.std.proofs.lemmas.Bool.Decides.{nat_tests}
+use Rattle.std.proofs.lemmas.Option.{slice_get_within}
 use Rattle.bw_core.specs.declared.Post.{Post}
 use Rattle.bw_core.specs.World.{IsLast, Meets, one_if, posts_at, posts_in, times, total}
 use Rattle.bw_core.specs.Events.{post}
@@ -16,9 +17,6 @@ use Rattle.bw_tree.specs.View.{TreeView, StageView, staged_writes}
 use Rattle.bw_tree.specs.declared.staging.Staged.{Staged}
 use Rattle.bw_tree.specs.Levels.{IsOneHome}
 use Rattle.bw_post.specs.Posting.{ArePostedHome, IsHomeOf, IsOver, IsWaiting}
-
-no_write : {w : WriteView} → None ≡ Some w → ⊥
-no_write e = cc
 
 -- nothing posted yet
 pub none_home : (tree : TreeView) (v : SeatView) → v.book.posted ≡ [] → ArePostedHome tree v
@@ -79,11 +77,6 @@ first_last first spares p x none (inr e) = absurd (different (sym none ∙ e))
     different : {x : ℕ} → None ≡ Some x → ⊥
     different e = cc
 
-read_within : (ws : List WriteView) (i : ℕ) (w : WriteView) → slice_get ws i ≡ Some w → i < length ws
-read_within [] i w e = absurd (no_write e)
-read_within (x ∷ ws) zero w e = omega arith
-read_within (x ∷ ws) (suc i) w e = let more = read_within ws i w e in omega (arith, more)
-
 posted_at : (tree : TreeView) (stage : StageView) (v : SeatView) (hs ls sw : List ℕ) → IsOver tree v.board → tree.staged ≡ Some stage → v.board.floor ≡ 2 ^ 32 + stage.records → ArePostedHome tree v → HasEach v → IsClosed v hs ls sw → IsPosted tree stage hs ls
 posted_at tree stage v hs ls sw over staged floor homes each closed =
     let writes_are : staged_writes tree.staged ≡ stage.writes = ap staged_writes staged in
@@ -97,7 +90,7 @@ posted_at tree stage v hs ls sw over staged floor homes each closed =
     in_stage r w at = ap (λ (l : List WriteView). slice_get l r) (ap staged_writes staged) ∙ at
 
     within : (r : ℕ) (w : WriteView) → slice_get stage.writes r ≡ Some w → r < v.board.records
-    within r w at = omega (arith, over.records, read_within (staged_writes tree.staged) r w (in_stage r w at))
+    within r w at = omega (arith, over.records, slice_get_within (staged_writes tree.staged) r w (in_stage r w at))
 
     chain : (p : ℕ) → p < length v.board.first → IsPostedTo tree stage ls (slice_index hs p) p
     chain p lt =

@@ -14,13 +14,13 @@ use Rattle.bw_board.specs.Plays.{lost_in}
 use Rattle.bw_board.specs.Public.{BoardView, SeatView, IsSound}
 use Rattle.bw_board.specs.Working.{HasPostedAll}
 use Rattle.bw_tree.specs.View.{TreeView}
-use Rattle.bw_post.specs.Posting.{ArePostedHome, HasWorked, IsFresh, IsHomeOf, IsOver, IsTold, width_of}
+use Rattle.bw_post.specs.Posting.{ArePostedHome, HasWorked, HasClaimedNothing, IsHomeOf, IsOver, IsTold, width_of}
 use Rattle.bw_post.specs.declared.workers.Worker.{Worker}
 use Rattle.bw_post.proofs.Homes.{none_home, same_home}
 use Rattle.bw_post.proofs.Lost.{lost_both, lost_few}
 
 -- a worker who didn't claim yet has posted all that it claimed
-pub fresh_worked : (tree : TreeView) (board : BoardView) (w : Worker) → IsFresh board w → HasWorked tree board w
+pub fresh_worked : (tree : TreeView) (board : BoardView) (w : Worker) → HasClaimedNothing board w → HasWorked tree board w
 fresh_worked tree board w so = record {
   board_is = so.board_is;
   posted = λ r. ap (λ (ss : List Span). total (λ s. one_if (leb s.from r && ltb r s.to)) ss) so.owned ∙ sym (ap (posts_in r) so.posted);
@@ -89,12 +89,12 @@ some_more one two w more = let n = ap (λ (l : List Worker). length l) more in l
 module _ (board : BoardView) (ws rest : List Worker) (w : Worker) (parts : ws ≡ w ∷ rest) where
   -- its seat in two
   pub split_fresh : (one two : List Worker) (l r : SeatView) → one ≡ rest ++ (record { seat = l; lost = w.lost }) ∷ [] → two ≡ one ++ (record { seat = r; lost = 0 }) ∷ [] → l ≡ record w.seat { book = split_left w.seat.book } → r ≡ record w.seat { book = split_right w.seat.book } →
-      AllByRecursion (IsFresh board) ws → AllByRecursion (IsFresh board) two
+      AllByRecursion (HasClaimedNothing board) ws → AllByRecursion (HasClaimedNothing board) two
   split_fresh one two l r first second left right fresh =
-      let all = subst (AllByRecursion (IsFresh board)) parts fresh in
-      subst (AllByRecursion (IsFresh board)) (sym second)
-      (all_more (IsFresh board) one (record { seat = r; lost = 0 })
-      (subst (AllByRecursion (IsFresh board)) (sym first) (all_more (IsFresh board) rest (record { seat = l; lost = w.lost }) all.1 (record {
+      let all = subst (AllByRecursion (HasClaimedNothing board)) parts fresh in
+      subst (AllByRecursion (HasClaimedNothing board)) (sym second)
+      (all_more (HasClaimedNothing board) one (record { seat = r; lost = 0 })
+      (subst (AllByRecursion (HasClaimedNothing board)) (sym first) (all_more (HasClaimedNothing board) rest (record { seat = l; lost = w.lost }) all.1 (record {
         board_is = ap (λ (v : SeatView). v.board) left ∙ all.0.board_is;
         owned = ap (λ (v : SeatView). v.book.owned) left ∙ all.0.owned;
         posted = ap (λ (v : SeatView). v.book.posted) left ∙ all.0.posted;

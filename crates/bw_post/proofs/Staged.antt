@@ -1,6 +1,7 @@
 -- The place of a staged write's operation, and its home.
 use Rattle.std.proofs.Common.{◌≡◌, ℕ, zero, suc, ◌+◌, ◌-◌, ◌<◌, ◌≤◌, List, [], ◌∷◌, ◌++◌, length, get_or, Option, Some, None, refl, sym, ap, ◌∙◌, subst, arith}
 use Rattle.std.specs.Prelude.{slice_get}
+use Rattle.std.proofs.lemmas.Option.{slice_get_within}
 use Rattle.std.specs.Option.{option_map}
 use Rattle.bw_key.specs.Order.{KeyBytes}
 use Rattle.bw_model.specs.declared.operations.Action.{Action}
@@ -81,16 +82,8 @@ staged_homes tree ops homes waiting are r w at = by tree.staged waiting at
         }
 
 -- the place of a write has a page
-read_within : (xs : List ℕ) (i x : ℕ) → slice_get xs i ≡ Some x → i < length xs
-read_within [] i x e = absurd (none e)
-  where
-    none : None ≡ Some x → ⊥
-    none e = cc
-read_within (y ∷ xs) zero x e = omega arith
-read_within (y ∷ xs) (suc i) x e = let more = read_within xs i x e in omega (arith, more)
-
 pub home_within : (tree : TreeView) (homes : List ℕ) (w : WriteView) → (h : HasHome tree homes w) → w.stamp - tree.next < length homes
-home_within tree homes w h = read_within homes (w.stamp - tree.next) h.page h.at
+home_within tree homes w h = slice_get_within homes (w.stamp - tree.next) h.page h.at
 
 read_at : (xs : List ℕ) (i x d : ℕ) → slice_get xs i ≡ Some x → get_or xs i d ≡ x
 read_at [] i x d e = absurd (none e)

@@ -44,7 +44,7 @@ abbrev pub ArePostedHome : TreeView → SeatView → Type 0
 ArePostedHome tree seat = (p r : ℕ) → 0 < posts_at p r seat.book.posted → IsHomeOf tree r p
 
 -- a worker who didn't claim yet
-pub record IsFresh (board : BoardView) (worker : Worker) : Type 0 where
+pub record HasClaimedNothing (board : BoardView) (worker : Worker) : Type 0 where
   pub board_is : worker.seat.board ≡ board
   pub owned : worker.seat.book.owned ≡ []
   pub posted : worker.seat.book.posted ≡ []

@@ -6,7 +6,7 @@ ghost use Rattle.bw_core.specs.World.{owns, total};
 ghost use Rattle.bw_board.specs.Plays.{lost_in};
 ghost use Rattle.bw_board.specs.Working.{HasLeft, HasPostedAll};
 ghost use Rattle.bw_tree.specs.View.{staged_writes};
-ghost use Rattle.bw_post.specs.Posting.{AreHomes, ArePostedHome, HasWorked, IsFresh, IsHomeOf, IsOver, IsTold, width_of};
+ghost use Rattle.bw_post.specs.Posting.{AreHomes, ArePostedHome, HasWorked, HasClaimedNothing, IsHomeOf, IsOver, IsTold, width_of};
 
 use crate::gates::Gate;
 use bw_board::{Board, Seat};
@@ -35,7 +35,7 @@ pub(crate) fn seat_workers(
     requires board { seat.board ≡ board.now }
     requires fresh { (seat.book.owned ≡ []) × (seat.book.posted ≡ []) }
     ensures some { IfOk result (λ workers. 0 < length workers.items) }
-    ensures fresh { IfOk result (λ workers. AllByRecursion (IsFresh board.now) workers.items) }
+    ensures fresh { IfOk result (λ workers. AllByRecursion (HasClaimedNothing board.now) workers.items) }
     ensures width { IfOk result (λ workers. total width_of workers.items ≡ seat.book.width) }
 {
     let mut workers = Vec::new(alloc);
@@ -71,13 +71,13 @@ pub(crate) fn post_side_by_side<R: Threads + Sync, G: Gate>(
     requires over { IsOver tree.now board.now }
     requires pages { AreHomes tree.now pages.now }
     requires some { 0 < length workers.old }
-    requires fresh { AllByRecursion (IsFresh board.now) workers.old }
+    requires fresh { AllByRecursion (HasClaimedNothing board.now) workers.old }
     ensures worked { AllByRecursion (HasWorked tree.now board.now) workers.new }
     ensures told { AllByRecursion IsTold workers.new }
     ensures width { map width_of workers.new ≡ map width_of workers.old }
 {
     let post = move |_place: usize, worker: &mut Worker|
-        requires { IsSync G.row × IsOver tree.now board.now × AreHomes tree.now pages.now × IsFresh board.now worker.now }
+        requires { IsSync G.row × IsOver tree.now board.now × AreHomes tree.now pages.now × HasClaimedNothing board.now worker.now }
         ensures { HasWorked tree.entry.now board.entry.now worker.exit.now × IsTold worker.exit.now × (width_of worker.exit.now ≡ width_of worker.entry.now) }
     { post_claimed(tree, pages, board, gate, worker) };
     for_each_mut(rt, workers, workers.len(), &post);
@@ -93,7 +93,7 @@ fn post_claimed<G: Gate>(
 )
     requires over { IsOver tree.now board.now }
     requires pages { AreHomes tree.now pages.now }
-    requires fresh { IsFresh board.now worker.old }
+    requires fresh { HasClaimedNothing board.now worker.old }
     ensures worked { HasWorked tree.now board.now worker.new }
     ensures told { IsTold worker.new }
     ensures width { width_of worker.new ≡ width_of worker.old }

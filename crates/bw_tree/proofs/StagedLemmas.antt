@@ -3,6 +3,7 @@ use Rattle.std.proofs.Common.{◌≡◌, ℕ, zero, suc, ◌+◌, ◌-◌, ◌<�
 use Rattle.std.specs.Prelude.{slice_get, slice_index}
 use Rattle.std.proofs.lemmas.Bool.{cases_lt}
 use Rattle.std.proofs.lemmas.Bool.Decides.{nat_tests}
+use Rattle.std.proofs.lemmas.Option.{slice_get_within}
 use Rattle.bw_delta.specs.Writes.{WriteView}
 use Rattle.bw_delta.specs.declared.deltas.Delta.{Delta}
 use Rattle.bw_delta.specs.declared.deltas.Delta.TheVariants.{Put}
@@ -17,14 +18,6 @@ use Rattle.bw_tree.proofs.ChainLemmas.{linked}
 use Rattle.bw_tree.proofs.GrowthLemmas.{drop_front}
 use Rattle.bw_tree.proofs.PostedLemmas.{posted_length, read_behind, read_both}
 
-no_record : {r : Delta × ℕ} → None ≡ Some r → ⊥
-no_record e = cc
-
-read_within : (xs : Records) (i : ℕ) (r : Delta × ℕ) → slice_get xs i ≡ Some r → i < length xs
-read_within [] i r e = absurd (no_record e)
-read_within (x ∷ xs) zero r e = omega arith
-read_within (x ∷ xs) (suc i) r e = let more = read_within xs i r e in omega (arith, more)
-
 -- a word that leads to a base page names that page or a record
 ends_low : (bases : Bases) (records : Records) (word : ℕ) → Ends bases records word → word < 4294967296 + length records
 ends_low bases records word ends = by ends.0 ends.1.0 ends.1.1
@@ -34,7 +27,7 @@ ends_low bases records word ends = by ends.0 ends.1.0 ends.1.1
       | inl lt ↦ omega (arith, lt)
       | inr ge ↦
           let test : nat_lt word 4294967296 ≡ false = grind (arith, nat_tests) in
-          let there = read_within records (word - 4294967296) r (sym (ap (λ b. cond b None (slice_get records (word - 4294967296))) test) ∙ at) in
+          let there = slice_get_within records (word - 4294967296) r (sym (ap (λ b. cond b None (slice_get records (word - 4294967296))) test) ∙ at) in
           omega (arith, there, ge)
     ]
 
