@@ -1,7 +1,7 @@
 -- The place of a staged write's operation, and its home.
 use Rattle.std.proofs.Common.{◌≡◌, ℕ, zero, suc, ◌+◌, ◌-◌, ◌<◌, ◌≤◌, List, [], ◌∷◌, ◌++◌, length, get_or, Option, Some, None, refl, sym, ap, ◌∙◌, subst, arith}
 use Rattle.std.specs.Prelude.{slice_get}
-use Rattle.std.proofs.lemmas.Option.{slice_get_within}
+use Rattle.std.proofs.lemmas.Option.{get_or_from_slice_get, slice_get_within}
 use Rattle.std.specs.Option.{option_map}
 use Rattle.bw_key.specs.Order.{KeyBytes}
 use Rattle.bw_model.specs.declared.operations.Action.{Action}
@@ -85,16 +85,5 @@ staged_homes tree ops homes waiting are r w at = by tree.staged waiting at
 pub home_within : (tree : TreeView) (homes : List ℕ) (w : WriteView) → (h : HasHome tree homes w) → w.stamp - tree.next < length homes
 home_within tree homes w h = slice_get_within homes (w.stamp - tree.next) h.page h.at
 
-read_at : (xs : List ℕ) (i x d : ℕ) → slice_get xs i ≡ Some x → get_or xs i d ≡ x
-read_at [] i x d e = absurd (none e)
-  where
-    none : None ≡ Some x → ⊥
-    none e = cc
-read_at (y ∷ xs) zero x d e = one e
-  where
-    one : Some y ≡ Some x → y ≡ x
-    one e = cc
-read_at (y ∷ xs) (suc i) x d e = read_at xs i x d e
-
 pub home_read : (tree : TreeView) (homes : List ℕ) (w : WriteView) (i d : ℕ) → (h : HasHome tree homes w) → i ≡ w.stamp - tree.next → get_or homes i d ≡ h.page
-home_read tree homes w i d h place = ap (λ n. get_or homes n d) place ∙ read_at homes (w.stamp - tree.next) h.page d h.at
+home_read tree homes w i d h place = ap (λ n. get_or homes n d) place ∙ get_or_from_slice_get homes (w.stamp - tree.next) h.page d h.at
