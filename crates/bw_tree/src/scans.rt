@@ -23,13 +23,17 @@ use std::marker::Model;
 
 /// Scans of a tree, one after another, each as of a stamp of its own.
 ///
-/// The first scan that reads a leaf puts its pairs in an ordered map, and each later one goes on from the stamp of the
-/// one before it. So with stamps that rise, each write of a leaf has its effect once for all scans, and a scan costs a
-/// search and what it answers. At a stamp that falls the leaf is put in a map again.
+/// The first scan that reads a leaf puts its pairs in an ordered map, which is kept, and each later one goes on from the
+/// stamp of the one before it. So with stamps that rise, each write of a leaf has its effect once for all scans. A scan
+/// then costs a search from the root, a walk along the chain of each leaf that it reads, a search in the leaf's map, and a
+/// copy of what it answers. At a stamp that falls the leaf is put in a map again. All leaves that were read stay in
+/// memory.
 #[derive(Drop)]
 pub struct Scans<'a> {
     tree: &'a Tree,
     alloc: Alloc,
+    // whether leaves are kept from scan to scan
+    keeps: bool,
     // the leaves that were read, each as of the last scan that read it
     replays: BTreeMap<PageId, Replay<'a>, Alloc>,
 }
@@ -52,11 +56,25 @@ impl<'a> Scans<'a> {
         Scans {
             tree,
             alloc,
+            keeps: true,
             replays: BTreeMap::new(alloc),
         }
     }
 
-    /// The first pairs of a range of keys as of a stamp: those of the tree's `scan_at`.
+    /// One scan that keeps no leaf behind it. It takes no memory.
+    pub(crate) fn once(alloc: Alloc, tree: &'a Tree) -> Scans<'a>
+        ensures { result.tree ≡ tree.now }
+    {
+        Scans {
+            tree,
+            alloc,
+            keeps: false,
+            replays: BTreeMap::new(alloc),
+        }
+    }
+
+    /// The first pairs of a range of keys as of a stamp: those of the tree's `scan_at`. `Memory` is answered where a
+    /// list, a map or a copy finds none; further scans can be made.
     pub fn scan(
         &mut self,
         from: &Key,
@@ -102,11 +120,12 @@ impl<'a> Scans<'a> {
         let end = lower_end(self.tree.end(page), to);
         let replay = self.take_replay(page, stamp)?;
         replay.add_first(from, end, left, read)?;
-        self.replays.insert(page, replay)?;
+        self.keep(page, replay)?;
         Ok(())
     }
 
-    /// The last pairs of a range of keys as of a stamp, the greatest key first: those of the tree's `rscan_at`.
+    /// The last pairs of a range of keys as of a stamp, the greatest key first: those of the tree's `rscan_at`. `Memory`
+    /// is answered as by `scan`.
     pub fn scan_back(
         &mut self,
         from: &Key,
@@ -156,7 +175,18 @@ impl<'a> Scans<'a> {
         let end = lower_end(self.tree.end(page), to);
         let replay = self.take_replay(page, stamp)?;
         replay.add_last(from, end, left, read)?;
-        self.replays.insert(page, replay)?;
+        self.keep(page, replay)?;
+        Ok(())
+    }
+
+    // Keeps the pairs of a leaf for the next scan.
+    fn keep(&mut self, page: PageId, replay: Replay<'a>) -> Result<(), Memory>
+        requires { IsLeafReplay (slot_at self.old.tree.slots page) replay }
+        ensures { self.new.tree ≡ self.old.tree }
+    {
+        if self.keeps {
+            self.replays.insert(page, replay)?;
+        }
         Ok(())
     }
 

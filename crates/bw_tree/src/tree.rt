@@ -348,8 +348,8 @@ impl Tree {
     /// `to`, and no more than `most` of them.
     ///
     /// From the leaf of `from` on it reads leaf after leaf along the side links, until there are enough pairs or a leaf
-    /// ends the range. Each of these leaves is put in an ordered map as of the stamp, whatever `most` is; `Scans` does
-    /// so once for many scans. Memory is taken for a leaf and for the pairs that are answered, and none by `most`.
+    /// ends the range. Each of these leaves is put whole in an ordered map as of the stamp, whatever `most` is; `Scans`
+    /// does so once for many scans. Memory is taken for one leaf and for the pairs that are answered, and none by `most`.
     /// `Memory` is answered where a list, a map or a copy finds none.
     pub fn scan_at(
         &self,
@@ -360,7 +360,7 @@ impl Tree {
     ) -> Result<Pairs, Memory>
         ensures { IfOk result (λ pairs. pairs ≡ first_of_range (contents_at self.now stamp) from.now (option_copied to.entry) most) }
     {
-        Scans::new(*self.heads.allocator(), self).scan(from, to, most, stamp)
+        Scans::once(*self.heads.allocator(), self).scan(from, to, most, stamp)
     }
 
     /// The last pairs of a range of keys as of a stamp, the greatest key first: those from `from` on and below `to`,
@@ -378,7 +378,7 @@ impl Tree {
     ) -> Result<Pairs, Memory>
         ensures { IfOk result (λ pairs. pairs ≡ last_of_range (contents_at self.now stamp) from.now (option_copied to.entry) most) }
     {
-        Scans::new(*self.heads.allocator(), self).scan_back(from, to, most, stamp)
+        Scans::once(*self.heads.allocator(), self).scan_back(from, to, most, stamp)
     }
 
     /// The pairs of a leaf as of stamp 0, which go on to later stamps.

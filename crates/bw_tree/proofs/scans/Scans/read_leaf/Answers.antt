@@ -11,17 +11,8 @@ use Rattle.bw_tree.specs.Slots.{slot_at}
 use Rattle.bw_tree.specs.Replaying.{IsLeafReplay, ScansView}
 use Rattle.bw_tree.specs.Scans.{is_on}
 use Rattle.bw_tree.specs.View.{TreeView, contents_at}
-use Rattle.bw_tree.proofs.ReplayLemmas.{kept_with, kept_same, pairs_on_leaf}
+use Rattle.bw_tree.proofs.ReplayLemmas.{pairs_on_leaf}
 use Rattle.bw_tree.proofs.scans.Scans.read_leaf.Goals as goal
-
-pub invariant_of-self : goal.invariant_of-self
-invariant_of-self c = kept_same c.self-2.inside.tree.now c.self-2.inside.replays c.insert.new.self c.in_err-insert.ensures.err c.self-2.invariant
-
-pub invariant_of-self-2 : goal.invariant_of-self-2
-invariant_of-self-2 c =
-    kept_with c.self-2.inside.tree.now c.self-2.inside.replays c.insert.new.self c.args.page c.in_ok-replay.replay c.in_ok-insert.ensures.updates
-    (subst (λ (t : TreeView). IsLeafReplay (slot_at t.slots c.args.page) c.in_ok-replay.replay)
-    (sym c.take_replay.ensures.tree ∙ sym (ap (λ (v : ScansView). v.tree) c.self-2.view_is)) c.in_ok-replay.ensures.replay) c.self-2.invariant
 
 pub returns-clause-read : goal.returns-clause-read
 returns-clause-read c =
