@@ -2,6 +2,7 @@
 ghost use Rattle.std.specs.Prelude.{◌<◌};
 
 use super::making::{answered, answered_in_parts, batch, heap, homed, reads, three, wanted};
+use crate::parts::count_parts;
 use bw_memory::Alloc;
 use bw_model::Reply;
 use bw_page::PageId;
@@ -131,4 +132,19 @@ fn each_growth_of_homes_is_refused(rt: HostRuntime) {
         assert!(rt; homes.is_err(), "growth {growth}");
     }
     panic!(rt; "no run met no refusal")
+}
+
+#[test]
+fn a_small_batch_is_one_part(rt: HostRuntime) {
+    assert_eq!(rt; count_parts(0, 0, 4), 1);
+    assert_eq!(rt; count_parts(2047, 127, 4), 1);
+    assert_eq!(rt; count_parts(2048, 0, 1), 1);
+}
+
+#[test]
+fn a_large_batch_has_a_part_for_each_worker(rt: HostRuntime) {
+    assert_eq!(rt; count_parts(2048, 0, 4), 2);
+    assert_eq!(rt; count_parts(0, 128, 4), 2);
+    assert_eq!(rt; count_parts(65536, 0, 4), 4);
+    assert_eq!(rt; count_parts(65536, 0, 64), 64);
 }
