@@ -31,8 +31,8 @@ pub enum Job {
     Dump,
 }
 
-/// Runs a trace on an empty index, batch by batch, with threads that `rt` starts. A batch's text is written before the next line is judged, and what
-/// the job prints at the end is written once the reader has told its end.
+/// Runs a trace on an empty index, batch by batch, with threads that `rt` starts. A batch's text is written before the
+/// next line is judged, and what the job prints at the end is written once the reader has told its end.
 ///
 /// Its faults are those of `read_batch`, `Write`, and `Memory` where the index or a text finds none. A refused batch is
 /// no fault: the summary counts it.
