@@ -250,20 +250,16 @@ fewer_before slots levels end p before =
     inside o is = ap (starts_before end) is ∙ holds _ before.starts
 
 -- a range that begins at its end or past it has no pairs
-pub no_range : (m : Contents ValueBytes) (from : KeyBytes) (to : Option KeyBytes) (most : ℕ) → false ≡ is_below_end to from → [] ≡ take most (reverse (pairs_of_range m from to))
-no_range m from to most past = sym (ap (λ (l : List (KeyBytes × ValueBytes)). take most (reverse l)) (nothing (entries m)) ∙ none most)
+pub no_pairs : (m : Contents ValueBytes) (from : KeyBytes) (to : Option KeyBytes) → is_below_end to from ≡ false → pairs_of_range m from to ≡ []
+no_pairs m from to past = nothing (entries m)
   where
-    none : (n : ℕ) → take {A = KeyBytes × ValueBytes} n [] ≡ []
-    none zero = refl
-    none (suc n) = refl
-
     outside : (k : KeyBytes) → is_in_range from to k ≡ false
     outside k = by (is_lt (key_cmp k from)) (is_below_end to k) refl refl
       where
         by : (a b : Bool) → is_lt (key_cmp k from) ≡ a → is_below_end to k ≡ b → (not a && b) ≡ false
         by true b e f = refl
         by false false e f = refl
-        by false true e f = absurd (different (sym (holds _ (upto_end to from k e (true_holds _ f))) ∙ sym past))
+        by false true e f = absurd (different (sym (holds _ (upto_end to from k e (true_holds _ f))) ∙ past))
 
     nothing : (es : List (KeyBytes × ValueBytes)) → where_key key_cmp (is_in_range from to) es ≡ []
     nothing [] = refl

@@ -1,25 +1,21 @@
 -- A leaf of a tree, from its mapping word, and what a scan makes of it.
-use Rattle.std.proofs.Common.{◌≡◌, ℕ, ◌<◌, ◌≤◌, Bool, true, false, T, List, [], ◌++◌, length, take, get_or, Option, Some, None, MatchOption, refl, sym, ap, ◌∙◌, subst, arith}
+use Rattle.std.proofs.Common.{◌≡◌, ℕ, ◌<◌, Bool, true, false, T, List, length, get_or, Option, Some, None, MatchOption, refl, sym, ap, ◌∙◌, subst, arith}
 use Rattle.std.proofs.lemmas.List.{length-map}
 use Rattle.std.specs.List.{Contains}
-use Rattle.std.specs.FinMap.{entries, entries_sorted, is_sorted}
-use Rattle.std.specs.FinMap.Entries.{where_key}
-use Rattle.bw_key.specs.Order.{KeyBytes, key_cmp}
-use Rattle.bw_model.specs.Contents.{is_below_end, pairs_of_range}
-use Rattle.bw_model.specs.Values.{ValueBytes}
+use Rattle.bw_key.specs.Order.{KeyBytes}
+use Rattle.bw_model.specs.Contents.{is_below_end}
 use Rattle.bw_delta.specs.History.{HasDistinctStamps}
-use Rattle.bw_delta.proofs.Maps.{sorted_in_range}
 use Rattle.bw_tree.specs.Slots.{Slot, slot_at, is_leaf, side_of_slot}
-use Rattle.bw_tree.specs.Levels.{AreLevels, IsHome, row}
+use Rattle.bw_tree.specs.Levels.{AreLevels, row}
 use Rattle.bw_tree.specs.Reading.{writes_over}
-use Rattle.bw_tree.specs.Scans.{ArePairsOn, Reaches, high_of, is_on}
+use Rattle.bw_tree.specs.Scans.{Reaches, high_of}
 use Rattle.bw_tree.specs.Chains.{Bases, Records, Ends, slot_of_word}
-use Rattle.bw_tree.specs.View.{TreeView, contents_at, slots_of, row_writes}
+use Rattle.bw_tree.specs.View.{TreeView, slots_of, row_writes}
 use Rattle.bw_tree.specs.Trees.{IsStanding, StageWords, view_of}
 use Rattle.bw_tree.proofs.RowLemmas.{InRow}
 use Rattle.bw_tree.proofs.RouteLemmas.{home_leaf}
 use Rattle.bw_tree.proofs.ContentsLemmas.{found_at}
-use Rattle.bw_tree.proofs.ScanLemmas.{Scanning, HasPassed, NextLeaf, page_distinct, leaf_in_row, own_home, leaf_pairs, begins_scan, passes, ends_scan, goes_on, enough_read}
+use Rattle.bw_tree.proofs.ScanLemmas.{page_distinct, leaf_in_row, own_home}
 
 holds : (b : Bool) → T b → b ≡ true
 holds true t = refl
@@ -30,6 +26,28 @@ true_holds a e = subst T (sym e) tt
 
 different : false ≡ true → ⊥
 different e = cc
+
+-- a leaf without a right neighbour has no end
+pub side_or_end : (slots : List Slot) (root : ℕ) (levels : List (List ℕ)) → AreLevels slots root levels → (p : ℕ) (side : Option ℕ) (to : Option KeyBytes) → Contains (row levels 0) p → side ≡ side_of_slot (slot_at slots p) →
+    MatchOption side (Reaches (high_of (slot_at slots p)) to) (λ next. side_of_slot (slot_at slots p) ≡ Some next)
+side_or_end slots root levels lawful p (Some next) to has e = sym e
+side_or_end slots root levels lawful p None to has e = by (leaf_in_row slots root levels lawful p has)
+  where
+    by : InRow slots 0 (row levels 0) has.0 p → Reaches (high_of (slot_at slots p)) to
+    by at = from at.high refl
+      where
+        no_side : {q : ℕ} → None ≡ Some q → ⊥
+        no_side e = cc
+
+        side_is : None ≡ at.side
+        side_is = e ∙ ap side_of_slot at.stands.is ∙ at.stands.linked
+
+        high_is : high_of (slot_at slots p) ≡ at.high
+        high_is = ap high_of at.stands.is ∙ at.stands.to_high
+
+        from : (h : Option KeyBytes) → at.high ≡ h → Reaches (high_of (slot_at slots p)) to
+        from None none = λ key below. subst (λ (o : Option KeyBytes). T (is_below_end o key)) (sym (high_is ∙ none)) tt
+        from (Some k) some = let g = at.goes_on k some in absurd (no_side (side_is ∙ g.1))
 
 -- what is known of a leaf's mapping word
 pub record LeafAt (tree : TreeView) (bases : Bases) (records : Records) (p head : ℕ) : Type 0 where
@@ -63,25 +81,3 @@ module _ (heads : List ℕ) (bases : Bases) (records : Records) (root next bound
         leaf = at.leaf;
         distinct = subst (λ (o : Slot). HasDistinctStamps (writes_over o)) at.slot (page_distinct tree.slots (row tree.levels 0) p has distinct_here);
       }
-
-  -- a leaf without a right neighbour has no end
-  pub side_or_end : (p : ℕ) (side : Option ℕ) (to : Option KeyBytes) → Contains (row tree.levels 0) p → side ≡ side_of_slot (slot_at tree.slots p) →
-      MatchOption side (Reaches (high_of (slot_at tree.slots p)) to) (λ next. side_of_slot (slot_at tree.slots p) ≡ Some next)
-  side_or_end p (Some next) to has e = sym e
-  side_or_end p None to has e = by (leaf_in_row tree.slots root tree.levels lawful_here p has)
-    where
-      by : InRow tree.slots 0 (row tree.levels 0) has.0 p → Reaches (high_of (slot_at tree.slots p)) to
-      by at = from at.high refl
-        where
-          no_side : {q : ℕ} → None ≡ Some q → ⊥
-          no_side e = cc
-
-          side_is : None ≡ at.side
-          side_is = e ∙ ap side_of_slot at.stands.is ∙ at.stands.linked
-
-          high_is : high_of (slot_at tree.slots p) ≡ at.high
-          high_is = ap high_of at.stands.is ∙ at.stands.to_high
-
-          from : (h : Option KeyBytes) → at.high ≡ h → Reaches (high_of (slot_at tree.slots p)) to
-          from None none = λ key below. subst (λ (o : Option KeyBytes). T (is_below_end o key)) (sym (high_is ∙ none)) tt
-          from (Some k) some = let g = at.goes_on k some in absurd (no_side (side_is ∙ g.1))

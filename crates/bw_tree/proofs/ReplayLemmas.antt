@@ -4,13 +4,15 @@ use Rattle.std.specs.Prelude.{filter}
 use Rattle.std.specs.List.{Contains}
 use Rattle.std.specs.BTreeMap as kept
 use Rattle.std.specs.Map.{lookup}
+use Rattle.std.specs.Option.{option_copied}
 use Rattle.std.specs.Ordering.{is_eq, is_lt, nat_cmp}
 use Rattle.std.specs.declared.cmp.Ordering.TheVariants.{Less, Equal, Greater}
-use Rattle.std.specs.FinMap.{entries, entries_sorted, find, is_sorted, nat_cmp-IsAntisymmetric}
+use Rattle.std.specs.FinMap.{entries, entries_sorted, is_sorted, nat_cmp-IsAntisymmetric}
 use Rattle.std.specs.FinMap.Entries.{where_key}
 use Rattle.bw_key.specs.Order.{KeyBytes, key_cmp}
-use Rattle.bw_model.specs.Contents.{Contents, is_below_end, is_in_range, is_pair_in_range, pairs_of_range}
+use Rattle.bw_model.specs.Contents.{is_below_end, is_pair_in_range, pairs_of_range}
 use Rattle.bw_model.specs.Values.{ValueBytes}
+use Rattle.bw_page.specs.Inners.{IsUpto}
 use Rattle.bw_delta.specs.History.{HasDistinctStamps}
 use Rattle.bw_delta.specs.Replays.{ReplayView}
 use Rattle.bw_delta.proofs.Maps.{sorted_in_range}
@@ -19,12 +21,19 @@ use Rattle.bw_tree.specs.Walk.{walked}
 use Rattle.bw_tree.specs.Slots.{Slot, slot_at, side_of, side_of_slot}
 use Rattle.bw_tree.specs.Levels.{AreLevels, IsHome, row}
 use Rattle.bw_tree.specs.Reading.{base_of, value_in, writes_over}
-use Rattle.bw_tree.specs.Replaying.{AreLeafReplays, IsLeafReplay}
+use Rattle.bw_tree.specs.Replaying.{AreReadLeaves, IsKept, IsLeafReplay}
 use Rattle.bw_tree.specs.Before.{IsBefore, low_of}
+use Rattle.bw_tree.specs.declared.scans.ReadLeaf.{ReadLeaf}
 use Rattle.bw_tree.specs.Scans.{ArePairsOn, Reaches, high_of, is_on}
 use Rattle.bw_tree.specs.View.{TreeView, contents_at, row_writes}
-use Rattle.bw_tree.proofs.BackLemmas.{ScanningBack, PassedBack, begins_back, passed_back, ends_back, enough_back, goes_back, leaves_before}
-use Rattle.bw_tree.proofs.ScanLemmas.{Scanning, HasPassed, NextLeaf, leaf_pairs, begins_scan, passes, ends_scan, goes_on, enough_read}
+use Rattle.bw_tree.proofs.BackLemmas.{ScanningBack, PassedBack, begins_back, passed_back, ends_back, enough_back, goes_back}
+use Rattle.bw_tree.proofs.ScanLemmas.{Scanning, HasPassed, leaf_in_row, leaf_pairs, begins_scan, passes, ends_scan, goes_on, enough_read}
+use Rattle.bw_tree.proofs.RowLemmas.{InRow}
+
+-- no first pairs of no pairs
+pub none_taken : (n : ℕ) → take {A = KeyBytes × ValueBytes} n [] ≡ []
+none_taken zero = refl
+none_taken (suc n) = refl
 
 -- the first of two lists, and then of the second as many as are left
 pub take_both : {X : Type 0} (most : ℕ) (xs ys : List X) → take most xs ++ take (most - length (take most xs)) ys ≡ take most (xs ++ ys)
@@ -105,11 +114,7 @@ module _ (tree : TreeView) (lawful : AreLevels tree.slots tree.root tree.levels)
   range_sorted = sorted_in_range from to (entries (contents_at tree stamp)) (entries_sorted (contents_at tree stamp))
 
   pub begins : (p : ℕ) (read : List (KeyBytes × ValueBytes)) → read ≡ [] → IsHome tree.slots tree.levels from p → HasRead tree all_pairs most read p
-  begins p read none home = record { whole = []; scanning = begins_scan tree.slots tree.root tree.levels lawful distinct stamp from to p home; front = none ∙ sym (nothing most) }
-    where
-      nothing : (n : ℕ) → take {A = KeyBytes × ValueBytes} n [] ≡ []
-      nothing zero = refl
-      nothing (suc n) = refl
+  begins p read none home = record { whole = []; scanning = begins_scan tree.slots tree.root tree.levels lawful distinct stamp from to p home; front = none ∙ sym (none_taken most) }
 
   has_passed : (p : ℕ) (read : List (KeyBytes × ValueBytes)) (h : HasRead tree all_pairs most read p) → HasPassed tree.slots all_pairs (h.whole ++ on_leaf p) p
   has_passed p read h = passes tree.slots tree.root tree.levels lawful all_pairs h.whole (h.whole ++ on_leaf p) p range_sorted h.scanning refl
@@ -145,11 +150,7 @@ module _ (tree : TreeView) (stamp most : ℕ) (from : KeyBytes) (to : Option Key
   range_pairs = pairs_of_range (contents_at tree stamp) from to
 
   pub begins_at_end : (read : List (KeyBytes × ValueBytes)) → read ≡ [] → T (is_below_end to from) → HasReadBack range_pairs most read from to to
-  begins_at_end read none starts = record { whole = []; scanning = begins_back (contents_at tree stamp) from to [] refl starts; front = none ∙ sym (nothing most) }
-    where
-      nothing : (n : ℕ) → take {A = KeyBytes × ValueBytes} n [] ≡ []
-      nothing zero = refl
-      nothing (suc n) = refl
+  begins_at_end read none starts = record { whole = []; scanning = begins_back (contents_at tree stamp) from to [] refl starts; front = none ∙ sym (none_taken most) }
 
   pub is_back : (low : KeyBytes) (end : Option KeyBytes) (p : ℕ) (read new : List (KeyBytes × ValueBytes)) → IsBefore tree.slots tree.levels end p → HasReadBack range_pairs most read from to end →
       new ≡ read ++ take (most - length read) (reverse (leaf_of tree stamp from end p)) → low ≡ low_of (slot_at tree.slots p) → IsBack tree stamp most from to end low new
@@ -174,22 +175,22 @@ module _ (tree : TreeView) (stamp most : ℕ) (from : KeyBytes) (to : Option Key
     front = b.front;
   }
 
--- the replays that are kept, when one is taken out
-pub kept_without : (tree : TreeView) (old new : kept.BTreeMap ℕ ReplayView) (p : ℕ) → kept.Updates nat_cmp old new p None → AreLeafReplays tree old → AreLeafReplays tree new
-kept_without tree old new p taken so q replay is = by (is_eq (nat_cmp p q)) refl (sym (taken.0 q) ∙ is)
+-- the leaves that are kept, when one is taken out
+pub kept_without : (tree : TreeView) (old new : kept.BTreeMap ℕ ReadLeaf) (p : ℕ) → kept.Updates nat_cmp old new p None → AreReadLeaves tree old → AreReadLeaves tree new
+kept_without tree old new p taken so q leaf is = by (is_eq (nat_cmp p q)) refl (sym (taken.0 q) ∙ is)
   where
-    no_replay : None ≡ Some replay → ⊥
-    no_replay e = cc
+    no_leaf : None ≡ Some leaf → ⊥
+    no_leaf e = cc
 
-    by : (b : Bool) → is_eq (nat_cmp p q) ≡ b → cond b None (kept.get nat_cmp old q) ≡ Some replay → IsLeafReplay (slot_at tree.slots q) replay
-    by true tie e = absurd (no_replay e)
-    by false tie e = so q replay e
+    by : (b : Bool) → is_eq (nat_cmp p q) ≡ b → cond b None (kept.get nat_cmp old q) ≡ Some leaf → IsKept tree q leaf
+    by true tie e = absurd (no_leaf e)
+    by false tie e = so q leaf e
 
 -- and with one that is put in
-pub kept_with : (tree : TreeView) (old new : kept.BTreeMap ℕ ReplayView) (p : ℕ) (given : ReplayView) → kept.Updates nat_cmp old new p (Some given) → IsLeafReplay (slot_at tree.slots p) given → AreLeafReplays tree old → AreLeafReplays tree new
-kept_with tree old new p given put good so q replay is = by (is_eq (nat_cmp p q)) refl (sym (put.0 q) ∙ is)
+pub kept_with : (tree : TreeView) (old new : kept.BTreeMap ℕ ReadLeaf) (p : ℕ) (given : ReadLeaf) → kept.Updates nat_cmp old new p (Some given) → IsKept tree p given → AreReadLeaves tree old → AreReadLeaves tree new
+kept_with tree old new p given put good so q leaf is = by (is_eq (nat_cmp p q)) refl (sym (put.0 q) ∙ is)
   where
-    same : Some given ≡ Some replay → given ≡ replay
+    same : Some given ≡ Some leaf → given ≡ leaf
     same e = cc
 
     tied : (o : Ordering) → is_eq o ≡ true → o ≡ Equal
@@ -197,16 +198,49 @@ kept_with tree old new p given put good so q replay is = by (is_eq (nat_cmp p q)
     tied Equal e = refl
     tied Greater e = cc
 
-    by : (b : Bool) → is_eq (nat_cmp p q) ≡ b → cond b (Some given) (kept.get nat_cmp old q) ≡ Some replay → IsLeafReplay (slot_at tree.slots q) replay
+    by : (b : Bool) → is_eq (nat_cmp p q) ≡ b → cond b (Some given) (kept.get nat_cmp old q) ≡ Some leaf → IsKept tree q leaf
     by true tie e =
-        subst (λ (r : ReplayView). IsLeafReplay (slot_at tree.slots q) r) (same e)
-        (subst (λ n. IsLeafReplay (slot_at tree.slots n) given) (nat_cmp-IsAntisymmetric p q (tied (nat_cmp p q) tie)) good)
-    by false tie e = so q replay e
+        subst (λ (l : ReadLeaf). IsKept tree q l) (same e)
+        (subst (λ n. IsKept tree n given) (nat_cmp-IsAntisymmetric p q (tied (nat_cmp p q) tie)) good)
+    by false tie e = so q leaf e
 
 -- and where nothing changed
-pub kept_same : (tree : TreeView) (old new : kept.BTreeMap ℕ ReplayView) → kept.IsUnchanged old new → AreLeafReplays tree old → AreLeafReplays tree new
-kept_same tree old new same so q replay is = so q replay (ap (λ (es : List (ℕ × ReplayView)). lookup (kept.is_at (nat_cmp q)) es) (sym same) ∙ is)
+pub kept_same : (tree : TreeView) (old new : kept.BTreeMap ℕ ReadLeaf) → kept.IsUnchanged old new → AreReadLeaves tree old → AreReadLeaves tree new
+kept_same tree old new same so q leaf is = so q leaf (ap (λ (es : List (ℕ × ReadLeaf)). lookup (kept.is_at (nat_cmp q)) es) (sym same) ∙ is)
 
--- the replay that was kept for a page
-pub kept_one : (tree : TreeView) (old : kept.BTreeMap ℕ ReplayView) (p : ℕ) (replay : ReplayView) → AreLeafReplays tree old → Some replay ≡ kept.get nat_cmp old p → IsLeafReplay (slot_at tree.slots p) replay
-kept_one tree old p replay so is = so p replay (sym is)
+-- the leaf that was kept for a page
+pub kept_one : (tree : TreeView) (old : kept.BTreeMap ℕ ReadLeaf) (p : ℕ) (leaf : ReadLeaf) → AreReadLeaves tree old → Some leaf ≡ kept.get nat_cmp old p → IsKept tree p leaf
+kept_one tree old p leaf so is = so p leaf (sym is)
+
+module _ (tree : TreeView) (lawful : AreLevels tree.slots tree.root tree.levels) (p : ℕ) (leaf : ReadLeaf) (is_kept : IsKept tree p leaf) where
+  in_row : InRow tree.slots 0 (row tree.levels 0) is_kept.in_level.0 p
+  in_row = leaf_in_row tree.slots tree.root tree.levels lawful p is_kept.in_level
+
+  low_is : leaf.low.now ≡ in_row.stands.state.low
+  low_is = is_kept.read.low ∙ ap low_of in_row.stands.is
+
+  end_is : option_copied leaf.end ≡ in_row.stands.state.high
+  end_is = is_kept.read.end ∙ ap high_of in_row.stands.is
+
+  -- a leaf that is kept is the home of the keys of its range
+  pub kept_home : (key : KeyBytes) → is_lt (key_cmp key leaf.low.now) ≡ false → T (is_below_end (option_copied leaf.end) key) → IsHome tree.slots tree.levels key p
+  kept_home key upto below = record {
+    reached = record {
+      within = lawful.some;
+      in_level = is_kept.in_level;
+      state = in_row.stands.state;
+      is = in_row.stands.is;
+      from_low = subst (λ (k : KeyBytes). IsUpto k key) low_is (subst (λ b. T (not b)) (sym upto) tt);
+    };
+    ends_above = subst (λ (o : Option KeyBytes). T (is_below_end o key)) end_is below;
+  }
+
+  -- and the one before the ends that it begins below and reaches
+  pub kept_before : (end : Option KeyBytes) → T (is_below_end end leaf.low.now) → Reaches (option_copied leaf.end) end → IsBefore tree.slots tree.levels end p
+  kept_before end starts reaches = record {
+    in_level = is_kept.in_level;
+    state = in_row.stands.state;
+    is = in_row.stands.is;
+    starts = subst (λ (k : KeyBytes). T (is_below_end end k)) low_is starts;
+    reaches = subst (λ (o : Option KeyBytes). Reaches o end) end_is reaches;
+  }

@@ -1,17 +1,19 @@
 // Scans of a tree.
-ghost use Rattle.std.specs.Prelude.{◌≡◌, ◌-◌, ◌≤◌, ◌++◌, T, length, reverse, take, IfOk, IfSome, OnOk};
+ghost use Rattle.std.specs.Prelude.{◌≡◌, ◌-◌, ◌≤◌, ◌++◌, [], true, false, Some, T, length, reverse, take, IfOk, IfSome, MatchOption, OnOk};
 ghost use Rattle.std.specs.List.{Contains};
 ghost use Rattle.std.specs.Option.{option_copied};
 ghost use Rattle.std.specs.FinMap.Entries.{where_key};
 ghost use Rattle.bw_key.specs.Order.{key_cmp};
-ghost use Rattle.bw_model.specs.Contents.{first_of_range, is_below_end, last_of_range, pairs_of_range};
-ghost use Rattle.bw_tree.specs.Slots.{slot_at};
-ghost use Rattle.bw_tree.specs.Levels.{row};
-ghost use Rattle.bw_tree.specs.Replaying.{IsLeafReplay};
-ghost use Rattle.bw_tree.specs.Scans.{is_on};
+ghost use Rattle.bw_model.specs.Contents.{Contents, first_of_range, is_below_end, last_of_range, pairs_of_range};
+ghost use Rattle.bw_model.specs.Values.{ValueBytes};
+ghost use Rattle.bw_tree.specs.Slots.{side_of_slot, slot_at};
+ghost use Rattle.bw_tree.specs.Before.{IsBefore, low_of};
+ghost use Rattle.bw_tree.specs.Levels.{IsHome, row};
+ghost use Rattle.bw_tree.specs.Replaying.{IsKept, IsReadLeaf};
+ghost use Rattle.bw_tree.specs.Scans.{Reaches, high_of, is_on};
 ghost use Rattle.bw_tree.specs.View.{contents_at};
 
-use crate::chains::lower_end;
+use crate::chains::{lower_end, reaches};
 use crate::tree::Tree;
 use bw_delta::Replay;
 use bw_key::{Key, Memory};
@@ -24,10 +26,10 @@ use std::marker::Model;
 /// Scans of a tree, one after another, each as of a stamp of its own.
 ///
 /// The first scan that reads a leaf puts its pairs in an ordered map, which is kept, and each later one goes on from the
-/// stamp of the one before it. So with stamps that rise, each write of a leaf has its effect once for all scans. A scan
-/// then costs a search from the root, a walk along the chain of each leaf that it reads, a search in the leaf's map, and a
-/// copy of what it answers. At a stamp that falls the leaf is put in a map again. All leaves that were read stay in
-/// memory.
+/// stamp of the one before it. So with stamps that rise, each write of a leaf has its effect once for all scans, and its
+/// chain is walked a fixed number of times, however many scans read it. A scan of leaves that are kept costs a search
+/// among them, one in the map of each leaf that it reads, and a copy of what it answers. At a stamp that falls the leaf is
+/// put in a map again. All leaves that were read stay in memory.
 #[derive(Drop)]
 pub struct Scans<'a> {
     tree: &'a Tree,
@@ -35,17 +37,28 @@ pub struct Scans<'a> {
     // whether leaves are kept from scan to scan
     keeps: bool,
     // the leaves that were read, each as of the last scan that read it
-    replays: BTreeMap<PageId, Replay<'a>, Alloc>,
+    leaves: BTreeMap<PageId, ReadLeaf<'a>, Alloc>,
+    // and by the keys that they begin at
+    pages: BTreeMap<Key, PageId, Alloc>,
+}
+
+/// A leaf that was read: where its range lies, which page is its right neighbour, and its pairs.
+#[derive(Drop)]
+pub(crate) struct ReadLeaf<'a> {
+    pub(crate) low: &'a Key,
+    pub(crate) end: Option<&'a Key>,
+    pub(crate) side: Option<PageId>,
+    pub(crate) replay: Replay<'a>,
 }
 
 impl<'a> Model for Scans<'a> {
-    ghost use Rattle.bw_tree.specs.Replaying.{AreLeafReplays, ScansView};
+    ghost use Rattle.bw_tree.specs.Replaying.{AreReadLeaves, ScansView};
 
     ghost Value = { ScansView };
 
     ghost view = { λ s. record { tree = s.tree.now } };
 
-    ghost invariant = { λ s. AreLeafReplays s.tree.now s.replays };
+    ghost invariant = { λ s. AreReadLeaves s.tree.now s.leaves };
 }
 
 impl<'a> Scans<'a> {
@@ -57,7 +70,8 @@ impl<'a> Scans<'a> {
             tree,
             alloc,
             keeps: true,
-            replays: BTreeMap::new(alloc),
+            leaves: BTreeMap::new(alloc),
+            pages: BTreeMap::new(alloc),
         }
     }
 
@@ -69,7 +83,8 @@ impl<'a> Scans<'a> {
             tree,
             alloc,
             keeps: false,
-            replays: BTreeMap::new(alloc),
+            leaves: BTreeMap::new(alloc),
+            pages: BTreeMap::new(alloc),
         }
     }
 
@@ -85,13 +100,14 @@ impl<'a> Scans<'a> {
         ensures tree { self.new.tree ≡ self.old.tree }
         ensures pairs { IfOk result (λ pairs. pairs ≡ first_of_range (contents_at self.old.tree stamp) from.now (option_copied to.entry) most) }
     {
-        let tree = self.tree;
-        tree.know_levels();
         let mut read = Vec::new(self.alloc);
-        let mut page = tree.route(from);
+        if asks_for_none(from, to, most) {
+            return Ok(Pairs::from_vec(read));
+        }
+        self.tree.know_levels();
+        let mut page = self.route(from);
         loop {
-            self.read_leaf(page, from, to, most, stamp, &mut read)?;
-            let Some(next) = tree.leaf_after(page, to) else {
+            let Some(next) = self.read_leaf(page, from, to, most, stamp, &mut read)? else {
                 return Ok(Pairs::from_vec(read));
             };
             if read.len() as u64 >= most {
@@ -101,7 +117,8 @@ impl<'a> Scans<'a> {
         }
     }
 
-    // Adds the pairs of a range that lie on a leaf, as of a stamp, until there are so many in all.
+    // Adds the pairs of a range that lie on a leaf, as of a stamp, until there are so many in all. It answers the right
+    // neighbour, where the leaf doesn't reach the end of the range.
     fn read_leaf(
         &mut self,
         page: PageId,
@@ -110,18 +127,24 @@ impl<'a> Scans<'a> {
         most: u64,
         stamp: u64,
         read: &mut Vec<(Key, Value), Alloc>,
-    ) -> Result<(), Memory>
+    ) -> Result<Option<PageId>, Memory>
         requires { Contains (row self.old.tree.levels 0) page }
         ensures tree { self.new.tree ≡ self.old.tree }
         ensures read { OnOk result (read.new.items ≡ read.old.items ++ take (most - length read.old.items) (where_key key_cmp (is_on (slot_at self.old.tree.slots page)) (pairs_of_range (contents_at self.old.tree stamp) from.now (option_copied to.entry)))) }
+        ensures next { IfOk result (λ next. MatchOption next (Reaches (high_of (slot_at self.old.tree.slots page)) (option_copied to.entry)) (λ next. side_of_slot (slot_at self.old.tree.slots page) ≡ Some next)) }
     {
         self.tree.know_levels();
         let left = most.saturating_sub(read.len() as u64);
-        let end = lower_end(self.tree.end(page), to);
-        let replay = self.take_replay(page, stamp)?;
-        replay.add_first(from, end, left, read)?;
-        self.keep(page, replay)?;
-        Ok(())
+        let leaf = self.take_leaf(page, stamp)?;
+        let end = lower_end(leaf.end, to);
+        leaf.replay.add_first(from, end, left, read)?;
+        let next = if reaches(leaf.end, to) {
+            None
+        } else {
+            leaf.side
+        };
+        self.keep(page, leaf)?;
+        Ok(next)
     }
 
     /// The last pairs of a range of keys as of a stamp, the greatest key first: those of the tree's `rscan_at`. `Memory`
@@ -137,15 +160,13 @@ impl<'a> Scans<'a> {
         ensures pairs { IfOk result (λ pairs. pairs ≡ last_of_range (contents_at self.old.tree stamp) from.now (option_copied to.entry) most) }
     {
         let mut read = Vec::new(self.alloc);
-        if !is_below(from, to) {
+        if asks_for_none(from, to, most) {
             return Ok(Pairs::from_vec(read));
         }
-        let tree = self.tree;
         let mut end = to;
         loop {
-            let page = tree.route_before(end);
-            self.read_leaf_back(page, from, end, most, stamp, &mut read)?;
-            let low = tree.low(page);
+            let page = self.route_before(end);
+            let low = self.read_leaf_back(page, from, end, most, stamp, &mut read)?;
             if *low <= *from {
                 return Ok(Pairs::from_vec(read));
             }
@@ -157,6 +178,7 @@ impl<'a> Scans<'a> {
     }
 
     // Adds the pairs of a range that lie on a leaf, as of a stamp, the greatest key first, until there are so many in all.
+    // It answers where the leaf's range begins.
     fn read_leaf_back(
         &mut self,
         page: PageId,
@@ -165,58 +187,134 @@ impl<'a> Scans<'a> {
         most: u64,
         stamp: u64,
         read: &mut Vec<(Key, Value), Alloc>,
-    ) -> Result<(), Memory>
+    ) -> Result<&'a Key, Memory>
         requires { Contains (row self.old.tree.levels 0) page }
         ensures tree { self.new.tree ≡ self.old.tree }
         ensures read { OnOk result (read.new.items ≡ read.old.items ++ take (most - length read.old.items) (reverse (where_key key_cmp (is_on (slot_at self.old.tree.slots page)) (pairs_of_range (contents_at self.old.tree stamp) from.now (option_copied to.entry))))) }
+        ensures low { IfOk result (λ low. low.now ≡ low_of (slot_at self.old.tree.slots page)) }
     {
         self.tree.know_levels();
         let left = most.saturating_sub(read.len() as u64);
-        let end = lower_end(self.tree.end(page), to);
-        let replay = self.take_replay(page, stamp)?;
-        replay.add_last(from, end, left, read)?;
-        self.keep(page, replay)?;
-        Ok(())
+        let leaf = self.take_leaf(page, stamp)?;
+        let end = lower_end(leaf.end, to);
+        leaf.replay.add_last(from, end, left, read)?;
+        let low = leaf.low;
+        self.keep(page, leaf)?;
+        Ok(low)
     }
 
-    // Keeps the pairs of a leaf for the next scan.
-    fn keep(&mut self, page: PageId, replay: Replay<'a>) -> Result<(), Memory>
-        requires { IsLeafReplay (slot_at self.old.tree.slots page) replay }
+    // The leaf whose range has a key: one that is kept, or else the tree's route.
+    fn route(&self, key: &Key) -> PageId
+        ensures { IsHome self.now.tree.slots self.now.tree.levels key.now result }
+    {
+        match self.kept_home(key) {
+            Some(page) => page,
+            None => self.tree.route(key),
+        }
+    }
+
+    // The same among those that are kept.
+    fn kept_home(&self, key: &Key) -> Option<PageId>
+        ensures { IfSome result (IsHome self.now.tree.slots self.now.tree.levels key.now) }
+    {
+        self.tree.know_levels();
+        let (_, page) = self.pages.range(..=key).next_back()?;
+        let leaf = self.leaves.get(page)?;
+        if *key < *leaf.low || !is_below(key, leaf.end) {
+            return None;
+        }
+        Some(*page)
+    }
+
+    // The leaf whose range has the keys right below an end: one that is kept, or else the tree's.
+    fn route_before(&self, end: Option<&Key>) -> PageId
+        requires { T (is_below_end (option_copied end) []) }
+        ensures { IsBefore self.now.tree.slots self.now.tree.levels (option_copied end.entry) result }
+    {
+        match self.kept_before(end) {
+            Some(page) => page,
+            None => self.tree.route_before(end),
+        }
+    }
+
+    // The same among those that are kept.
+    fn kept_before(&self, end: Option<&Key>) -> Option<PageId>
+        ensures { IfSome result (IsBefore self.now.tree.slots self.now.tree.levels (option_copied end.entry)) }
+    {
+        self.tree.know_levels();
+        let last = match end {
+            Some(end) => self.pages.range(..end).next_back()?,
+            None => self.pages.last_key_value()?,
+        };
+        let page = *last.1;
+        let leaf = self.leaves.get(&page)?;
+        if !is_below(leaf.low, end) || !reaches(leaf.end, end) {
+            return None;
+        }
+        Some(page)
+    }
+
+    // Keeps a leaf for the next scan.
+    fn keep(&mut self, page: PageId, leaf: ReadLeaf<'a>) -> Result<(), Memory>
+        requires { IsKept self.old.tree page leaf }
         ensures { self.new.tree ≡ self.old.tree }
     {
         if self.keeps {
-            self.replays.insert(page, replay)?;
+            self.leaves.insert(page, leaf)?;
         }
         Ok(())
     }
 
-    // The pairs of a leaf as of a stamp, which are no longer kept.
-    fn take_replay(&mut self, page: PageId, stamp: u64) -> Result<Replay<'a>, Memory>
+    // A leaf with its pairs as of a stamp, which is no longer kept.
+    fn take_leaf(&mut self, page: PageId, stamp: u64) -> Result<ReadLeaf<'a>, Memory>
         requires { Contains (row self.old.tree.levels 0) page }
         ensures tree { self.new.tree ≡ self.old.tree }
-        ensures stamp { IfOk result (λ replay. replay.stamp ≡ stamp) }
-        ensures replay { IfOk result (IsLeafReplay (slot_at self.old.tree.slots page)) }
+        ensures stamp { IfOk result (λ leaf. leaf.replay.stamp ≡ stamp) }
+        ensures leaf { IfOk result (IsReadLeaf (slot_at self.old.tree.slots page)) }
     {
-        let mut replay = match self.take_kept(page, stamp) {
-            Some(replay) => replay,
-            None => self.tree.replay(self.alloc, page)?,
+        let mut leaf = match self.take_kept(page, stamp) {
+            Some(leaf) => leaf,
+            None => self.new_leaf(page)?,
         };
-        replay.advance(stamp)?;
-        Ok(replay)
+        leaf.replay.advance(stamp)?;
+        Ok(leaf)
     }
 
-    // The same as of an earlier stamp, or of this one, if they were kept so.
-    fn take_kept(&mut self, page: PageId, stamp: u64) -> Option<Replay<'a>>
+    // The same as of an earlier stamp, or of this one, if it was kept so.
+    fn take_kept(&mut self, page: PageId, stamp: u64) -> Option<ReadLeaf<'a>>
         ensures tree { self.new.tree ≡ self.old.tree }
-        ensures stamp { IfSome result (λ replay. replay.stamp ≤ stamp) }
-        ensures replay { IfSome result (IsLeafReplay (slot_at self.old.tree.slots page)) }
+        ensures stamp { IfSome result (λ leaf. leaf.replay.stamp ≤ stamp) }
+        ensures leaf { IfSome result (IsReadLeaf (slot_at self.old.tree.slots page)) }
     {
-        let replay = self.replays.remove(&page)?;
-        if replay.stamp() > stamp {
+        let leaf = self.leaves.remove(&page)?;
+        if leaf.replay.stamp() > stamp {
             return None;
         }
-        Some(replay)
+        Some(leaf)
     }
+
+    // The same as of stamp 0, from the tree.
+    fn new_leaf(&mut self, page: PageId) -> Result<ReadLeaf<'a>, Memory>
+        requires { Contains (row self.old.tree.levels 0) page }
+        ensures tree { self.new.tree ≡ self.old.tree }
+        ensures stamp { IfOk result (λ leaf. leaf.replay.stamp ≡ 0) }
+        ensures leaf { IfOk result (IsReadLeaf (slot_at self.old.tree.slots page)) }
+    {
+        let leaf = self.tree.read_leaf(self.alloc, page)?;
+        if self.keeps {
+            self.pages.insert(leaf.low.copy()?, page)?;
+        }
+        Ok(leaf)
+    }
+}
+
+// Whether no pair is asked for: none at all, or those of a range that doesn't begin below its end.
+fn asks_for_none(from: &Key, to: Option<&Key>, most: u64) -> bool
+    ensures none { result ≡ true → (all : Contents ValueBytes) →
+        (first_of_range all from.now (option_copied to.entry) most ≡ []) × (last_of_range all from.now (option_copied to.entry) most ≡ []) }
+    ensures begins { result ≡ false → T (is_below_end (option_copied to.entry) from.now) }
+{
+    most == 0 || !is_below(from, to)
 }
 
 // Whether a key is below the end of a range.

@@ -10,10 +10,10 @@ ghost use Rattle.bw_model.specs.Contents.{first_of_range, is_below_end, last_of_
 
 use crate::chains::{Chains, FLOOR, Turn, reaches};
 use crate::making::{base_pages, separators, words};
-use crate::scans::Scans;
+use crate::scans::{ReadLeaf, Scans};
 use crate::staging::{Stage, Staged};
 use bw_board::Closed;
-use bw_delta::{Arena, Replay, Write, value_as_of};
+use bw_delta::{Arena, Write, value_as_of};
 use bw_key::{Key, Memory};
 use bw_memory::Alloc;
 use bw_model::{Op, Pairs, Value};
@@ -56,7 +56,7 @@ impl Tree {
     ghost use Rattle.bw_tree.specs.Turns.{IsTurn, StartsUpto, bare};
     ghost use Rattle.bw_tree.specs.Trees.{IsTree};
     ghost use Rattle.bw_tree.specs.View.{contents_at, contents_with, row_writes, staged_writes};
-    ghost use Rattle.bw_tree.specs.Replaying.{IsLeafReplay};
+    ghost use Rattle.bw_tree.specs.Replaying.{IsReadLeaf};
     ghost use Rattle.bw_tree.specs.Scans.{Reaches, high_of};
     ghost use Rattle.bw_tree.specs.Before.{IsBefore, IsLinked, StandsForAt, StartsBelow, low_of};
     ghost use Rattle.bw_tree.specs.Stages.{IsPostedStage, IsStagedAs, accepted, adopted, is_adopted, staged_on, undone, writes_with};
@@ -381,13 +381,21 @@ impl Tree {
         Scans::once(*self.heads.allocator(), self).scan_back(from, to, most, stamp)
     }
 
-    /// The pairs of a leaf as of stamp 0, which go on to later stamps.
-    pub(crate) fn replay(&self, alloc: Alloc, page: PageId) -> Result<Replay<'_>, Memory>
+    /// What a scan reads of a leaf: its bounds, its right neighbour, and its pairs as of stamp 0, which go on to later
+    /// stamps.
+    pub(crate) fn read_leaf(&self, alloc: Alloc, page: PageId) -> Result<ReadLeaf<'_>, Memory>
         requires { Contains (row self.now.levels 0) page }
-        ensures stamp { IfOk result (λ replay. replay.stamp ≡ 0) }
-        ensures replay { IfOk result (IsLeafReplay (slot_at self.now.slots page)) }
+        ensures stamp { IfOk result (λ leaf. leaf.replay.stamp ≡ 0) }
+        ensures leaf { IfOk result (IsReadLeaf (slot_at self.now.slots page)) }
     {
-        self.chains.replay(alloc, self.heads[page.0 as usize])
+        let head = self.heads[page.0 as usize];
+        let (end, side) = self.chains.end(head);
+        Ok(ReadLeaf {
+            low: self.chains.low(head),
+            end,
+            side,
+            replay: self.chains.replay(alloc, head)?,
+        })
     }
 
     /// What a scan knows of the levels: they are lawful, and no two writes over the leaves have one stamp. It does nothing.
@@ -409,14 +417,6 @@ impl Tree {
             return None;
         }
         side
-    }
-
-    /// Where a leaf's range begins.
-    pub(crate) fn low(&self, page: PageId) -> &Key
-        requires { Contains (row self.now.levels 0) page }
-        ensures { result.now ≡ low_of (slot_at self.now.slots page) }
-    {
-        self.chains.low(self.heads[page.0 as usize])
     }
 
     /// The leaf whose range has the keys right below an end: the search is that of `route`, by the greatest separator

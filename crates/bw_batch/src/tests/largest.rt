@@ -1,4 +1,4 @@
-// The largest batches: all writes on one key, and each on a key of its own.
+// The largest batches: all writes on one key, each on a key of its own, and many scans beside many writes of one leaf.
 use super::making::Maker;
 use crate::{Index, Key, Op, OpenGate, Reply, Value};
 use bw_memory::Alloc;
@@ -57,4 +57,41 @@ fn each_of_65536_keys_is_written(rt: HostRuntime) {
             .all(|reply| *reply == Reply::New)
     );
     assert_eq!(rt; held(&rt, &index), (65_536, Some([0, 0, 0xff, 0xff])));
+}
+
+// So many upserts, each of a key of its own with its place as its value, and behind each a scan of its key.
+fn upserts_and_scans<R: Abort>(rt: &R, make: &Maker<R>, count: u32) -> Vec<Op, Alloc> {
+    let mut ops = Vec::new(make.alloc);
+    for op in upserts(rt, make, count, false) {
+        let scan = match &op {
+            Op::Upsert(key, _) => Op::Scan {
+                from: key.copy().expect(rt, "memory"),
+                to: None,
+                most: 1,
+            },
+            _ => panic!(rt; "an upsert"),
+        };
+        ops.push(op).expect(rt, "memory");
+        ops.push(scan).expect(rt, "memory");
+    }
+    ops
+}
+
+#[test]
+fn many_scans_stand_beside_many_writes_of_one_leaf(rt: HostRuntime) {
+    let make = Maker::new(&rt, rt.alloc());
+    let mut index = make.index(65_536);
+    let ops = upserts_and_scans(&rt, &make, 32_768);
+    let done = index.run(&rt, &ops, &OpenGate).expect(&rt, "memory");
+    for (op, reply) in ops.as_slice().iter().zip(done.replies.as_slice()) {
+        match (op, reply) {
+            (Op::Upsert(_, _), reply) => assert!(rt; *reply == Reply::New),
+            (Op::Scan { from, .. }, Reply::Pairs(pairs)) => {
+                assert_eq!(rt; pairs.as_slice().len(), 1);
+                assert!(rt; pairs.as_slice().first().is_some_and(|pair| pair.0 == *from));
+            }
+            _ => panic!(rt; "another reply"),
+        }
+    }
+    assert_eq!(rt; held(&rt, &index), (32_768, Some([0, 0, 0x7f, 0xff])));
 }

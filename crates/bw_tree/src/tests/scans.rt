@@ -103,6 +103,69 @@ fn scans_follow_one_another_at_any_stamps(rt: HostRuntime) {
     }
 }
 
+#[test]
+fn leaves_that_were_read_are_found_again(rt: HostRuntime) {
+    let alloc = heap(&rt, rt.alloc());
+    let tree = three_leaves(&rt, alloc);
+    let mut scans = Scans::new(alloc, &tree);
+    let [least, b, c, d, e] = [
+        key(&rt, alloc, b""),
+        key(&rt, alloc, b"b"),
+        key(&rt, alloc, b"c"),
+        key(&rt, alloc, b"d"),
+        key(&rt, alloc, b"e"),
+    ];
+    has_pairs(&rt, scans.scan(&c, None, 1, 0), &[(b"c", b"3")]);
+    has_pairs(&rt, scans.scan(&d, None, 9, 0), &[(b"e", b"5")]);
+    has_pairs(
+        &rt,
+        scans.scan(&b, Some(&e), 9, 0),
+        &[(b"b", b"2"), (b"c", b"3")],
+    );
+    has_pairs(
+        &rt,
+        scans.scan_back(&least, Some(&e), 1, 0),
+        &[(b"c", b"3")],
+    );
+    has_pairs(
+        &rt,
+        scans.scan_back(&least, Some(&d), 2, 0),
+        &[(b"c", b"3"), (b"b", b"2")],
+    );
+    has_pairs(
+        &rt,
+        scans.scan_back(&least, Some(&c), 1, 0),
+        &[(b"b", b"2")],
+    );
+    has_pairs(&rt, scans.scan_back(&d, None, 9, 0), &[(b"e", b"5")]);
+}
+
+// How many growths a scan of all pairs takes.
+fn growths<R: Abort>(rt: &R, alloc: Alloc, scans: &mut Scans) -> u64 {
+    let from = key(rt, alloc, b"");
+    alloc.refuse(1000);
+    let pairs = scans.scan(&from, None, 9, 0);
+    let left = alloc.left();
+    alloc.refuse(0);
+    has_pairs(
+        rt,
+        pairs,
+        &[(b"a", b"1"), (b"b", b"2"), (b"c", b"3"), (b"e", b"5")],
+    );
+    1000u64.saturating_sub(left)
+}
+
+#[test]
+fn a_leaf_is_put_in_a_map_once(rt: HostRuntime) {
+    let alloc = heap(&rt, rt.alloc());
+    let tree = three_leaves(&rt, alloc);
+    let mut scans = Scans::new(alloc, &tree);
+    let first = growths(&rt, alloc, &mut scans);
+    let second = growths(&rt, alloc, &mut scans);
+    assert!(rt; first > 3);
+    assert_eq!(rt; second, 1);
+}
+
 // Whether the growth of this number was refused. From now on none is.
 fn was_refused(alloc: Alloc, growth: u64) -> bool {
     let left = alloc.left();

@@ -1,4 +1,4 @@
-use Rattle.std.proofs.Common.{◌≡◌, ℕ, ◌-◌, ◌++◌, List, length, reverse, take, ap, sym, subst, ◌∙◌, arith}
+use Rattle.std.proofs.Common.{ℕ, ◌-◌, ◌++◌, List, length, reverse, take, ap, sym, subst, ◌∙◌, arith}
 use Rattle.std.specs.Prelude.{filter, ◌&&◌}
 use Rattle.std.specs.List.{Contains}
 use Rattle.std.specs.Option.{option_copied}
@@ -9,7 +9,7 @@ use Rattle.bw_model.specs.Lists.{Pair}
 use Rattle.bw_tree.specs.Levels.{row}
 use Rattle.bw_tree.specs.Slots.{slot_at}
 use Rattle.bw_tree.specs.Replaying.{IsLeafReplay, ScansView}
-use Rattle.bw_tree.specs.Scans.{is_on}
+use Rattle.bw_tree.specs.Scans.{high_of, is_on}
 use Rattle.bw_tree.specs.View.{TreeView, contents_at}
 use Rattle.bw_tree.proofs.ReplayLemmas.{pairs_on_leaf}
 use Rattle.bw_tree.proofs.scans.Scans.read_leaf_back.Goals as goal
@@ -21,15 +21,15 @@ returns-clause-read c =
     let read = c.args.read.now.items in
     let from = c.args.from.now in
     let to = option_copied c.args.to in
-    let replay = c.in_ok-replay.replay in
+    let replay = c.in_ok-leaf.leaf.replay in
     let page = c.args.page in
     let left = c.args.most - length read in
     let on_leaf : TreeView → ℕ → List Pair = λ t stamp. where_key key_cmp (is_on (slot_at t.slots page)) (pairs_of_range (contents_at t stamp) from to) in
     let leaf_pairs =
     pairs_on_leaf tree c.know_levels.ensures.lawful c.know_levels.ensures.distinct page replay from to (option_copied c.lower_end-end.result)
     (subst (λ (t : TreeView). Contains (row t.levels 0) page) (sym now) c.requires)
-    (λ key. c.lower_end-end.ensures key ∙ ap (λ o. is_below_end o key && is_below_end to key) c.end.ensures)
-    c.add_last.ensures.sorted (subst (λ (t : TreeView). IsLeafReplay (slot_at t.slots page) replay) (sym now) c.in_ok-replay.ensures.replay) in
+    (λ key. c.lower_end-end.ensures key ∙ ap (λ o. is_below_end o key && is_below_end to key) c.in_ok-leaf.ensures.leaf.end ∙ ap (λ (t : TreeView). is_below_end (high_of (slot_at t.slots page)) key && is_below_end to key) (sym now))
+    c.add_last.ensures.sorted (subst (λ (t : TreeView). IsLeafReplay (slot_at t.slots page) replay) (sym now) c.in_ok-leaf.ensures.leaf.replay) in
     c.in_ok-add_last.ensures.added
     ∙ ap (λ n. read ++ take n (reverse (filter (is_pair_in_range from (option_copied c.lower_end-end.result)) replay.pairs))) (omega (arith, c.saturating_sub-left.ensures, c.len.ensures, c.args.read.now.ok))
-    ∙ ap (λ (l : List Pair). read ++ take left (reverse l)) (leaf_pairs ∙ ap (on_leaf tree) c.in_ok-replay.ensures.stamp ∙ ap (λ (t : TreeView). on_leaf t c.args.stamp) now)
+    ∙ ap (λ (l : List Pair). read ++ take left (reverse l)) (leaf_pairs ∙ ap (on_leaf tree) c.in_ok-leaf.ensures.stamp ∙ ap (λ (t : TreeView). on_leaf t c.args.stamp) now)

@@ -1,23 +1,22 @@
-use Rattle.std.proofs.Common.{◌≡◌, ◌-◌, ◌++◌, List, length, reverse, take, refl, sym, ap, subst, T, ◌∙◌, arith}
+use Rattle.std.proofs.Common.{◌-◌, ◌++◌, length, reverse, take, refl, sym, ap, subst, ◌∙◌, arith}
 use Rattle.std.specs.Option.{option_copied}
 use Rattle.bw_tree.specs.Before.{IsBefore, low_of}
-use Rattle.bw_tree.specs.Replaying.{ScansView}
 use Rattle.bw_tree.specs.Slots.{slot_at}
 use Rattle.bw_tree.specs.View.{TreeView, contents_at}
 use Rattle.bw_tree.proofs.EndLemmas.{not_below, no_le}
-use Rattle.bw_tree.proofs.BackLemmas.{least_below, no_range}
+use Rattle.bw_tree.proofs.BackLemmas.{least_below}
 use Rattle.bw_tree.proofs.ReplayLemmas.{begins_at_end, is_back, ends_at_leaf, enough_at_leaf, goes_before, leaf_of}
 use Rattle.bw_tree.proofs.scans.Scans.scan_back.Goals as goal
 
-pub returns-then-not-is_below-clause-pairs : goal.returns-then-not-is_below-clause-pairs
-returns-then-not-is_below-clause-pairs c =
+pub returns-then-asks_for_none-clause-pairs : goal.returns-then-asks_for_none-clause-pairs
+returns-then-asks_for_none-clause-pairs c =
     c.from_vec.ensures ∙ c.new-read.ensures.items
-    ∙ no_range (contents_at c.args.self.now.tree c.args.stamp) c.args.from.now (option_copied c.args.to) c.args.most c.if-not-is_below.ensures
+    ∙ sym (c.if-asks_for_none.ensures.none refl (contents_at c.args.self.now.tree c.args.stamp)).1
 
 pub loop-read-init : goal.loop-read-init
 loop-read-init c = record {
   same = refl;
-  has_read = begins_at_end c.args.self.now.tree c.args.stamp c.args.most c.args.from.now (option_copied c.args.to) c.new-read.result.items c.new-read.ensures.items (subst T c.if-not-is_below.ensures tt);
+  has_read = begins_at_end c.args.self.now.tree c.args.stamp c.args.most c.args.from.now (option_copied c.args.to) c.new-read.result.items c.new-read.ensures.items (c.if-asks_for_none.ensures.begins refl);
 }
 
 pub route_before-page-requires : goal.route_before-page-requires
@@ -28,29 +27,29 @@ returns-then-le-clause-pairs c =
     let read = c.loop-read.read.items in
     let page = c.route_before-page.result in
     let back =
-    is_back c.args.self.now.tree c.args.stamp c.args.most c.args.from.now (option_copied c.args.to) c.low-low.result.now (option_copied c.loop-read.end) page read c.read_leaf_back.new.read.items
-    (subst (λ (v : ScansView). IsBefore v.tree.slots v.tree.levels (option_copied c.loop-read.end) page) c.self.view_is c.route_before-page.ensures)
+    is_back c.args.self.now.tree c.args.stamp c.args.most c.args.from.now (option_copied c.args.to) c.in_ok-low.low.now (option_copied c.loop-read.end) page read c.read_leaf_back.new.read.items
+    (subst (λ (t : TreeView). IsBefore t.slots t.levels (option_copied c.loop-read.end) page) c.loop-read.invariant.same c.route_before-page.ensures)
     c.loop-read.invariant.has_read
-    (c.in_ok-read_leaf_back.ensures.read
+    (c.in_ok-low.ensures.read
     ∙ ap (λ (t : TreeView). read ++ take (c.args.most - length read) (reverse (leaf_of t c.args.stamp c.args.from.now (option_copied c.loop-read.end) page))) c.loop-read.invariant.same)
-    (c.low-low.ensures ∙ ap (λ (v : ScansView). low_of (slot_at v.tree.slots page)) c.self.view_is) in
+    (c.in_ok-low.ensures.low ∙ ap (λ (t : TreeView). low_of (slot_at t.slots page)) c.loop-read.invariant.same) in
     c.from_vec-then-le.ensures
-    ∙ ends_at_leaf c.args.self.now.tree c.args.stamp c.args.most c.args.from.now (option_copied c.args.to) c.low-low.result.now (option_copied c.loop-read.end) c.read_leaf_back.new.read.items back
-    (not_below c.args.from.now c.low-low.result.now (sym c.le.ensures ∙ c.if-le.true))
+    ∙ ends_at_leaf c.args.self.now.tree c.args.stamp c.args.most c.args.from.now (option_copied c.args.to) c.in_ok-low.low.now (option_copied c.loop-read.end) c.read_leaf_back.new.read.items back
+    (not_below c.args.from.now c.in_ok-low.low.now (sym c.le.ensures ∙ c.if-le.true))
 
 pub returns-then-len-most-clause-pairs : goal.returns-then-len-most-clause-pairs
 returns-then-len-most-clause-pairs c =
     let read = c.loop-read.read.items in
     let page = c.route_before-page.result in
     let back =
-    is_back c.args.self.now.tree c.args.stamp c.args.most c.args.from.now (option_copied c.args.to) c.low-low.result.now (option_copied c.loop-read.end) page read c.read_leaf_back.new.read.items
-    (subst (λ (v : ScansView). IsBefore v.tree.slots v.tree.levels (option_copied c.loop-read.end) page) c.self.view_is c.route_before-page.ensures)
+    is_back c.args.self.now.tree c.args.stamp c.args.most c.args.from.now (option_copied c.args.to) c.in_ok-low.low.now (option_copied c.loop-read.end) page read c.read_leaf_back.new.read.items
+    (subst (λ (t : TreeView). IsBefore t.slots t.levels (option_copied c.loop-read.end) page) c.loop-read.invariant.same c.route_before-page.ensures)
     c.loop-read.invariant.has_read
-    (c.in_ok-read_leaf_back.ensures.read
+    (c.in_ok-low.ensures.read
     ∙ ap (λ (t : TreeView). read ++ take (c.args.most - length read) (reverse (leaf_of t c.args.stamp c.args.from.now (option_copied c.loop-read.end) page))) c.loop-read.invariant.same)
-    (c.low-low.ensures ∙ ap (λ (v : ScansView). low_of (slot_at v.tree.slots page)) c.self.view_is) in
+    (c.in_ok-low.ensures.low ∙ ap (λ (t : TreeView). low_of (slot_at t.slots page)) c.loop-read.invariant.same) in
     c.from_vec-then-len-most.ensures
-    ∙ enough_at_leaf c.args.self.now.tree c.args.stamp c.args.most c.args.from.now (option_copied c.args.to) c.low-low.result.now (option_copied c.loop-read.end) c.read_leaf_back.new.read.items back
+    ∙ enough_at_leaf c.args.self.now.tree c.args.stamp c.args.most c.args.from.now (option_copied c.args.to) c.in_ok-low.low.now (option_copied c.loop-read.end) c.read_leaf_back.new.read.items back
     (omega (arith, c.if-len-most.true, c.len.ensures, c.read_leaf_back.new.read.ok))
 
 pub loop-read-smaller : goal.loop-read-smaller
@@ -58,12 +57,12 @@ loop-read-smaller c =
     let read = c.loop-read.read.items in
     let page = c.route_before-page.result in
     let back =
-    is_back c.args.self.now.tree c.args.stamp c.args.most c.args.from.now (option_copied c.args.to) c.low-low.result.now (option_copied c.loop-read.end) page read c.read_leaf_back.new.read.items
-    (subst (λ (v : ScansView). IsBefore v.tree.slots v.tree.levels (option_copied c.loop-read.end) page) c.self.view_is c.route_before-page.ensures)
+    is_back c.args.self.now.tree c.args.stamp c.args.most c.args.from.now (option_copied c.args.to) c.in_ok-low.low.now (option_copied c.loop-read.end) page read c.read_leaf_back.new.read.items
+    (subst (λ (t : TreeView). IsBefore t.slots t.levels (option_copied c.loop-read.end) page) c.loop-read.invariant.same c.route_before-page.ensures)
     c.loop-read.invariant.has_read
-    (c.in_ok-read_leaf_back.ensures.read
+    (c.in_ok-low.ensures.read
     ∙ ap (λ (t : TreeView). read ++ take (c.args.most - length read) (reverse (leaf_of t c.args.stamp c.args.from.now (option_copied c.loop-read.end) page))) c.loop-read.invariant.same)
-    (c.low-low.ensures ∙ ap (λ (v : ScansView). low_of (slot_at v.tree.slots page)) c.self.view_is) in
+    (c.in_ok-low.ensures.low ∙ ap (λ (t : TreeView). low_of (slot_at t.slots page)) c.loop-read.invariant.same) in
     back.passed.less
 
 pub loop-read-preserved : goal.loop-read-preserved
@@ -71,13 +70,13 @@ loop-read-preserved c =
     let read = c.loop-read.read.items in
     let page = c.route_before-page.result in
     let back =
-    is_back c.args.self.now.tree c.args.stamp c.args.most c.args.from.now (option_copied c.args.to) c.low-low.result.now (option_copied c.loop-read.end) page read c.read_leaf_back.new.read.items
-    (subst (λ (v : ScansView). IsBefore v.tree.slots v.tree.levels (option_copied c.loop-read.end) page) c.self.view_is c.route_before-page.ensures)
+    is_back c.args.self.now.tree c.args.stamp c.args.most c.args.from.now (option_copied c.args.to) c.in_ok-low.low.now (option_copied c.loop-read.end) page read c.read_leaf_back.new.read.items
+    (subst (λ (t : TreeView). IsBefore t.slots t.levels (option_copied c.loop-read.end) page) c.loop-read.invariant.same c.route_before-page.ensures)
     c.loop-read.invariant.has_read
-    (c.in_ok-read_leaf_back.ensures.read
+    (c.in_ok-low.ensures.read
     ∙ ap (λ (t : TreeView). read ++ take (c.args.most - length read) (reverse (leaf_of t c.args.stamp c.args.from.now (option_copied c.loop-read.end) page))) c.loop-read.invariant.same)
-    (c.low-low.ensures ∙ ap (λ (v : ScansView). low_of (slot_at v.tree.slots page)) c.self.view_is) in
+    (c.in_ok-low.ensures.low ∙ ap (λ (t : TreeView). low_of (slot_at t.slots page)) c.loop-read.invariant.same) in
     record {
-      same = c.in_ok-read_leaf_back.ensures.tree ∙ c.loop-read.invariant.same;
-      has_read = goes_before c.args.self.now.tree c.args.stamp c.args.most c.args.from.now (option_copied c.args.to) c.low-low.result.now (option_copied c.loop-read.end) read c.read_leaf_back.new.read.items c.loop-read.invariant.has_read back (no_le c.args.from.now c.low-low.result.now (sym c.le.ensures ∙ c.if-le.false));
+      same = c.in_ok-low.ensures.tree ∙ c.loop-read.invariant.same;
+      has_read = goes_before c.args.self.now.tree c.args.stamp c.args.most c.args.from.now (option_copied c.args.to) c.in_ok-low.low.now (option_copied c.loop-read.end) read c.read_leaf_back.new.read.items c.loop-read.invariant.has_read back (no_le c.args.from.now c.in_ok-low.low.now (sym c.le.ensures ∙ c.if-le.false));
     }
