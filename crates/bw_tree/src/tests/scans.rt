@@ -108,13 +108,11 @@ fn leaves_that_were_read_are_found_again(rt: HostRuntime) {
     let alloc = heap(&rt, rt.alloc());
     let tree = three_leaves(&rt, alloc);
     let mut scans = Scans::new(alloc, &tree);
-    let [least, b, c, d, e] = [
-        key(&rt, alloc, b""),
-        key(&rt, alloc, b"b"),
-        key(&rt, alloc, b"c"),
-        key(&rt, alloc, b"d"),
-        key(&rt, alloc, b"e"),
-    ];
+    let least = key(&rt, alloc, b"");
+    let b = key(&rt, alloc, b"b");
+    let c = key(&rt, alloc, b"c");
+    let d = key(&rt, alloc, b"d");
+    let e = key(&rt, alloc, b"e");
     has_pairs(&rt, scans.scan(&c, None, 1, 0), &[(b"c", b"3")]);
     has_pairs(&rt, scans.scan(&d, None, 9, 0), &[(b"e", b"5")]);
     has_pairs(
