@@ -18,14 +18,14 @@ use std::thread::Threads;
 /// that the first i operations leave.
 ///
 /// A reply depends on the tree as of its operation's stamp alone. So the operations on one key each, grouped by key, are
-/// cut into at most `workers` parts of the same length, and so are the scans; the parts are answered side by side. A
+/// cut into parts of the same length, a few for each worker, and so are the scans; the parts are answered side by side. A
 /// small batch is one part, and starts no thread.
 ///
 /// In a part each leaf that has a key of it is searched for once. The writes over it are sorted by key, and each key's
 /// are then passed once, beside the operations on the key. So the cost doesn't depend on how many of them are on one
-/// key. The scans of a part are read one after another, each leaf in an ordered map that is made once (`Scans`); a scan
-/// also walks the chain of each leaf that it reads. A leaf that lies in several parts has its writes sorted, or its map
-/// made, in each. `Memory` is answered where a list, a map or a reply finds none, in any part.
+/// key. The scans of a part are read one after another, each leaf in an ordered map that is made once (`Scans`). A leaf
+/// that lies in several parts has its writes sorted, or its map made, in each. `Memory` is answered where a list, a map or
+/// a reply finds none, in any part.
 pub fn replies<R: Threads + Sync>(
     rt: &R,
     alloc: Alloc,
@@ -38,7 +38,8 @@ pub fn replies<R: Threads + Sync>(
     requires fits { base + length batch.now.ops ≤ 2 ^ 40 }
     ensures { IfOk result (λ replies. replies ≡ replies_of batch.now.ops (contents_at tree.now base)) }
 {
-    let count = count_parts(batch.points.len(), batch.scans.len(), workers);
+    let pages = tree.heads().len();
+    let count = count_parts(batch.points.len(), batch.scans.len(), pages, workers);
     replies_in_parts(rt, alloc, tree, base, batch, count)
 }
 

@@ -23,13 +23,16 @@ use bw_page::PageId;
 use std::collections::BTreeMap;
 use std::marker::Model;
 
+#[cfg(test)]
+mod kept;
+
 /// Scans of a tree, one after another, each as of a stamp of its own.
 ///
 /// The first scan that reads a leaf puts its pairs in an ordered map, which is kept, and each later one goes on from the
 /// stamp of the one before it. So with stamps that rise, each write of a leaf has its effect once for all scans, and its
-/// chain is walked a fixed number of times, however many scans read it. A scan of leaves that are kept costs a search
-/// among them, one in the map of each leaf that it reads, and a copy of what it answers. At a stamp that falls the leaf is
-/// put in a map again. All leaves that were read stay in memory.
+/// chain is walked a fixed number of times, however many scans read it. A scan of leaves that are kept costs a few searches
+/// for each of them, among those that are kept and in its map, and a copy of what it answers. At a stamp that falls the
+/// leaf is put in a map again. All leaves that were read stay in memory.
 #[derive(Drop)]
 pub struct Scans<'a> {
     tree: &'a Tree,

@@ -2,7 +2,7 @@
 // refused in turn.
 mod chains;
 mod folding;
-mod making;
+pub(crate) mod making;
 mod pages;
 mod refused;
 mod scans;

@@ -42,3 +42,28 @@ fn chains_are_folded_by_what_batches_walk(rt: HostRuntime) {
     assert_eq!(rt; index.tree.heads(), [0].as_slice());
     assert_eq!(rt; index.folded, 1);
 }
+
+// A batch that is too long, and one without memory, leave the tree below as it was.
+#[test]
+fn a_refused_batch_leaves_the_tree(rt: HostRuntime) {
+    let make = Maker::new(&rt, rt.alloc());
+    let mut index = make.index(2);
+    index
+        .run(&rt, &writes(&rt, &make, 2), &OpenGate)
+        .expect(&rt, "memory");
+    let word = (1u64 << 32) + 1;
+    let refused = index.run(&rt, &writes(&rt, &make, 3), &OpenGate);
+    assert!(rt; refused.is_err());
+    assert_eq!(rt; index.tree.heads(), [word].as_slice());
+    assert_eq!(rt; index.tree.records(), 2);
+    let ops = writes(&rt, &make, 2);
+    for growth in 1..6 {
+        make.alloc.refuse(growth);
+        let refused = index.run(&rt, &ops, &OpenGate);
+        make.alloc.refuse(0);
+        assert!(rt; refused.is_err());
+        assert_eq!(rt; index.tree.heads(), [word].as_slice());
+        assert_eq!(rt; index.tree.records(), 2);
+        assert_eq!(rt; index.tree.next_stamp(), 2);
+    }
+}

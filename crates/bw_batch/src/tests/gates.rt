@@ -3,16 +3,18 @@ use super::making::{Maker, same};
 use crate::{Gate, Index, Options, Reply};
 use std::sync::atomic::{AtomicU64, Ordering};
 
-// One write waits until the other one was posted.
+// One write waits until the other one was posted, and counts the calls of both kinds.
 #[derive(Drop)]
 struct Turn {
     late: u64,
     posted: AtomicU64,
+    calls: AtomicU64,
     gave_up: AtomicU64,
 }
 
 impl Gate for Turn {
     fn before(&self, r: u64) {
+        self.calls.fetch_add(1, Ordering::SeqCst);
         if r != self.late {
             return;
         }
@@ -25,6 +27,7 @@ impl Gate for Turn {
     }
 
     fn after(&self, r: u64) {
+        self.calls.fetch_add(1, Ordering::SeqCst);
         if r != self.late {
             self.posted.store(1, Ordering::SeqCst);
         }
@@ -40,11 +43,13 @@ fn replies_dont_depend_on_who_posts_first(rt: HostRuntime) {
         let turn = Turn {
             late,
             posted: AtomicU64::new(0),
+            calls: AtomicU64::new(0),
             gave_up: AtomicU64::new(0),
         };
         let mut index = Index::new(make.alloc, options).expect(&rt, "an index");
         let done = index.run(&rt, &ops, &turn).expect(&rt, "memory");
         assert_eq!(rt; turn.gave_up.load(Ordering::SeqCst), 0);
+        assert_eq!(rt; turn.calls.load(Ordering::SeqCst), 4);
         same(&rt, done.replies.as_slice(), &[Reply::New, make.was("1")]);
     }
 }

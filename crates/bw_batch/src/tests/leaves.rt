@@ -63,7 +63,7 @@ fn draw<R: Abort>(rt: &R, make: &Maker<R>, random: &mut Random) -> Op {
     let key = draw_key(rt, make, random);
     let value = make.value(VALUES[random.below(3)]);
     let most = random.below(40) as u64;
-    match random.below(9) {
+    match random.below(10) {
         0 => Op::Get(key),
         1 => Op::Insert(key, value),
         2 => Op::Upsert(key, value),
@@ -78,6 +78,11 @@ fn draw<R: Abort>(rt: &R, make: &Maker<R>, random: &mut Random) -> Op {
         7 => Op::Scan {
             from: key,
             to: Some(draw_key(rt, make, random)),
+            most,
+        },
+        8 => Op::Rscan {
+            from: key,
+            to: None,
             most,
         },
         _ => Op::Rscan {

@@ -105,8 +105,9 @@ fn compare<R: Abort + Threads + Sync>(
 #[test]
 fn batches_are_answered_as_by_the_plain_program(rt: HostRuntime) {
     let make = Maker::new(&rt, rt.alloc());
-    compare(&rt, &make, 20180610, 1, 64);
-    compare(&rt, &make, 7, 2, 4096);
-    compare(&rt, &make, 2013, 16, 1);
-    compare(&rt, &make, 65536, 64, 1);
+    for workers in [1u64, 2, 16, 64] {
+        compare(&rt, &make, 2013 + workers, workers, 1);
+        compare(&rt, &make, 20180610 + workers, workers, 64);
+        compare(&rt, &make, 65536 + workers, workers, 4096);
+    }
 }

@@ -31,6 +31,8 @@ fn batch<R: Abort>(rt: &R, make: &Maker<R>) -> Vec<Op, Alloc> {
     ops.push(make.upsert("c", LONG)).expect(rt, "memory");
     ops.push(make.get(LONG)).expect(rt, "memory");
     ops.push(make.delete("a")).expect(rt, "memory");
+    ops.push(make.delete("b")).expect(rt, "memory");
+    ops.push(make.update("d", LONG)).expect(rt, "memory");
     ops.push(make.scan("", None, 9)).expect(rt, "memory");
     ops
 }
@@ -91,6 +93,8 @@ fn refuse_in_turn<R: Abort + Threads + Sync>(rt: &R, make: &Maker<R>, workers: u
         Reply::New,
         make.found(LONG),
         make.was("1"),
+        Reply::Absent,
+        Reply::Absent,
         make.scanned(&[(LONG, LONG), ("c", LONG)]),
     ];
     let ops = batch(rt, make);

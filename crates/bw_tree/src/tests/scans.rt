@@ -1,5 +1,6 @@
 // Scans over three leaves.
 use super::making::{heap, key, three_leaves};
+use super::refused::was_refused;
 use crate::{Memory, Scans};
 use bw_memory::Alloc;
 use bw_model::Pairs;
@@ -162,13 +163,6 @@ fn a_leaf_is_put_in_a_map_once(rt: HostRuntime) {
     let second = growths(&rt, alloc, &mut scans);
     assert!(rt; first > 3);
     assert_eq!(rt; second, 1);
-}
-
-// Whether the growth of this number was refused. From now on none is.
-fn was_refused(alloc: Alloc, growth: u64) -> bool {
-    let left = alloc.left();
-    alloc.refuse(0);
-    left == 0 || left > growth
 }
 
 #[test]

@@ -32,7 +32,7 @@ returns-clause-ok g c =
     let said = c.run-outcome.ensures in (
       outcome_of c.run-outcome.result,
       answered (settings_of before).batch_max c.args.ops.now (contents_of before) c.run-outcome.result said.replies said.too_long said.memory,
-      left_done c.args.ops.now (contents_of before) (contents_of c.run-outcome.new.self) c.run-outcome.result said.contents said.refused,
+      left_done c.args.ops.now before c.run-outcome.new.self c.run-outcome.result said.contents said.refused,
       c.in_ok-print_outcome.ensures.ok,
       c.err.ensures.value ∙ refusal_of c.run-outcome.result,
     )
