@@ -106,8 +106,8 @@ fn compare<R: Abort + Threads + Sync>(
 fn batches_are_answered_as_by_the_plain_program(rt: HostRuntime) {
     let make = Maker::new(&rt, rt.alloc());
     for workers in [1u64, 2, 16, 64] {
-        compare(&rt, &make, 2013 + workers, workers, 1);
-        compare(&rt, &make, 20180610 + workers, workers, 64);
-        compare(&rt, &make, 65536 + workers, workers, 4096);
+        compare(&rt, &make, 2013, workers, 1);
+        compare(&rt, &make, 20180610, workers, 64);
+        compare(&rt, &make, 65536, workers, 4096);
     }
 }
