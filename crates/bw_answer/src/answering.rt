@@ -18,7 +18,7 @@ use std::thread::Threads;
 /// that the first i operations leave.
 ///
 /// A reply depends on the tree as of its operation's stamp alone. So the operations on one key each, grouped by key, are
-/// cut into parts of the same length, a few for each worker, and so are the scans; the parts are answered side by side. A
+/// cut into at most `workers` parts of the same length, and so are the scans; the parts are answered side by side. A
 /// small batch is one part, and starts no thread.
 ///
 /// In a part each leaf that has a key of it is searched for once. The writes over it are sorted by key, and each key's
@@ -38,8 +38,7 @@ pub fn replies<R: Threads + Sync>(
     requires fits { base + length batch.now.ops ≤ 2 ^ 40 }
     ensures { IfOk result (λ replies. replies ≡ replies_of batch.now.ops (contents_at tree.now base)) }
 {
-    let pages = tree.heads().len();
-    let count = count_parts(batch.points.len(), batch.scans.len(), pages, workers);
+    let count = count_parts(batch.points.len(), batch.scans.len(), workers);
     replies_in_parts(rt, alloc, tree, base, batch, count)
 }
 

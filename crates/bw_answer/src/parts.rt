@@ -26,19 +26,13 @@ pub(crate) struct Part {
     pub(crate) scans: Span,
 }
 
-// So many parts a worker let one that is done early go on with another.
-const PARTS_A_WORKER: usize = 4;
-
-/// Into how many parts to cut so many points and scans over so many pages: a few for each worker, and fewer where they
-/// aren't worth a thread each. Parts that share a page repeat work on it, so where there are few pages each worker has
-/// one part.
-pub(crate) fn count_parts(points: usize, scans: usize, pages: usize, workers: u64) -> usize
+/// Into how many parts to cut so many points and scans: one for each worker, and fewer where they aren't worth a thread
+/// each.
+pub(crate) fn count_parts(points: usize, scans: usize, workers: u64) -> usize
     ensures { 0 < result }
 {
-    let worth = (points / LEAST_POINTS).max(scans / LEAST_SCANS);
-    let workers = (workers as usize).max(1);
-    let a_worker = (pages / workers).clamp(1, PARTS_A_WORKER);
-    worth.min(workers.saturating_mul(a_worker)).max(1)
+    let most = (points / LEAST_POINTS).max(scans / LEAST_SCANS) as u64;
+    most.min(workers).max(1) as usize
 }
 
 /// Cuts so many points and scans into at most `count` parts, alike in length.

@@ -136,23 +136,15 @@ fn each_growth_of_homes_is_refused(rt: HostRuntime) {
 
 #[test]
 fn a_small_batch_is_one_part(rt: HostRuntime) {
-    assert_eq!(rt; count_parts(0, 0, 100, 4), 1);
-    assert_eq!(rt; count_parts(2047, 127, 100, 4), 1);
-    assert_eq!(rt; count_parts(2048, 0, 1, 1), 1);
+    assert_eq!(rt; count_parts(0, 0, 4), 1);
+    assert_eq!(rt; count_parts(2047, 127, 4), 1);
+    assert_eq!(rt; count_parts(2048, 0, 1), 1);
 }
 
 #[test]
-fn a_large_batch_has_a_few_parts_for_each_worker(rt: HostRuntime) {
-    assert_eq!(rt; count_parts(2048, 0, 100, 4), 2);
-    assert_eq!(rt; count_parts(0, 128, 100, 4), 2);
-    assert_eq!(rt; count_parts(65536, 0, 100, 4), 16);
-    assert_eq!(rt; count_parts(65536, 0, 100, 1), 4);
-    assert_eq!(rt; count_parts(65536, 0, 10000, 64), 64);
-}
-
-#[test]
-fn over_few_pages_each_worker_has_one_part(rt: HostRuntime) {
-    assert_eq!(rt; count_parts(65536, 0, 1, 4), 4);
-    assert_eq!(rt; count_parts(65536, 65536, 9, 4), 8);
-    assert_eq!(rt; count_parts(0, 65536, 2, 64), 64);
+fn a_large_batch_has_a_part_for_each_worker(rt: HostRuntime) {
+    assert_eq!(rt; count_parts(2048, 0, 4), 2);
+    assert_eq!(rt; count_parts(0, 128, 4), 2);
+    assert_eq!(rt; count_parts(65536, 0, 4), 4);
+    assert_eq!(rt; count_parts(65536, 0, 64), 64);
 }
