@@ -1,10 +1,12 @@
 -- The writes from a stamp on.
-use Rattle.std.proofs.Common.{◌≡◌, ◌≢◌, ℕ, ◌+◌, ◌-◌, ◌<◌, ◌≤◌, true, false, cond, List, [], ◌∷◌, Option, Some, None, eqb, nat_le, slice_get, refl, sym, ap, ◌∙◌, arith}
+use Rattle.std.proofs.Common.{◌≡◌, ◌≢◌, ℕ, ◌+◌, ◌-◌, ◌<◌, ◌≤◌, true, false, cond, List, [], ◌∷◌, Option, Some, None, IfSome, eqb, nat_le, slice_get, refl, sym, ap, ◌∙◌, arith}
 use Rattle.std.specs.Borrow.{Bor}
 use Rattle.std.proofs.lemmas.Bool.Decides.{nat_tests}
+use Rattle.bw_key.specs.Order.{KeyBytes, key_eq}
 use Rattle.bw_model.specs.Values.{ValueBytes}
 use Rattle.bw_model.specs.Actions.{effect}
 use Rattle.bw_delta.specs.Writes.{WriteView}
+use Rattle.bw_delta.specs.Batches.{writes_to}
 use Rattle.bw_delta.specs.History.{history, action_at, pointed_to}
 use Rattle.bw_delta.specs.Readings.{from_stamp}
 use Rattle.bw_delta.specs.Rising.{HasRisingStamps}
@@ -23,6 +25,15 @@ all_left stamp low [] le rising = refl
 all_left stamp low (w ∷ ws) le rising =
     ap (λ b. cond b (w ∷ from_stamp stamp ws) (from_stamp stamp ws)) (reaches stamp w.stamp (omega (arith, le, rising.0)))
     ∙ ap (λ l. w ∷ l) (all_left stamp (w.stamp + 1) ws (omega (arith, le, rising.0)) rising.1)
+
+-- they rise from a later stamp on where the first of them does
+pub first_late : (stamp : ℕ) (refs : List (Bor WriteView)) → IfSome (slice_get refs 0) (λ r. stamp ≤ r.now.stamp) → HasRisingStamps 0 (pointed_to refs) → HasRisingStamps stamp (pointed_to refs)
+first_late stamp [] late rising = tt
+first_late stamp (r ∷ refs) late rising = (late, rising.1)
+
+-- before they begin nothing changes
+pub none_due : (start : Option ValueBytes) (stamp : ℕ) (ws : List WriteView) (q : KeyBytes) → HasRisingStamps stamp ws → start ≡ history start (action_at (writes_to q ws)) stamp
+none_due start stamp ws q rising = sym (quiet start (action_at (writes_to q ws)) stamp (λ t lt. none_below stamp (writes_to q ws) t (rising_filter (λ w. key_eq q w.key) stamp ws rising) lt))
 
 -- a write below the stamp is not
 pub one_passed : (stamp : ℕ) (w : WriteView) (ws : List WriteView) → w.stamp < stamp → from_stamp stamp ws ≡ from_stamp stamp (w ∷ ws)

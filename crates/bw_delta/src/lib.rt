@@ -9,6 +9,7 @@ mod arena;
 mod deltas;
 mod folding;
 mod laws;
+mod present;
 mod reading;
 mod replay;
 #[cfg(test)]

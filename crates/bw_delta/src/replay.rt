@@ -10,23 +10,23 @@ ghost use Rattle.bw_delta.specs.Pairs.{parts_of, value_in};
 ghost use Rattle.bw_delta.specs.Replays.{IsReplayOf};
 ghost use Rattle.bw_delta.specs.Writes.{WriteView};
 
-use crate::folding::{put_parts, put_writes};
+use crate::present::Present;
 use crate::reading::in_order;
 use crate::writes::Write;
 use bw_key::{Key, Memory};
 use bw_memory::Alloc;
 use bw_model::Value;
 use bw_page::Leaf;
-use std::collections::BTreeMap;
-use std::collections::btree_map::Range;
 use std::marker::Model;
 
-/// The pairs of a page as of a stamp that rises, in an ordered map. However many stamps they are read as of, each write
-/// has its effect once.
+/// The pairs of a page as of a stamp that rises. However many stamps they are read as of, each write has its effect once.
+///
+/// The pairs of one part are read where they stand, as of all stamps up to that of the first write. At the first later
+/// one they go into an ordered map.
 #[derive(Debug, Drop)]
 pub struct Replay<'a> {
     stamp: u64,
-    values: BTreeMap<Key, Value, Alloc>,
+    present: Present<'a>,
     // in the order of their stamps
     writes: Vec<&'a Write, Alloc>,
     // how many of the writes had their effects
@@ -36,12 +36,13 @@ pub struct Replay<'a> {
 impl<'a> Model for Replay<'a> {
     ghost use Rattle.std.specs.Prelude.{◌≤◌, drop, length};
     ghost use Rattle.bw_delta.specs.History.{pointed_to};
+    ghost use Rattle.bw_delta.specs.Present.{present_pairs};
     ghost use Rattle.bw_delta.specs.Replays.{ReplayView};
     ghost use Rattle.bw_delta.specs.Rising.{HasRisingStamps};
 
     ghost Value = { ReplayView };
 
-    ghost view = { λ r. record { stamp = r.stamp; pairs = r.values.entries; rest = pointed_to (drop r.passed r.writes.items) } };
+    ghost view = { λ r. record { stamp = r.stamp; pairs = present_pairs r.present; rest = pointed_to (drop r.passed r.writes.items) } };
 
     ghost invariant = { λ r. (r.passed ≤ length r.writes.items) × HasRisingStamps r.stamp (pointed_to (drop r.passed r.writes.items)) };
 }
@@ -50,11 +51,11 @@ impl<'a> Replay<'a> {
     /// As of stamp 0: the pairs of the parts whose keys are below `high`, of two with one key that of the first part. The
     /// slice of writes may have any order.
     ///
-    /// The n pairs and m writes cost about n log2 n + m log2 m comparisons, and each key and value of the pairs is
-    /// copied. `Memory` is answered where the map, the list or a copy finds none.
+    /// The m writes cost about m log2 m comparisons. One part costs nothing; the n pairs of several cost about n log2 n
+    /// comparisons, and a copy of each key and value. `Memory` is answered where the map, the list or a copy finds none.
     pub fn new(
         alloc: Alloc,
-        parts: &[&Leaf],
+        parts: &[&'a Leaf],
         high: Option<&Key>,
         writes: &[&'a Write],
     ) -> Result<Replay<'a>, Memory>
@@ -62,12 +63,9 @@ impl<'a> Replay<'a> {
         ensures stamp { IfOk result (λ replay. replay.stamp ≡ 0) }
         ensures replay { IfOk result (IsReplayOf (value_in (parts_of parts.now)) (option_copied high.entry) (pointed_to writes.now)) }
     {
-        let low = Key::new(alloc, &[]).unwrap();
-        let mut values = BTreeMap::new(alloc);
-        put_parts(&mut values, parts, &low, high)?;
         Ok(Replay {
             stamp: 0,
-            values,
+            present: Present::of_parts(alloc, parts, high)?,
             writes: in_order(alloc, writes)?,
             passed: 0,
         })
@@ -81,14 +79,18 @@ impl<'a> Replay<'a> {
     }
 
     /// Goes on to a stamp that isn't below the present one: each write with a smaller one has its effect, in about
-    /// log2 n key comparisons for n pairs. After `Memory` the replay is of no use.
+    /// log2 n key comparisons for n pairs. The first of them to do so puts the pairs in a map, as several parts are from
+    /// the start. After `Memory` the replay is of no use.
     pub fn advance(&mut self, stamp: u64) -> Result<(), Memory>
         requires { self.old.stamp ≤ stamp }
         ensures stamp { OnOk result (self.new.stamp ≡ stamp) }
         ensures replay { OnOk result ((start : KeyBytes → Option ValueBytes) (high : Option KeyBytes) (writes : List WriteView) →
             IsReplayOf start high writes self.old → IsReplayOf start high writes self.new) }
     {
-        self.passed += put_writes(&mut self.values, &self.writes[self.passed..], stamp)?;
+        let alloc = *self.writes.allocator();
+        self.passed += self
+            .present
+            .put_writes(alloc, &self.writes[self.passed..], stamp)?;
         self.stamp = stamp;
         Ok(())
     }
@@ -105,15 +107,7 @@ impl<'a> Replay<'a> {
         ensures sorted { T (is_sorted key_cmp self.now.pairs) }
         ensures added { OnOk result (read.new.items ≡ read.old.items ++ take most (filter (is_pair_in_range low.now (option_copied high.entry)) self.now.pairs)) }
     {
-        let mut left = most;
-        for (key, value) in self.between(low, high) {
-            if left == 0 {
-                return Ok(());
-            }
-            read.push((key.copy()?, value.copy()?))?;
-            left -= 1;
-        }
-        Ok(())
+        self.present.add_first(low, high, most, read)
     }
 
     /// Adds the last pairs from `low` on and below `high` to a list, the greatest key first, no more than `most` of them.
@@ -128,26 +122,6 @@ impl<'a> Replay<'a> {
         ensures sorted { T (is_sorted key_cmp self.now.pairs) }
         ensures added { OnOk result (read.new.items ≡ read.old.items ++ take most (reverse (filter (is_pair_in_range low.now (option_copied high.entry)) self.now.pairs))) }
     {
-        let mut left = most;
-        for (key, value) in self.between(low, high).rev() {
-            if left == 0 {
-                return Ok(());
-            }
-            read.push((key.copy()?, value.copy()?))?;
-            left -= 1;
-        }
-        Ok(())
-    }
-
-    // The pairs from `low` on and below `high`.
-    fn between(&self, low: &Key, high: Option<&Key>) -> Range<'_, Key, Value>
-        ensures sorted { T (is_sorted key_cmp self.now.pairs) }
-        ensures between { result ≡ filter (is_pair_in_range low.now (option_copied high.entry)) self.now.pairs }
-    {
-        let Some(high) = high else {
-            return self.values.range(low..);
-        };
-        let end = if *high < *low { low } else { high };
-        self.values.range(low..end)
+        self.present.add_last(low, high, most, read)
     }
 }

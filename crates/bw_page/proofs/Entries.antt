@@ -48,7 +48,7 @@ starts_later : (low m k : KeyBytes) → is_lt (key_cmp low m) ≡ true → T (no
 starts_later low m k p h = below_upto low m k p (holds_not _ h)
 
 module _ {X : Type 0} where
-  sorted_drop : (n : ℕ) (es : List (KeyBytes × X)) → T (is_sorted key_cmp es) → T (is_sorted key_cmp (drop n es))
+  pub sorted_drop : (n : ℕ) (es : List (KeyBytes × X)) → T (is_sorted key_cmp es) → T (is_sorted key_cmp (drop n es))
   sorted_drop zero es h = h
   sorted_drop (suc n) [] h = h
   sorted_drop (suc n) (e ∷ es) h = sorted_drop n es (right_of _ _ h)

@@ -2,3 +2,4 @@ pub mod KeyOrder
 pub mod Search
 pub mod Entries
 pub mod Separators
+pub mod Ranges

@@ -3,6 +3,7 @@ ghost use Rattle.std.specs.Prelude.{◌≡◌, ◌<◌, ◌≤◌, ◌++◌, dro
 ghost use Rattle.std.specs.FinMap.{find, is_sorted, put};
 ghost use Rattle.std.specs.Option.{option_copied};
 ghost use Rattle.bw_key.specs.Order.{key_cmp, key_eq};
+ghost use Rattle.bw_model.specs.Contents.{is_pair_in_range};
 ghost use Rattle.bw_model.specs.Sorted.{place_of};
 ghost use Rattle.bw_page.specs.Inners.{IsLastUpto, IsUpto};
 ghost use Rattle.bw_page.specs.Pages.{first_key};
@@ -50,6 +51,22 @@ pub(crate) fn value_at<'a, V>(entries: &'a [(Key, V)], key: &Key) -> Option<&'a 
         Some(&entries[at].1)
     } else {
         None
+    }
+}
+
+/// The entries from a key on and below an end, in about 2 log2 n key comparisons.
+pub(crate) fn between<'a, V>(
+    entries: &'a [(Key, V)],
+    low: &Key,
+    high: Option<&Key>,
+) -> &'a [(Key, V)]
+    requires { T (is_sorted key_cmp entries.now) }
+    ensures { result.now ≡ filter (is_pair_in_range low.now (option_copied high.entry)) entries.now }
+{
+    let rest = &entries[place(entries, low)..];
+    match high {
+        Some(high) => &rest[..place(rest, high)],
+        None => rest,
     }
 }
 

@@ -85,6 +85,25 @@ fn a_key_is_found_among_the_pairs_alone(rt: HostRuntime) {
 }
 
 #[test]
+fn a_range_has_its_pairs_and_takes_no_memory(rt: HostRuntime) {
+    let alloc = heap(&rt, rt.alloc());
+    let leaf = c_to_h(&rt, alloc);
+    let (d, e, f) = (
+        key(&rt, alloc, b"d"),
+        key(&rt, alloc, b"e"),
+        key(&rt, alloc, b"f"),
+    );
+    alloc.refuse(1);
+    let pairs = leaf.between(&d, Some(&f));
+    assert_eq!(rt; pairs.len(), 2);
+    assert_eq!(rt; pairs[0].0.bytes(), b"d".as_slice());
+    assert_eq!(rt; pairs[1].0.bytes(), b"dd".as_slice());
+    assert_eq!(rt; leaf.between(&e, None).len(), 1);
+    assert!(rt; leaf.between(&f, Some(&d)).is_empty());
+    assert_eq!(rt; alloc.left(), 1);
+}
+
+#[test]
 fn two_leaves_join(rt: HostRuntime) {
     let alloc = heap(&rt, rt.alloc());
     let leaf = a_and_b(&rt, alloc)

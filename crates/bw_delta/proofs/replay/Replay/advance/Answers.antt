@@ -8,8 +8,8 @@ use Rattle.bw_delta.specs.History.{history, action_at, pointed_to}
 use Rattle.bw_delta.specs.Readings.{from_stamp}
 use Rattle.bw_delta.specs.Replays.{ReplayView, IsReplayOf, replayed_value}
 use Rattle.bw_delta.specs.Rising.{HasRisingStamps}
-use Rattle.std.specs.BTreeMap as tree
-use Rattle.bw_delta.proofs.Maps.{found_in}
+use Rattle.std.specs.FinMap.{find}
+use Rattle.bw_delta.specs.Present.{present_pairs}
 use Rattle.bw_delta.proofs.Readings.{left_rises}
 use Rattle.bw_delta.proofs.Replays.{drop_more, goes_on}
 use Rattle.bw_delta.proofs.replay.Replay.advance.Goals as goal
@@ -37,9 +37,8 @@ pub returns-clause-replay : goal.returns-clause-replay
 returns-clause-replay c start high writes so =
     goes_on start high writes c.args.self.now _ c.requires
     (λ key.
-    sym (found_in key c.put_writes.new.values.entries) ∙ c.in_ok-self-inside.ensures.values key
-    ∙ ap (λ (l : List (Bor WriteView)). history (tree.get key_cmp c.self.inside.values key) (action_at (writes_to key (pointed_to l))) c.args.stamp) (rest c)
-    ∙ ap (λ v. history v (action_at (writes_to key (pointed_to (drop c.self.inside.passed c.self.inside.writes.items)))) c.args.stamp) (found_in key c.self.inside.values.entries)
+    c.in_ok-self-inside.ensures.values key
+    ∙ ap (λ (l : List (Bor WriteView)). history (find key_cmp key (present_pairs c.self.inside.present)) (action_at (writes_to key (pointed_to l))) c.args.stamp) (rest c)
     ∙ ap (λ (v : ReplayView). replayed_value v c.args.stamp key) c.self.view_is)
     (left c ∙ ap (λ (v : ReplayView). from_stamp c.args.stamp v.rest) c.self.view_is)
     so

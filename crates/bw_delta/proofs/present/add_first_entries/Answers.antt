@@ -1,15 +1,14 @@
-use Rattle.std.proofs.Common.{◌≡◌, ◌+◌, ◌-◌, ◌<◌, ◌≤◌, List, [], ◌∷◌, ◌++◌, take, reverse, refl, sym, ap, ◌∙◌, arith}
-use Rattle.std.proofs.lemmas.List.{reverse-append}
+use Rattle.std.proofs.Common.{◌≡◌, ◌+◌, ◌-◌, ◌<◌, ◌≤◌, List, [], ◌∷◌, ◌++◌, take, refl, sym, ap, ◌∙◌, arith}
 use Rattle.bw_model.specs.Lists.{Pair}
 use Rattle.bw_delta.proofs.Replays.{one_taken}
-use Rattle.bw_delta.proofs.replay.Replay.add_last.Goals as goal
+use Rattle.bw_delta.proofs.present.add_first_entries.Goals as goal
 
 pub loop-key-preserved : goal.loop-key-preserved
 loop-key-preserved c =
     let pair : Pair = (c.in-Some.key.now, c.in-Some.value.now) in
-    let rest = reverse c.next.new.self.iter in
+    let rest = c.next.new.self in
     let read = c.loop-key.read.items in
-    let steps : reverse c.loop-key.key-iterator.iter ≡ pair ∷ rest = ap reverse c.in-Some.ensures.steps ∙ reverse-append c.next.new.self.iter (pair ∷ []) in
+    let steps : c.loop-key.key-iterator ≡ pair ∷ rest = c.in-Some.ensures.steps in
     let key_is : c.in_ok-copy.field-0 ≡ c.in-Some.key.now = c.in_ok-copy.ensures.ok in
     let value_is : c.in_ok-copy-2.field-0 ≡ c.in-Some.value.now = c.in_ok-copy-2.ensures.ok in
     let added : c.push-in-loop-key.new.self.items ≡ read ++ (c.in_ok-copy.field-0, c.in_ok-copy-2.field-0) ∷ [] = c.in_ok-push.ensures.items in

@@ -1,0 +1,222 @@
+// The pairs that a replay has now.
+ghost use Rattle.std.specs.Prelude.{◌≡◌, ◌≤◌, ◌++◌, T, drop, filter, length, reverse, take, IfOk, OnOk};
+ghost use Rattle.std.specs.Option.{option_copied};
+ghost use Rattle.std.specs.FinMap.{find, is_sorted};
+ghost use Rattle.bw_key.specs.Order.{KeyBytes, key_cmp};
+ghost use Rattle.bw_model.specs.Contents.{is_below_end, is_pair_in_range};
+ghost use Rattle.bw_delta.specs.Batches.{writes_to};
+ghost use Rattle.bw_delta.specs.History.{history, action_at, pointed_to};
+ghost use Rattle.bw_delta.specs.Pairs.{parts_of, value_in};
+ghost use Rattle.bw_delta.specs.Present.{present_pairs};
+ghost use Rattle.bw_delta.specs.Readings.{from_stamp};
+ghost use Rattle.bw_delta.specs.Rising.{HasRisingStamps};
+
+use crate::folding::{put_parts, put_writes};
+use crate::writes::Write;
+use bw_key::{Key, Memory};
+use bw_memory::Alloc;
+use bw_model::Value;
+use bw_page::Leaf;
+use std::collections::BTreeMap;
+use std::collections::btree_map::Range;
+use std::mem;
+
+/// The pairs of a page: on its leaf, until a write changes them, and in an ordered map from then on.
+#[derive(Debug, Drop)]
+pub(crate) enum Present<'a> {
+    OnLeaf(&'a Leaf),
+    InMap(BTreeMap<Key, Value, Alloc>),
+}
+
+impl<'a> Present<'a> {
+    /// The pairs of the parts whose keys are below `high`, of two with one key that of the first part. One part stays
+    /// where it is, and takes no memory.
+    pub(crate) fn of_parts(
+        alloc: Alloc,
+        parts: &[&'a Leaf],
+        high: Option<&Key>,
+    ) -> Result<Present<'a>, Memory>
+        ensures { IfOk result (λ present. (q : KeyBytes) → T (is_below_end (option_copied high.entry) q) → find key_cmp q (present_pairs present) ≡ value_in (parts_of parts.now) q) }
+    {
+        if parts.len() == 1 {
+            return Ok(Present::OnLeaf(parts[0]));
+        }
+        Ok(Present::InMap(map_of(alloc, parts, high)?))
+    }
+
+    // The same pairs in a map.
+    fn into_map(self, alloc: Alloc) -> Result<BTreeMap<Key, Value, Alloc>, Memory>
+        ensures { IfOk result (λ values. (q : KeyBytes) → find key_cmp q values.entries ≡ find key_cmp q (present_pairs self.entry)) }
+    {
+        match self {
+            Present::OnLeaf(leaf) => map_of(alloc, &[leaf], None),
+            Present::InMap(values) => Ok(values),
+        }
+    }
+
+    /// Lets the writes below a stamp have their effects, and answers how many they are. After `Memory` the pairs are of no
+    /// use.
+    pub(crate) fn put_writes(
+        &mut self,
+        alloc: Alloc,
+        writes: &[&Write],
+        stamp: u64,
+    ) -> Result<usize, Memory>
+        requires { HasRisingStamps 0 (pointed_to writes.now) }
+        ensures values { OnOk result ((q : KeyBytes) → find key_cmp q (present_pairs self.new) ≡ history (find key_cmp q (present_pairs self.old)) (action_at (writes_to q (pointed_to writes.now))) stamp) }
+        ensures rest { IfOk result (λ passed. pointed_to (drop passed writes.now) ≡ from_stamp stamp (pointed_to writes.now)) }
+        ensures bound { IfOk result (λ passed. passed ≤ length writes.now) }
+    {
+        let Some(first) = writes.first() else {
+            return Ok(0);
+        };
+        if first.stamp >= stamp {
+            return Ok(0);
+        }
+        let present = mem::replace(self, Present::InMap(BTreeMap::new(alloc)));
+        let mut values = present.into_map(alloc)?;
+        let passed = put_writes(&mut values, writes, stamp)?;
+        *self = Present::InMap(values);
+        Ok(passed)
+    }
+
+    /// Adds the first pairs from `low` on and below `high` to a list, no more than `most` of them.
+    pub(crate) fn add_first(
+        &self,
+        low: &Key,
+        high: Option<&Key>,
+        most: u64,
+        read: &mut Vec<(Key, Value), Alloc>,
+    ) -> Result<(), Memory>
+        ensures sorted { T (is_sorted key_cmp (present_pairs self.now)) }
+        ensures added { OnOk result (read.new.items ≡ read.old.items ++ take most (filter (is_pair_in_range low.now (option_copied high.entry)) (present_pairs self.now))) }
+    {
+        match self {
+            Present::OnLeaf(leaf) => add_first_pairs(leaf.between(low, high), most, read),
+            Present::InMap(values) => add_first_entries(range(values, low, high), most, read),
+        }
+    }
+
+    /// Adds the last pairs from `low` on and below `high` to a list, the greatest key first, no more than `most` of them.
+    pub(crate) fn add_last(
+        &self,
+        low: &Key,
+        high: Option<&Key>,
+        most: u64,
+        read: &mut Vec<(Key, Value), Alloc>,
+    ) -> Result<(), Memory>
+        ensures sorted { T (is_sorted key_cmp (present_pairs self.now)) }
+        ensures added { OnOk result (read.new.items ≡ read.old.items ++ take most (reverse (filter (is_pair_in_range low.now (option_copied high.entry)) (present_pairs self.now)))) }
+    {
+        match self {
+            Present::OnLeaf(leaf) => add_last_pairs(leaf.between(low, high), most, read),
+            Present::InMap(values) => add_last_entries(range(values, low, high), most, read),
+        }
+    }
+}
+
+// The pairs of the parts whose keys are below `high` in a map, of two with one key that of the first part.
+fn map_of(
+    alloc: Alloc,
+    parts: &[&Leaf],
+    high: Option<&Key>,
+) -> Result<BTreeMap<Key, Value, Alloc>, Memory>
+    ensures { IfOk result (λ values. (q : KeyBytes) → T (is_below_end (option_copied high.entry) q) → find key_cmp q values.entries ≡ value_in (parts_of parts.now) q) }
+{
+    let low = Key::new(alloc, &[]).unwrap();
+    let mut values = BTreeMap::new(alloc);
+    put_parts(&mut values, parts, &low, high)?;
+    Ok(values)
+}
+
+// The entries of a map from `low` on and below `high`.
+fn range<'v>(
+    values: &'v BTreeMap<Key, Value, Alloc>,
+    low: &Key,
+    high: Option<&Key>,
+) -> Range<'v, Key, Value>
+    ensures sorted { T (is_sorted key_cmp values.now.entries) }
+    ensures between { result ≡ filter (is_pair_in_range low.now (option_copied high.entry)) values.now.entries }
+{
+    let Some(high) = high else {
+        return values.range(low..);
+    };
+    let end = if *high < *low { low } else { high };
+    values.range(low..end)
+}
+
+// Adds copies of the first pairs of a list, no more than `most` of them.
+fn add_first_pairs(
+    pairs: &[(Key, Value)],
+    most: u64,
+    read: &mut Vec<(Key, Value), Alloc>,
+) -> Result<(), Memory>
+    ensures { OnOk result (read.new.items ≡ read.old.items ++ take most pairs.now) }
+{
+    let mut left = most;
+    for pair in pairs {
+        if left == 0 {
+            return Ok(());
+        }
+        read.push((pair.0.copy()?, pair.1.copy()?))?;
+        left -= 1;
+    }
+    Ok(())
+}
+
+// Adds copies of the last pairs of a list, the last one first, no more than `most` of them.
+fn add_last_pairs(
+    pairs: &[(Key, Value)],
+    most: u64,
+    read: &mut Vec<(Key, Value), Alloc>,
+) -> Result<(), Memory>
+    ensures { OnOk result (read.new.items ≡ read.old.items ++ take most (reverse pairs.now)) }
+{
+    let mut left = most;
+    for pair in pairs.iter().rev() {
+        if left == 0 {
+            return Ok(());
+        }
+        read.push((pair.0.copy()?, pair.1.copy()?))?;
+        left -= 1;
+    }
+    Ok(())
+}
+
+// The same of a map's entries: the first of them.
+fn add_first_entries(
+    entries: Range<'_, Key, Value>,
+    most: u64,
+    read: &mut Vec<(Key, Value), Alloc>,
+) -> Result<(), Memory>
+    ensures { OnOk result (read.new.items ≡ read.old.items ++ take most entries.entry) }
+{
+    let mut left = most;
+    for (key, value) in entries {
+        if left == 0 {
+            return Ok(());
+        }
+        read.push((key.copy()?, value.copy()?))?;
+        left -= 1;
+    }
+    Ok(())
+}
+
+// And the last of them, the last one first.
+fn add_last_entries(
+    entries: Range<'_, Key, Value>,
+    most: u64,
+    read: &mut Vec<(Key, Value), Alloc>,
+) -> Result<(), Memory>
+    ensures { OnOk result (read.new.items ≡ read.old.items ++ take most (reverse entries.entry)) }
+{
+    let mut left = most;
+    for (key, value) in entries.rev() {
+        if left == 0 {
+            return Ok(());
+        }
+        read.push((key.copy()?, value.copy()?))?;
+        left -= 1;
+    }
+    Ok(())
+}
