@@ -23,9 +23,9 @@ use std::thread::Threads;
 ///
 /// In a part each leaf that has a key of it is searched for once. The writes over it are sorted by key, and each key's
 /// are then passed once, beside the operations on the key. So the cost doesn't depend on how many of them are on one
-/// key. The scans of a part are read one after another, each leaf in an ordered map that is made once (`Scans`). A leaf
-/// that lies in several parts has its writes sorted, or its map made, in each. `Memory` is answered where a list, a map or
-/// a reply finds none, in any part.
+/// key. The scans of a part are read one after another, a leaf with writes in an ordered map that is made once (`Scans`).
+/// A leaf that lies in several parts has its writes sorted, or its map made, in each. `Memory` is answered where a list, a
+/// map or a reply finds none, in any part.
 pub fn replies<R: Threads + Sync>(
     rt: &R,
     alloc: Alloc,

@@ -28,11 +28,12 @@ mod kept;
 
 /// Scans of a tree, one after another, each as of a stamp of its own.
 ///
-/// The first scan that reads a leaf puts its pairs in an ordered map, which is kept, and each later one goes on from the
-/// stamp of the one before it. So with stamps that rise, each write of a leaf has its effect once for all scans, and its
-/// chain is walked a fixed number of times, however many scans read it. A scan of leaves that are kept costs a few searches
-/// for each of them, among those that are kept and in its map, and a copy of what it answers. At a stamp that falls the
-/// leaf is put in a map again. All leaves that were read stay in memory.
+/// Each leaf that was read is kept, and a later scan goes on from the stamp of the one before it. A leaf is read where it
+/// stands until a scan is to see a write of it: that scan puts its pairs in an ordered map. So with stamps that rise, each
+/// write of a leaf has its effect once for all scans, and its chain is walked a fixed number of times, however many scans
+/// read it. A scan of leaves that are kept costs a few searches for each of them, among those that are kept and among its
+/// pairs, and a copy of what it answers. At a stamp that falls a leaf with writes is put in a map again. What was kept
+/// stays in memory.
 #[derive(Drop)]
 pub struct Scans<'a> {
     tree: &'a Tree,

@@ -348,9 +348,9 @@ impl Tree {
     /// `to`, and no more than `most` of them.
     ///
     /// From the leaf of `from` on it reads leaf after leaf along the side links, until there are enough pairs or a leaf
-    /// ends the range. Each of these leaves is put whole in an ordered map as of the stamp, whatever `most` is; `Scans`
-    /// does so once for many scans. Memory is taken for one leaf and for the pairs that are answered, and none by `most`.
-    /// `Memory` is answered where a list, a map or a copy finds none.
+    /// ends the range. A leaf with writes below the stamp is put whole in an ordered map, whatever `most` is; `Scans` does
+    /// so once for many scans. Memory is taken for the pairs that are answered, and for one such leaf and its writes, and
+    /// none by `most`. `Memory` is answered where a list, a map or a copy finds none.
     pub fn scan_at(
         &self,
         from: &Key,

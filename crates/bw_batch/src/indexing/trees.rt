@@ -21,7 +21,7 @@ fn writes_stand_in_the_chain(rt: HostRuntime) {
     let mut index = make.index(65536);
     let ops = [make.upsert("c", "9"), make.get("c"), make.delete("e")];
     index.run(&rt, &ops, &OpenGate).expect(&rt, "memory");
-    assert_eq!(rt; index.tree.heads(), [(1u64 << 32) + 1].as_slice());
+    assert!(rt; index.tree.heads() == [(1u64 << 32) + 1].as_slice());
     assert_eq!(rt; index.tree.records(), 2);
     assert_eq!(rt; index.tree.next_stamp(), 3);
 }
@@ -39,7 +39,7 @@ fn chains_are_folded_by_what_batches_walk(rt: HostRuntime) {
         .run(&rt, &[make.get("a")], &OpenGate)
         .expect(&rt, "memory");
     assert_eq!(rt; index.tree.records(), 0);
-    assert_eq!(rt; index.tree.heads(), [0].as_slice());
+    assert!(rt; index.tree.heads() == [0].as_slice());
     assert_eq!(rt; index.folded, 1);
 }
 
@@ -54,7 +54,7 @@ fn a_refused_batch_leaves_the_tree(rt: HostRuntime) {
     let word = (1u64 << 32) + 1;
     let refused = index.run(&rt, &writes(&rt, &make, 3), &OpenGate);
     assert!(rt; refused.is_err());
-    assert_eq!(rt; index.tree.heads(), [word].as_slice());
+    assert!(rt; index.tree.heads() == [word].as_slice());
     assert_eq!(rt; index.tree.records(), 2);
     let ops = writes(&rt, &make, 2);
     for growth in 1..6 {
@@ -62,7 +62,7 @@ fn a_refused_batch_leaves_the_tree(rt: HostRuntime) {
         let refused = index.run(&rt, &ops, &OpenGate);
         make.alloc.refuse(0);
         assert!(rt; refused.is_err());
-        assert_eq!(rt; index.tree.heads(), [word].as_slice());
+        assert!(rt; index.tree.heads() == [word].as_slice());
         assert_eq!(rt; index.tree.records(), 2);
         assert_eq!(rt; index.tree.next_stamp(), 2);
     }

@@ -39,7 +39,7 @@ fn leaves_from<R: Abort>(rt: &R, make: &Maker<R>, low: Key, place: u32) -> Vec<L
 fn over_leaves<R: Abort>(rt: &R, make: &Maker<R>, workers: u64, piece: u64) -> Index {
     let leaves = leaves_from(rt, make, key(rt, make, &[]), 0);
     let tree = Tree::from_level(make.alloc, leaves).expect(rt, "a tree");
-    assert_eq!(rt; tree.heads().len(), LEAVES as usize + 1);
+    assert!(rt; tree.heads().len() == LEAVES as usize + 1);
     Index::from_tree(make.alloc, make.working(workers, piece), tree)
 }
 
@@ -120,7 +120,7 @@ fn compare<R: Abort + Threads + Sync>(
         same(rt, done.replies.as_slice(), expected.as_slice());
         let contents = index.contents().expect(rt, "memory");
         let expected = map.entries().expect(rt, "memory");
-        assert_eq!(rt; contents, expected, "seed {seed}, batch {number}");
+        assert!(rt; contents == expected, "seed {seed}, batch {number}");
     }
 }
 
@@ -137,7 +137,7 @@ fn long_batches_are_answered_alike_by_any_number_of_workers(rt: HostRuntime) {
     for workers in WORKERS {
         for piece in [1u64, 64, 4096] {
             let index = over_leaves(&rt, &make, workers, piece);
-            compare(&rt, &make, workers + piece, index, 2, 6000);
+            compare(&rt, &make, workers + piece, index, 2, 1500);
         }
     }
 }

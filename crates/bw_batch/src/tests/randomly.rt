@@ -98,7 +98,7 @@ fn compare<R: Abort + Threads + Sync>(
         }
         let contents = index.contents().expect(rt, "memory");
         let expected = map.entries().expect(rt, "memory");
-        assert_eq!(rt; contents, expected, "seed {seed}, batch {number}: {ops:?}");
+        assert!(rt; contents == expected, "seed {seed}, batch {number}");
     }
 }
 

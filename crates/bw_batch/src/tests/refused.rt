@@ -61,7 +61,7 @@ fn a_new_index_meets_each_refusal(rt: HostRuntime) {
         match outcome {
             Ok(index) => {
                 assert!(rt; !was_refused);
-                assert_eq!(rt; index.contents().expect(&rt, "memory"), make.pairs(&[]));
+                assert!(rt; index.contents().expect(&rt, "memory") == make.pairs(&[]));
                 return;
             }
             Err(_) => assert!(rt; was_refused),
@@ -78,11 +78,11 @@ fn contents_meet_each_refusal(rt: HostRuntime) {
         make.alloc.refuse(growth);
         let outcome = index.contents();
         if !was_refused(make.alloc, growth) {
-            assert_eq!(rt; outcome.expect(&rt, "memory"), make.pairs(BEFORE));
+            assert!(rt; outcome.expect(&rt, "memory") == make.pairs(BEFORE));
             assert!(rt; growth > 2);
             return;
         }
-        assert_eq!(rt; outcome, Err(Memory), "growth {growth}");
+        assert!(rt; outcome == Err(Memory));
     }
     panic!(rt; "no call met no refusal");
 }
@@ -108,9 +108,9 @@ fn refuse_in_turn<R: Abort + Threads + Sync>(rt: &R, make: &Maker<R>, workers: u
             same(rt, done.replies.as_slice(), &replies);
             return;
         }
-        assert_eq!(rt; outcome.err(), Some(Refusal::Memory));
+        assert!(rt; outcome.err() == Some(Refusal::Memory));
         assert!(rt; was_refused);
-        assert_eq!(rt; index.contents().expect(rt, "memory"), make.pairs(BEFORE));
+        assert!(rt; index.contents().expect(rt, "memory") == make.pairs(BEFORE));
         let done = index.run(rt, &ops, &OpenGate).expect(rt, "ample memory");
         same(rt, done.replies.as_slice(), &replies);
     }
@@ -151,7 +151,7 @@ fn follow<R: Abort>(
             }
         }
     }
-    assert_eq!(rt; map.entries().expect(rt, "memory"), *after);
+    assert!(rt; map.entries().expect(rt, "memory") == *after);
     refused
 }
 
@@ -172,7 +172,7 @@ fn refuse_all_in_turn<R: Abort + Threads + Sync>(rt: &R, make: &Maker<R>, worker
                 1
             }
         };
-        assert_eq!(rt; refused, was_refused as u64, "growth {growth}");
+        assert_eq!(rt; refused, was_refused as u64);
         if !was_refused {
             assert!(rt; growth > 10);
             return;

@@ -75,7 +75,7 @@ fn compare_with<R: Abort + Threads + Sync>(
         let outcome = index.run(rt, ops, &OpenGate);
         compare_done(rt, &outcome, expected);
     }
-    assert_eq!(rt; index.contents().expect(rt, "memory"), make.pairs(after));
+    assert!(rt; index.contents().expect(rt, "memory") == make.pairs(after));
 
     let mut index = Index::new(make.alloc, options).expect(rt, "an index");
     let outcomes = index
@@ -85,5 +85,5 @@ fn compare_with<R: Abort + Threads + Sync>(
     for (outcome, expected) in outcomes.iter().zip(&trace.expected) {
         compare_done(rt, outcome, expected);
     }
-    assert_eq!(rt; index.contents().expect(rt, "memory"), make.pairs(after));
+    assert!(rt; index.contents().expect(rt, "memory") == make.pairs(after));
 }

@@ -49,13 +49,18 @@ pub fn leaf_of<R: Abort>(rt: &R, alloc: Alloc, bytes: &[u8]) -> Leaf {
     )
 }
 
-/// Compares pairs with the bytes of the wanted ones.
-pub fn same<R: Abort>(rt: &R, pairs: &Pairs, wanted: &[(&'static [u8], &'static [u8])]) {
-    assert_eq!(rt; pairs.as_slice().len(), wanted.len());
-    for (pair, (key, value)) in pairs.as_slice().iter().zip(wanted) {
-        assert_eq!(rt; pair.0.bytes(), *key);
-        assert_eq!(rt; pair.1.bytes(), *value);
+/// Whether pairs have these bytes.
+pub fn are(pairs: &Pairs, wanted: &[(&'static [u8], &'static [u8])]) -> bool {
+    let pairs = pairs.as_slice();
+    if pairs.len() != wanted.len() {
+        return false;
     }
+    for (pair, (key, value)) in pairs.iter().zip(wanted) {
+        if pair.0.bytes() != *key || pair.1.bytes() != *value {
+            return false;
+        }
+    }
+    true
 }
 
 /// Whether each of three writes has a stamp of its own.

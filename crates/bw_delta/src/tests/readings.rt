@@ -1,8 +1,9 @@
 // What stamped writes leave, in each order of the slice.
-use super::making::{heap, key, leaf_of, pairs_of, same, value, value_of, write};
+use super::making::{are, heap, key, leaf_of, pairs_of, value, value_of, write};
 use crate::{Action, Write, contents_are_history};
+use bw_key::Key;
 use bw_memory::Alloc;
-use bw_model::Pairs;
+use bw_model::{Pairs, Value};
 use bw_page::{Leaf, PageId};
 use std::process::Abort;
 
@@ -16,16 +17,21 @@ const LEFT: [(u64, Option<&'static [u8]>); 6] = [
     (8, Some(b"3")),
 ];
 
+// Whether a value has these bytes, or there is none.
+fn is(value: Option<&Value>, wanted: Option<&'static [u8]>) -> bool {
+    match (value, wanted) {
+        (Some(value), Some(bytes)) => value.bytes() == bytes,
+        (None, None) => true,
+        _ => false,
+    }
+}
+
 // Compares what the writes leave over a 4, in this order of the slice.
 fn compare<R: Abort>(rt: &R, alloc: Alloc, order: (&Write, &Write, &Write)) {
     let start = value(rt, alloc, b"4");
     for (stamp, wanted) in LEFT {
         let left = value_of(rt, alloc, Some(&start), order, stamp).expect(rt, "memory");
-        assert_eq!(rt;
-            left.as_ref().map(|value| value.bytes()),
-            wanted,
-            "as of {stamp}"
-        );
+        assert!(rt; is(left.as_ref(), wanted));
     }
 }
 
@@ -37,25 +43,35 @@ fn compare_leaf<R: Abort>(rt: &R, alloc: Alloc, order: (&Write, &Write, &Write))
         let pairs = pairs_of(rt, alloc, &[&leaf], (&low, None), order, stamp);
         let pairs = pairs.expect(rt, "memory");
         match wanted {
-            Some(value) => same(rt, &pairs, &[(b"a", value)]),
-            None => same(rt, &pairs, &[]),
+            Some(value) => assert!(rt; are(&pairs, &[(b"a", value)])),
+            None => assert!(rt; are(&pairs, &[])),
         }
+    }
+}
+
+// An update at 7, a delete at 2 and an insert at 5, in each of their orders.
+fn ordered<R: Abort>(rt: &R, alloc: Alloc, order: u32) -> (Write, Write, Write) {
+    let update = write(rt, alloc, 7, b"a", Action::Update(value(rt, alloc, b"3")));
+    let delete = write(rt, alloc, 2, b"a", Action::Delete);
+    let insert = write(rt, alloc, 5, b"a", Action::Insert(value(rt, alloc, b"9")));
+    match order {
+        0 => (update, delete, insert),
+        1 => (update, insert, delete),
+        2 => (delete, update, insert),
+        3 => (delete, insert, update),
+        4 => (insert, update, delete),
+        _ => (insert, delete, update),
     }
 }
 
 #[test]
 fn each_order_of_the_writes_leaves_the_same(rt: HostRuntime) {
     let alloc = heap(&rt, rt.alloc());
-    let update = write(&rt, alloc, 7, b"a", Action::Update(value(&rt, alloc, b"3")));
-    let delete = write(&rt, alloc, 2, b"a", Action::Delete);
-    let insert = write(&rt, alloc, 5, b"a", Action::Insert(value(&rt, alloc, b"9")));
-    compare(&rt, alloc, (&update, &delete, &insert));
-    compare(&rt, alloc, (&update, &insert, &delete));
-    compare(&rt, alloc, (&delete, &update, &insert));
-    compare(&rt, alloc, (&delete, &insert, &update));
-    compare(&rt, alloc, (&insert, &update, &delete));
-    compare(&rt, alloc, (&insert, &delete, &update));
-    compare_leaf(&rt, alloc, (&update, &delete, &insert));
+    for order in 0..6 {
+        let (a, b, c) = ordered(&rt, alloc, order);
+        compare(&rt, alloc, (&a, &b, &c));
+        compare_leaf(&rt, alloc, (&a, &b, &c));
+    }
 }
 
 // A leaf from `low` on and below `high`, with these two pairs.
@@ -78,40 +94,46 @@ fn part<R: Abort>(rt: &R, alloc: Alloc, is_first: bool) -> Leaf {
     }
 }
 
+// Compares the pairs of a range as of a stamp, under an upsert of a at 0, an insert of d at 1 and a delete of c at 2.
+fn compare_range<R: Abort>(
+    rt: &R,
+    alloc: Alloc,
+    range: (&Key, Option<&Key>),
+    stamp: u64,
+    wanted: &[(&'static [u8], &'static [u8])],
+) {
+    let (first, second) = (part(rt, alloc, true), part(rt, alloc, false));
+    let a = write(rt, alloc, 0, b"a", Action::Upsert(value(rt, alloc, b"9")));
+    let d = write(rt, alloc, 1, b"d", Action::Insert(value(rt, alloc, b"4")));
+    let c = write(rt, alloc, 2, b"c", Action::Delete);
+    let pairs = pairs_of(rt, alloc, &[&first, &second], range, (&c, &a, &d), stamp);
+    assert!(rt; are(&pairs.expect(rt, "memory"), wanted));
+}
+
 #[test]
 fn pairs_and_writes_outside_the_range_count_for_nothing(rt: HostRuntime) {
     let alloc = heap(&rt, rt.alloc());
-    let (first, second) = (part(&rt, alloc, true), part(&rt, alloc, false));
-    let outside = write(&rt, alloc, 0, b"a", Action::Upsert(value(&rt, alloc, b"9")));
-    let new = write(&rt, alloc, 1, b"d", Action::Insert(value(&rt, alloc, b"4")));
-    let late = write(&rt, alloc, 2, b"c", Action::Delete);
-    let writes = (&late, &outside, &new);
-    let (low, high) = (key(&rt, alloc, b"b"), key(&rt, alloc, b"e"));
-    let parts = [&first, &second];
+    let (b, e) = (key(&rt, alloc, b"b"), key(&rt, alloc, b"e"));
+    let wanted = [
+        (b"b".as_slice(), b"2".as_slice()),
+        (b"c", b"3"),
+        (b"d", b"4"),
+    ];
+    compare_range(&rt, alloc, (&b, Some(&e)), 2, &wanted);
+    let wanted = [(b"b".as_slice(), b"2".as_slice()), (b"d", b"4")];
+    compare_range(&rt, alloc, (&b, Some(&e)), 9, &wanted);
+}
 
-    let pairs = pairs_of(&rt, alloc, &parts, (&low, Some(&high)), writes, 2);
-    same(
-        &rt,
-        &pairs.expect(&rt, "memory"),
-        &[(b"b", b"2"), (b"c", b"3"), (b"d", b"4")],
-    );
-
-    let pairs = pairs_of(&rt, alloc, &parts, (&low, Some(&high)), writes, 9);
-    same(
-        &rt,
-        &pairs.expect(&rt, "memory"),
-        &[(b"b", b"2"), (b"d", b"4")],
-    );
-
-    let all = key(&rt, alloc, b"");
-    let pairs = pairs_of(&rt, alloc, &parts, (&all, None), writes, 9);
+#[test]
+fn all_pairs_are_in_the_range_of_all_keys(rt: HostRuntime) {
+    let alloc = heap(&rt, rt.alloc());
     let wanted = [
         (b"a".as_slice(), b"9".as_slice()),
         (b"b", b"2"),
         (b"d", b"4"),
         (b"e", b"5"),
     ];
-    same(&rt, &pairs.expect(&rt, "memory"), &wanted);
+    compare_range(&rt, alloc, (&key(&rt, alloc, b""), None), 9, &wanted);
 }
 
 #[test]

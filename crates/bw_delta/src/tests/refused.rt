@@ -2,6 +2,8 @@
 use super::making::{LONG, heap, key, leaf_of, pairs_of, value, value_of, write};
 use crate::{Action, Memory};
 use bw_memory::Alloc;
+use bw_model::{Pairs, Value};
+use std::process::Abort;
 
 /// Whether the growth of this number was refused. From now on none is.
 pub fn was_refused(alloc: Alloc, growth: u64) -> bool {
@@ -10,49 +12,61 @@ pub fn was_refused(alloc: Alloc, growth: u64) -> bool {
     left == 0 || left > growth
 }
 
+// What a delete and an insert leave of a value, where this growth is refused.
+fn read_value<R: Abort>(rt: &R, alloc: Alloc, growth: u64) -> Result<Option<Value>, Memory> {
+    let start = value(rt, alloc, LONG);
+    let delete = write(rt, alloc, 1, b"a", Action::Delete);
+    let insert = write(rt, alloc, 2, b"a", Action::Insert(value(rt, alloc, LONG)));
+    let late = write(rt, alloc, 9, b"a", Action::Delete);
+    alloc.refuse(growth);
+    value_of(rt, alloc, Some(&start), (&late, &insert, &delete), 9)
+}
+
 #[test]
 fn each_growth_of_a_value_is_refused(rt: HostRuntime) {
     let alloc = heap(&rt, rt.alloc());
-    let start = value(&rt, alloc, LONG);
-    let delete = write(&rt, alloc, 1, b"a", Action::Delete);
-    let insert = write(&rt, alloc, 2, b"a", Action::Insert(value(&rt, alloc, LONG)));
-    let late = write(&rt, alloc, 9, b"a", Action::Delete);
     for growth in 1..100 {
-        alloc.refuse(growth);
-        let left = value_of(&rt, alloc, Some(&start), (&late, &insert, &delete), 9);
-        let refused = was_refused(alloc, growth);
-        if !refused {
-            assert_eq!(rt; left.expect(&rt, "memory"), Some(value(&rt, alloc, LONG)));
+        let left = read_value(&rt, alloc, growth);
+        if !was_refused(alloc, growth) {
+            let left = left.expect(&rt, "memory");
+            assert!(rt; left == Some(value(&rt, alloc, LONG)));
             assert_eq!(rt; growth, 3);
             return;
         }
-        assert_eq!(rt; left, Err(Memory), "growth {growth}");
+        assert!(rt; left.is_err());
     }
     panic!(rt; "no run met no refusal")
+}
+
+// What an insert and an update leave of a leaf, where this growth is refused.
+fn read_leaf<R: Abort>(rt: &R, alloc: Alloc, growth: u64) -> Result<Pairs, Memory> {
+    let leaf = leaf_of(rt, alloc, LONG);
+    let low = key(rt, alloc, b"");
+    let insert = write(rt, alloc, 2, LONG, Action::Insert(value(rt, alloc, LONG)));
+    let update = write(rt, alloc, 1, b"a", Action::Update(value(rt, alloc, LONG)));
+    let late = write(rt, alloc, 9, b"a", Action::Delete);
+    alloc.refuse(growth);
+    pairs_of(
+        rt,
+        alloc,
+        &[&leaf],
+        (&low, None),
+        (&late, &insert, &update),
+        9,
+    )
 }
 
 #[test]
 fn each_growth_of_a_leaf_is_refused(rt: HostRuntime) {
     let alloc = heap(&rt, rt.alloc());
-    let leaf = leaf_of(&rt, alloc, LONG);
-    let low = key(&rt, alloc, b"");
-    let insert = write(&rt, alloc, 2, LONG, Action::Insert(value(&rt, alloc, LONG)));
-    let update = write(&rt, alloc, 1, b"a", Action::Update(value(&rt, alloc, LONG)));
-    let late = write(&rt, alloc, 9, b"a", Action::Delete);
     for growth in 1..100 {
-        alloc.refuse(growth);
-        let writes = (&late, &insert, &update);
-        let left = pairs_of(&rt, alloc, &[&leaf], (&low, None), writes, 9);
-        let refused = was_refused(alloc, growth);
-        match left {
-            Ok(pairs) => {
-                assert!(rt; !refused);
-                assert_eq!(rt; pairs.as_slice().len(), 2);
-                assert!(rt; growth > 5);
-                return;
-            }
-            Err(Memory) => assert!(rt; refused, "growth {growth}"),
+        let left = read_leaf(&rt, alloc, growth);
+        if !was_refused(alloc, growth) {
+            assert_eq!(rt; left.expect(&rt, "memory").as_slice().len(), 2);
+            assert!(rt; growth > 5);
+            return;
         }
+        assert!(rt; left.is_err());
     }
     panic!(rt; "no run met no refusal")
 }

@@ -1,5 +1,5 @@
 // The pairs of a page as of stamps that rise.
-use super::making::{LONG, are_apart, heap, key, leaf_of, same, value, write};
+use super::making::{LONG, are, are_apart, heap, key, leaf_of, value, write};
 use super::refused::was_refused;
 use crate::{Action, Memory, Replay, Write};
 use bw_key::Key;
@@ -27,33 +27,58 @@ fn last(alloc: Alloc, replay: &Replay, high: &Key, most: u64) -> Result<Pairs, M
 fn compare_ends<R: Abort>(rt: &R, alloc: Alloc, replay: &Replay) {
     let (a, b) = (key(rt, alloc, b"a"), key(rt, alloc, b"b"));
     let pairs = first(alloc, replay, &a, 9).expect(rt, "memory");
-    same(rt, &pairs, &[(b"a", b"1"), (b"b", b"2")]);
+    assert!(rt; are(&pairs, &[(b"a", b"1"), (b"b", b"2")]));
     let pairs = first(alloc, replay, &a, 1).expect(rt, "memory");
-    same(rt, &pairs, &[(b"a", b"1")]);
+    assert!(rt; are(&pairs, &[(b"a", b"1")]));
     let pairs = first(alloc, replay, &b, 9).expect(rt, "memory");
-    same(rt, &pairs, &[(b"b", b"2")]);
+    assert!(rt; are(&pairs, &[(b"b", b"2")]));
     let pairs = first(alloc, replay, &b, 0).expect(rt, "memory");
-    same(rt, &pairs, &[]);
+    assert!(rt; are(&pairs, &[]));
     let high = key(rt, alloc, b"c");
     let pairs = last(alloc, replay, &high, 9).expect(rt, "memory");
-    same(rt, &pairs, &[(b"b", b"2"), (b"a", b"1")]);
+    assert!(rt; are(&pairs, &[(b"b", b"2"), (b"a", b"1")]));
     let pairs = last(alloc, replay, &b, 9).expect(rt, "memory");
-    same(rt, &pairs, &[(b"a", b"1")]);
+    assert!(rt; are(&pairs, &[(b"a", b"1")]));
     let pairs = last(alloc, replay, &high, 1).expect(rt, "memory");
-    same(rt, &pairs, &[(b"b", b"2")]);
+    assert!(rt; are(&pairs, &[(b"b", b"2")]));
+}
+
+// The leaf of all keys: a 1, b 2.
+fn a_and_b<R: Abort>(rt: &R, alloc: Alloc) -> Leaf {
+    let pairs = vec![in alloc;
+        (key(rt, alloc, b"a"), value(rt, alloc, b"1")),
+        (key(rt, alloc, b"b"), value(rt, alloc, b"2")),
+    ];
+    let pairs = Pairs::from_vec(pairs.expect(rt, "the pairs"));
+    Leaf::from_pairs(key(rt, alloc, b""), None, None, pairs)
 }
 
 #[test]
-fn a_replay_reads_from_both_ends(rt: HostRuntime) {
+fn a_leaf_is_read_from_both_ends(rt: HostRuntime) {
     let alloc = heap(&rt, rt.alloc());
-    let pairs = vec![in alloc;
-        (key(&rt, alloc, b"a"), value(&rt, alloc, b"1")),
-        (key(&rt, alloc, b"b"), value(&rt, alloc, b"2")),
-    ];
-    let pairs = Pairs::from_vec(pairs.expect(&rt, "the pairs"));
-    let leaf = Leaf::from_pairs(key(&rt, alloc, b""), None, None, pairs);
+    let leaf = a_and_b(&rt, alloc);
     let replay = Replay::new(alloc, &[&leaf], None, &[]).expect(&rt, "memory");
     compare_ends(&rt, alloc, &replay);
+}
+
+#[test]
+fn a_leaf_under_a_write_is_read_from_both_ends(rt: HostRuntime) {
+    let alloc = heap(&rt, rt.alloc());
+    let leaf = leaf_of(&rt, alloc, b"1");
+    let insert = write(&rt, alloc, 0, b"b", Action::Insert(value(&rt, alloc, b"2")));
+    let mut replay = Replay::new(alloc, &[&leaf], None, &[&insert]).expect(&rt, "memory");
+    replay.advance(1).expect(&rt, "memory");
+    compare_ends(&rt, alloc, &replay);
+}
+
+#[test]
+fn a_leaf_without_writes_is_read_where_it_stands(rt: HostRuntime) {
+    let alloc = heap(&rt, rt.alloc());
+    let leaf = a_and_b(&rt, alloc);
+    alloc.refuse(1);
+    let mut replay = Replay::new(alloc, &[&leaf], None, &[]).expect(&rt, "memory");
+    replay.advance(9).expect(&rt, "memory");
+    assert_eq!(rt; alloc.left(), 1);
 }
 
 // What an update to 3 at 7, a delete at 2 and an insert of 9 at 5 leave of a 4 at `a`, as of stamps that rise.
@@ -81,8 +106,8 @@ fn compare<'a, R: Abort>(
         assert_eq!(rt; replay.stamp(), stamp);
         let pairs = first(alloc, &replay, &least, 9).expect(rt, "memory");
         match wanted {
-            Some(value) => same(rt, &pairs, &[(b"a", value)]),
-            None => same(rt, &pairs, &[]),
+            Some(value) => assert!(rt; are(&pairs, &[(b"a", value)])),
+            None => assert!(rt; are(&pairs, &[])),
         }
     }
 }
@@ -112,28 +137,29 @@ fn read_at<'a, R: Abort>(
     first(alloc, &replay, least, 9)
 }
 
+// What an insert and an update leave of a leaf, where this growth is refused.
+fn read_leaf<R: Abort>(rt: &R, alloc: Alloc, growth: u64) -> Result<Pairs, Memory> {
+    let leaf = leaf_of(rt, alloc, LONG);
+    let least = key(rt, alloc, b"");
+    let insert = write(rt, alloc, 2, LONG, Action::Insert(value(rt, alloc, LONG)));
+    let update = write(rt, alloc, 1, b"a", Action::Update(value(rt, alloc, LONG)));
+    let late = write(rt, alloc, 9, b"a", Action::Delete);
+    alloc.refuse(growth);
+    read_at(rt, alloc, &leaf, &least, (&late, &insert, &update))
+}
+
 #[test]
 fn each_growth_of_a_replay_is_refused(rt: HostRuntime) {
     let alloc = heap(&rt, rt.alloc());
-    let leaf = leaf_of(&rt, alloc, LONG);
-    let least = key(&rt, alloc, b"");
-    let insert = write(&rt, alloc, 2, LONG, Action::Insert(value(&rt, alloc, LONG)));
-    let update = write(&rt, alloc, 1, b"a", Action::Update(value(&rt, alloc, LONG)));
-    let late = write(&rt, alloc, 9, b"a", Action::Delete);
     for growth in 1..100 {
-        alloc.refuse(growth);
-        let writes = (&late, &insert, &update);
-        let outcome = read_at(&rt, alloc, &leaf, &least, writes);
-        let refused = was_refused(alloc, growth);
-        match outcome {
-            Ok(pairs) => {
-                assert!(rt; !refused);
-                assert!(rt; growth > 5);
-                same(&rt, &pairs, &[(b"a", LONG), (LONG, LONG)]);
-                return;
-            }
-            Err(Memory) => assert!(rt; refused, "growth {growth}"),
+        let left = read_leaf(&rt, alloc, growth);
+        if !was_refused(alloc, growth) {
+            let pairs = left.expect(&rt, "memory");
+            assert!(rt; are(&pairs, &[(b"a", LONG), (LONG, LONG)]));
+            assert!(rt; growth > 5);
+            return;
         }
+        assert!(rt; left.is_err());
     }
     panic!(rt; "no run met no refusal")
 }

@@ -13,15 +13,15 @@ fn a_leaf_that_was_read_is_found_without_the_tree(rt: HostRuntime) {
     let c = key(&rt, alloc, b"c");
     let d = key(&rt, alloc, b"d");
     let e = key(&rt, alloc, b"e");
-    assert_eq!(rt; scans.kept_home(&d), None);
-    assert_eq!(rt; scans.kept_before(Some(&e)), None);
+    assert!(rt; scans.kept_home(&d).is_none());
+    assert!(rt; scans.kept_before(Some(&e)).is_none());
     scans.scan(&c, Some(&d), 9, 0).expect(&rt, "memory");
-    assert_eq!(rt; scans.kept_home(&c), Some(PageId(1)));
-    assert_eq!(rt; scans.kept_home(&d), Some(PageId(1)));
-    assert_eq!(rt; scans.kept_home(&b), None);
-    assert_eq!(rt; scans.kept_home(&e), None);
-    assert_eq!(rt; scans.kept_before(Some(&e)), Some(PageId(1)));
-    assert_eq!(rt; scans.kept_before(Some(&d)), Some(PageId(1)));
-    assert_eq!(rt; scans.kept_before(Some(&c)), None);
-    assert_eq!(rt; scans.kept_before(None), None);
+    assert!(rt; scans.kept_home(&c) == Some(PageId(1)));
+    assert!(rt; scans.kept_home(&d) == Some(PageId(1)));
+    assert!(rt; scans.kept_home(&b).is_none());
+    assert!(rt; scans.kept_home(&e).is_none());
+    assert!(rt; scans.kept_before(Some(&e)) == Some(PageId(1)));
+    assert!(rt; scans.kept_before(Some(&d)) == Some(PageId(1)));
+    assert!(rt; scans.kept_before(Some(&c)).is_none());
+    assert!(rt; scans.kept_before(None).is_none());
 }

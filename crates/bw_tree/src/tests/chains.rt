@@ -41,12 +41,12 @@ fn the_one_growth_of_a_list_of_writes_is_refused(rt: HostRuntime) {
     let alloc = heap(&rt, rt.alloc());
     let chains = two_writes(&rt, alloc);
     alloc.refuse(1);
-    assert_eq!(rt; chains.writes(alloc, FLOOR + 1).err(), Some(Memory));
+    assert!(rt; chains.writes(alloc, FLOOR + 1).err() == Some(Memory));
     assert_eq!(rt; alloc.left(), 0);
     alloc.refuse(2);
     let writes = chains.writes(alloc, FLOOR + 1).expect(&rt, "memory");
     assert_eq!(rt; alloc.left(), 1);
     assert_eq!(rt; writes.len(), 2);
-    assert_eq!(rt; writes[0].stamp, 1);
-    assert_eq!(rt; writes[1].stamp, 0);
+    assert!(rt; writes[0].stamp == 1);
+    assert!(rt; writes[1].stamp == 0);
 }

@@ -9,7 +9,7 @@ use std::process::Abort;
 fn three_leaves_are_folded_into_three(rt: HostRuntime) {
     let alloc = heap(&rt, rt.alloc());
     let mut tree = three_leaves(&rt, alloc);
-    assert_eq!(rt; tree.fold(), Ok(4));
+    assert!(rt; tree.fold() == Ok(4));
     stands(&rt, &tree, 3, &[0, 1, 2, 3], 0);
     has(
         &rt,
@@ -24,7 +24,7 @@ fn three_leaves_are_folded_into_three(rt: HostRuntime) {
 fn one_leaf_is_folded_into_one(rt: HostRuntime) {
     let alloc = heap(&rt, rt.alloc());
     let mut tree = Tree::from_level(alloc, one_leaf(&rt, alloc)).expect(&rt, "memory");
-    assert_eq!(rt; tree.fold(), Ok(1));
+    assert!(rt; tree.fold() == Ok(1));
     stands(&rt, &tree, 0, &[0], 0);
     has(&rt, alloc, &tree, 0, &[(b"a", Some(b"1")), (b"b", None)]);
 }
@@ -35,11 +35,7 @@ fn fold_refused<R: Abort>(rt: &R, alloc: Alloc, growth: u64) -> bool {
     alloc.refuse(growth);
     let folded = tree.fold();
     let refused = was_refused(alloc, growth);
-    assert_eq!(rt;
-        folded,
-        if refused { Err(Memory) } else { Ok(4) },
-        "growth {growth}"
-    );
+    assert!(rt; folded == if refused { Err(Memory) } else { Ok(4) });
     stands(rt, &tree, 3, &[0, 1, 2, 3], 0);
     has(
         rt,

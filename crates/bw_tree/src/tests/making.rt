@@ -119,10 +119,32 @@ pub fn three_leaves<R: Abort>(rt: &R, alloc: Alloc) -> Tree
 
 /// Compares the identifiers of a tree's root, its mapping words, and how many records it has. Its next stamp is 0.
 pub fn stands<R: Abort>(rt: &R, tree: &Tree, root: u32, heads: &[u64], records: usize) {
-    assert_eq!(rt; tree.root(), PageId(root));
-    assert_eq!(rt; tree.heads(), heads);
+    assert!(rt; tree.root() == PageId(root));
+    assert!(rt; tree.heads() == heads);
     assert_eq!(rt; tree.records(), records);
     assert_eq!(rt; tree.next_stamp(), 0);
+}
+
+/// Whether pairs have these bytes.
+pub fn are(pairs: &[(Key, Value)], wanted: &[(&'static [u8], &'static [u8])]) -> bool {
+    if pairs.len() != wanted.len() {
+        return false;
+    }
+    for (pair, (key, value)) in pairs.iter().zip(wanted) {
+        if pair.0.bytes() != *key || pair.1.bytes() != *value {
+            return false;
+        }
+    }
+    true
+}
+
+// Whether a value has these bytes, or there is none.
+fn is(value: Option<&Value>, wanted: Option<&'static [u8]>) -> bool {
+    match (value, wanted) {
+        (Some(value), Some(bytes)) => value.bytes() == bytes,
+        (None, None) => true,
+        _ => false,
+    }
 }
 
 // Compares the value at a key as of a stamp.
@@ -137,11 +159,7 @@ fn has_at<R: Abort>(
     let found = tree
         .value_at(&key(rt, alloc, bytes), stamp)
         .expect(rt, "memory");
-    assert_eq!(rt;
-        found.as_ref().map(|value| value.bytes()),
-        wanted,
-        "as of {stamp}"
-    );
+    assert!(rt; is(found.as_ref(), wanted));
 }
 
 /// Compares the values at keys as of a stamp.

@@ -2,7 +2,7 @@
 ghost use Rattle.std.specs.List.{Contains};
 ghost use Rattle.bw_tree.specs.Levels.{row};
 
-use super::making::{heap, key, three_leaves};
+use super::making::{are, heap, key, three_leaves};
 use crate::{Leaf, PageId, Tree};
 use bw_memory::Alloc;
 use std::process::Abort;
@@ -16,12 +16,8 @@ fn leaf_at<R: Abort>(rt: &R, alloc: Alloc, tree: &Tree, bytes: &[u8]) -> PageId
 
 // Compares a leaf's low key and pairs.
 fn is_leaf<R: Abort>(rt: &R, leaf: &Leaf, low: &[u8], wanted: &[(&'static [u8], &'static [u8])]) {
-    assert_eq!(rt; leaf.low().bytes(), low);
-    assert_eq!(rt; leaf.pairs().len(), wanted.len());
-    for (pair, (key, value)) in leaf.pairs().iter().zip(wanted) {
-        assert_eq!(rt; pair.0.bytes(), *key);
-        assert_eq!(rt; pair.1.bytes(), *value);
-    }
+    assert!(rt; leaf.low().bytes() == low);
+    assert!(rt; are(leaf.pairs(), wanted));
 }
 
 #[test]
@@ -47,7 +43,7 @@ fn each_leaf_ends_where_the_next_begins(rt: HostRuntime) {
     ];
     for (bytes, end) in wanted {
         let page = leaf_at(&rt, alloc, &tree, bytes);
-        assert_eq!(rt; tree.end(page).map(|key| key.bytes()), end);
+        assert!(rt; tree.end(page).map(|key| key.bytes()) == end);
     }
 }
 

@@ -1,28 +1,19 @@
 // Scans over three leaves.
-use super::making::{heap, key, three_leaves};
+use super::making::{are, heap, key, three_leaves};
 use super::refused::was_refused;
 use crate::{Memory, Scans};
 use bw_memory::Alloc;
 use bw_model::Pairs;
 use std::process::Abort;
 
-// Compares pairs with the bytes of the wanted ones.
-fn are<R: Abort>(rt: &R, pairs: &Pairs, wanted: &[(&'static [u8], &'static [u8])]) {
-    assert_eq!(rt; pairs.as_slice().len(), wanted.len());
-    for (pair, (key, value)) in pairs.as_slice().iter().zip(wanted) {
-        assert_eq!(rt; pair.0.bytes(), *key);
-        assert_eq!(rt; pair.1.bytes(), *value);
-    }
-}
-
-// The same of the pairs that a scan answered.
+// Compares the pairs that a scan answered with the wanted ones.
 fn has_pairs<R: Abort>(
     rt: &R,
     pairs: Result<Pairs, Memory>,
     wanted: &[(&'static [u8], &'static [u8])],
 ) {
     let pairs = pairs.expect(rt, "the pairs");
-    are(rt, &pairs, wanted);
+    assert!(rt; are(pairs.as_slice(), wanted));
 }
 
 #[test]
@@ -155,18 +146,18 @@ fn growths<R: Abort>(rt: &R, alloc: Alloc, scans: &mut Scans) -> u64 {
 }
 
 #[test]
-fn a_leaf_is_put_in_a_map_once(rt: HostRuntime) {
+fn a_leaf_is_sought_and_kept_once(rt: HostRuntime) {
     let alloc = heap(&rt, rt.alloc());
     let tree = three_leaves(&rt, alloc);
     let mut scans = Scans::new(alloc, &tree);
     let first = growths(&rt, alloc, &mut scans);
     let second = growths(&rt, alloc, &mut scans);
-    assert!(rt; first > 3);
+    assert!(rt; first > 1);
     assert_eq!(rt; second, 1);
 }
 
 #[test]
-fn each_growth_of_a_scan_is_refused(rt: HostRuntime) {
+fn a_scan_of_leaves_without_writes_takes_memory_for_its_answer_alone(rt: HostRuntime) {
     let alloc = heap(&rt, rt.alloc());
     let tree = three_leaves(&rt, alloc);
     let from = key(&rt, alloc, b"b");
@@ -175,16 +166,16 @@ fn each_growth_of_a_scan_is_refused(rt: HostRuntime) {
         let pairs = tree.scan_at(&from, None, 9, 0);
         if !was_refused(alloc, growth) {
             has_pairs(&rt, pairs, &[(b"b", b"2"), (b"c", b"3"), (b"e", b"5")]);
-            assert!(rt; growth > 3);
+            assert_eq!(rt; growth, 2);
             return;
         }
-        assert!(rt; pairs.is_err(), "growth {growth}");
+        assert!(rt; pairs.is_err());
     }
     panic!(rt; "no run met no refusal")
 }
 
 #[test]
-fn each_growth_of_a_scan_back_is_refused(rt: HostRuntime) {
+fn so_does_a_scan_back(rt: HostRuntime) {
     let alloc = heap(&rt, rt.alloc());
     let tree = three_leaves(&rt, alloc);
     let from = key(&rt, alloc, b"b");
@@ -193,10 +184,10 @@ fn each_growth_of_a_scan_back_is_refused(rt: HostRuntime) {
         let pairs = tree.rscan_at(&from, None, 9, 0);
         if !was_refused(alloc, growth) {
             has_pairs(&rt, pairs, &[(b"e", b"5"), (b"c", b"3"), (b"b", b"2")]);
-            assert!(rt; growth > 3);
+            assert_eq!(rt; growth, 2);
             return;
         }
-        assert!(rt; pairs.is_err(), "growth {growth}");
+        assert!(rt; pairs.is_err());
     }
     panic!(rt; "no run met no refusal")
 }

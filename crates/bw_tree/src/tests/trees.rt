@@ -39,7 +39,7 @@ fn each_key_is_sought_in_the_leaf_whose_range_has_it(rt: HostRuntime) {
         (b"z", 2),
     ];
     for (bytes, page) in wanted {
-        assert_eq!(rt; tree.route(&key(&rt, alloc, bytes)), PageId(page));
+        assert!(rt; tree.route(&key(&rt, alloc, bytes)) == PageId(page));
     }
     assert_eq!(rt; alloc.left(), 1);
 }
@@ -50,7 +50,7 @@ fn one_leaf_is_the_root(rt: HostRuntime) {
     let tree = Tree::from_level(alloc, one_leaf(&rt, alloc)).expect(&rt, "memory");
     stands(&rt, &tree, 0, &[0], 0);
     has(&rt, alloc, &tree, 0, &[(b"a", Some(b"1")), (b"b", None)]);
-    assert_eq!(rt; tree.route(&key(&rt, alloc, b"b")), PageId(0));
+    assert!(rt; tree.route(&key(&rt, alloc, b"b")) == PageId(0));
 }
 
 #[test]
@@ -59,7 +59,7 @@ fn a_new_tree_is_empty(rt: HostRuntime) {
     let tree = Tree::new(alloc).expect(&rt, "memory");
     stands(&rt, &tree, 0, &[0], 0);
     has(&rt, alloc, &tree, 0, &[(b"", None), (b"a", None)]);
-    assert_eq!(rt; tree.route(&key(&rt, alloc, b"")), PageId(0));
+    assert!(rt; tree.route(&key(&rt, alloc, b"")) == PageId(0));
 }
 
 // Two writes and a scan: upsert c 9, delete e, scan % * 9.
@@ -97,18 +97,18 @@ fn a_staged_batch_is_undone(rt: HostRuntime) {
     alloc.refuse(0);
     stands(&rt, &tree, 3, &[0, 1, 2, 3], 0);
     has(&rt, alloc, &tree, 2, &AT_FIRST);
-    assert_eq!(rt; tree.stage(&batch(&rt, alloc)), Ok(staged));
+    assert!(rt; tree.stage(&batch(&rt, alloc)) == Ok(staged));
 }
 
 #[test]
 fn a_batch_is_staged_until_it_is_undone(rt: HostRuntime) {
     let alloc = heap(&rt, rt.alloc());
     let mut tree = three_leaves(&rt, alloc);
-    assert_eq!(rt; tree.staged(), None);
+    assert!(rt; tree.staged().is_none());
     let staged = tree.stage(&batch(&rt, alloc)).expect(&rt, "memory");
-    assert_eq!(rt; tree.staged(), Some(staged));
+    assert!(rt; tree.staged() == Some(staged));
     tree.undo();
-    assert_eq!(rt; tree.staged(), None);
+    assert!(rt; tree.staged().is_none());
 }
 
 // Compares a staged write, by its place. One that isn't staged is a fault.
@@ -117,7 +117,7 @@ fn has_staged<R: Abort>(rt: &R, tree: &Tree, place: u64, wanted: &Write) {
     if place >= staged.records {
         panic!(rt; "{place} is past the staged writes");
     }
-    assert_eq!(rt; *tree.staged_write(place), *wanted);
+    assert!(rt; *tree.staged_write(place) == *wanted);
 }
 
 #[test]
@@ -149,13 +149,13 @@ fn a_batch_of_reads_has_no_record(rt: HostRuntime) {
     let alloc = heap(&rt, rt.alloc());
     let mut tree = three_leaves(&rt, alloc);
     let staged = tree.stage(&[Op::Get(key(&rt, alloc, b"a"))]);
-    assert_eq!(rt;
-        staged,
-        Ok(Staged {
-            base: 0,
-            floor: 4294967296,
-            records: 0
-        })
+    assert!(rt;
+        staged
+            == Ok(Staged {
+                base: 0,
+                floor: 4294967296,
+                records: 0
+            })
     );
     stands(&rt, &tree, 3, &[0, 1, 2, 3], 0);
 }

@@ -1,5 +1,5 @@
 use Rattle.std.specs.List.{IsDistinct}
-use Rattle.bw_delta.proofs.tests.replays.a_replay_reads_from_both_ends.Goals as goal
+use Rattle.bw_delta.proofs.tests.replays.a_leaf_is_read_from_both_ends.Goals as goal
 
 -- no two of no writes have one stamp
 pub new-requires : goal.new-requires
