@@ -2,7 +2,7 @@
 ghost use Rattle.std.specs.Prelude.{◌<◌};
 
 use super::making::{answered, answered_in_parts, batch, heap, homed, reads, three, wanted};
-use crate::parts::count_parts;
+use crate::parts::{count_parts, parts};
 use bw_memory::Alloc;
 use bw_model::Reply;
 use bw_page::PageId;
@@ -147,4 +147,15 @@ fn a_large_batch_has_a_part_for_each_worker(rt: HostRuntime) {
     assert_eq!(rt; count_parts(0, 128, 4), 2);
     assert_eq!(rt; count_parts(65536, 0, 4), 4);
     assert_eq!(rt; count_parts(65536, 0, 64), 64);
+}
+
+#[test]
+fn parts_are_alike_in_length(rt: HostRuntime) {
+    let alloc = heap(&rt, rt.alloc());
+    let parts = parts(alloc, 10, 3, 4).expect(&rt, "memory");
+    assert_eq!(rt; parts.len(), 4);
+    assert_eq!(rt; parts[0].points.end, 3);
+    assert_eq!(rt; parts[0].scans.end, 1);
+    assert_eq!(rt; parts[3].points.start, 9);
+    assert_eq!(rt; parts[3].scans.start, 3);
 }

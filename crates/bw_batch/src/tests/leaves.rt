@@ -137,7 +137,7 @@ fn long_batches_are_answered_alike_by_any_number_of_workers(rt: HostRuntime) {
     for workers in WORKERS {
         for piece in [1u64, 64, 4096] {
             let index = over_leaves(&rt, &make, workers, piece);
-            compare(&rt, &make, workers + piece, index, 2, 1500);
+            compare(&rt, &make, workers + piece, index, 3, 1000);
         }
     }
 }

@@ -81,6 +81,26 @@ fn a_leaf_without_writes_is_read_where_it_stands(rt: HostRuntime) {
     assert_eq!(rt; alloc.left(), 1);
 }
 
+#[test]
+fn a_leaf_is_read_where_it_stands_up_to_its_first_write(rt: HostRuntime) {
+    let alloc = heap(&rt, rt.alloc());
+    let leaf = leaf_of(&rt, alloc, b"1");
+    let delete = write(&rt, alloc, 5, b"a", Action::Delete);
+    let mut replay = Replay::new(alloc, &[&leaf], None, &[&delete]).expect(&rt, "memory");
+    alloc.refuse(1);
+    replay.advance(5).expect(&rt, "memory");
+    assert_eq!(rt; alloc.left(), 1);
+}
+
+#[test]
+fn of_two_parts_the_first_has_the_value(rt: HostRuntime) {
+    let alloc = heap(&rt, rt.alloc());
+    let (above, below) = (leaf_of(&rt, alloc, b"9"), a_and_b(&rt, alloc));
+    let replay = Replay::new(alloc, &[&above, &below], None, &[]).expect(&rt, "memory");
+    let pairs = first(alloc, &replay, &key(&rt, alloc, b""), 9).expect(&rt, "memory");
+    assert!(rt; are(&pairs, &[(b"a", b"9"), (b"b", b"2")]));
+}
+
 // What an update to 3 at 7, a delete at 2 and an insert of 9 at 5 leave of a 4 at `a`, as of stamps that rise.
 const LEFT: [(u64, Option<&'static [u8]>); 5] = [
     (2, Some(b"4")),

@@ -2,10 +2,11 @@
 ghost use Rattle.std.specs.Prelude.{◌≡◌, true};
 ghost use Rattle.bw_tree.specs.Stages.{is_adopted};
 
-use super::making::{batch, has, heap, holds, post, stands, three, upsert};
+use super::making::{batch, has, heap, holds, key, post, stands, three, upsert};
 use crate::{OpenGate, Tree, post_all};
 use bw_answer::Grouping;
 use bw_memory::Alloc;
+use bw_tree::Scans;
 use std::process::Abort;
 use std::thread::Threads;
 
@@ -98,6 +99,28 @@ fn writes_of_one_key_stand_in_one_chain(rt: HostRuntime) {
     has(&rt, alloc, &tree, 0, &[(b"a", None)]);
     has(&rt, alloc, &tree, 1, &[(b"a", Some(b"1"))]);
     has(&rt, alloc, &tree, 2, &[(b"a", Some(b"2"))]);
+}
+
+// How many growths a scan of all pairs behind the batch takes.
+fn growths<R: Abort>(rt: &R, alloc: Alloc, scans: &mut Scans) -> u64 {
+    let from = key(rt, alloc, b"");
+    alloc.refuse(1000);
+    let pairs = scans.scan(&from, None, 9, 2);
+    let left = alloc.left();
+    alloc.refuse(0);
+    assert_eq!(rt; pairs.expect(rt, "memory").as_slice().len(), 3);
+    1000u64.saturating_sub(left)
+}
+
+#[test]
+fn a_leaf_with_writes_is_put_in_a_map_once(rt: HostRuntime) {
+    let alloc = heap(&rt, rt.alloc());
+    let tree = adopted(&rt, alloc);
+    let mut scans = Scans::new(alloc, &tree);
+    let first = growths(&rt, alloc, &mut scans);
+    let second = growths(&rt, alloc, &mut scans);
+    assert!(rt; first > 4);
+    assert_eq!(rt; second, 1);
 }
 
 // Stages and posts a batch by so many workers where this growth is refused while posting. Whether it was.

@@ -2,7 +2,6 @@
 use super::making::{are, heap, key, three_leaves};
 use super::refused::was_refused;
 use crate::{Memory, Scans};
-use bw_memory::Alloc;
 use bw_model::Pairs;
 use std::process::Abort;
 
@@ -128,32 +127,6 @@ fn leaves_that_were_read_are_found_again(rt: HostRuntime) {
         &[(b"b", b"2")],
     );
     has_pairs(&rt, scans.scan_back(&d, None, 9, 0), &[(b"e", b"5")]);
-}
-
-// How many growths a scan of all pairs takes.
-fn growths<R: Abort>(rt: &R, alloc: Alloc, scans: &mut Scans) -> u64 {
-    let from = key(rt, alloc, b"");
-    alloc.refuse(1000);
-    let pairs = scans.scan(&from, None, 9, 0);
-    let left = alloc.left();
-    alloc.refuse(0);
-    has_pairs(
-        rt,
-        pairs,
-        &[(b"a", b"1"), (b"b", b"2"), (b"c", b"3"), (b"e", b"5")],
-    );
-    1000u64.saturating_sub(left)
-}
-
-#[test]
-fn a_leaf_is_sought_and_kept_once(rt: HostRuntime) {
-    let alloc = heap(&rt, rt.alloc());
-    let tree = three_leaves(&rt, alloc);
-    let mut scans = Scans::new(alloc, &tree);
-    let first = growths(&rt, alloc, &mut scans);
-    let second = growths(&rt, alloc, &mut scans);
-    assert!(rt; first > 1);
-    assert_eq!(rt; second, 1);
 }
 
 #[test]
