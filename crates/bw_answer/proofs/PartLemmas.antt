@@ -3,7 +3,7 @@ use Rattle.std.proofs.Common.{◌≡◌, ℕ, ◌-◌, List, [], ◌∷◌, ◌+
 use Rattle.std.specs.List.{AllByRecursion, flat_map}
 use Rattle.std.proofs.lemmas.Grind.{flat_map-append}
 use Rattle.std.proofs.lemmas.List.{append-nil}
-use Rattle.bw_answer.specs.Parts.{IsWithin, places_in, spanned}
+use Rattle.bw_answer.specs.Parts.{IsSpanOf, places_in, spanned}
 use Rattle.bw_answer.specs.declared.parts.Part.{Part}
 use Rattle.bw_answer.specs.declared.parts.Span.{Span}
 use Rattle.bw_answer.proofs.Lists.{all_append, all_back, all_drop, all_front, all_take, take_to}
@@ -12,7 +12,7 @@ use Rattle.bw_answer.proofs.Lists.{all_append, all_back, all_drop, all_front, al
 abbrev pub HaveTo : (Part → Span) → ℕ → List Part → ℕ → Type 0
 HaveTo span len parts n = (xs : List ℕ) → length xs ≡ len → flat_map (λ part. spanned (span part) xs) parts ≡ take n xs
 
-pub part_more : (span : Part → Span) (len : ℕ) (parts parts' : List Part) (n : ℕ) (part : Part) → HaveTo span len parts n → parts' ≡ parts ++ part ∷ [] → (span part).start ≡ n → IsWithin len (span part) → HaveTo span len parts' (span part).end
+pub part_more : (span : Part → Span) (len : ℕ) (parts parts' : List Part) (n : ℕ) (part : Part) → HaveTo span len parts n → parts' ≡ parts ++ part ∷ [] → (span part).start ≡ n → IsSpanOf len (span part) → HaveTo span len parts' (span part).end
 part_more span len parts parts' n part so is start within xs size =
     ap (flat_map (λ (p : Part). spanned (span p) xs)) is
     ∙ flat_map-append (λ (p : Part). spanned (span p) xs) parts (part ∷ [])

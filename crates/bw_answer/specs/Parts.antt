@@ -12,9 +12,9 @@ abbrev pub places_in : List ℕ → List ℕ → Part → List ℕ
 places_in points scans part = spanned part.points points ++ spanned part.scans scans
 
 -- the span lies within a list of this length
-abbrev pub IsWithin : ℕ → Span → Type 0
-IsWithin len span = (span.start ≤ span.end) × (span.end ≤ len)
+abbrev pub IsSpanOf : ℕ → Span → Type 0
+IsSpanOf len span = (span.start ≤ span.end) × (span.end ≤ len)
 
 -- a part of so many points and scans
 abbrev pub IsPartOf : ℕ → ℕ → Part → Type 0
-IsPartOf points scans part = IsWithin points part.points × IsWithin scans part.scans
+IsPartOf points scans part = IsSpanOf points part.points × IsSpanOf scans part.scans

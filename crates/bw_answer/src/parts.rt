@@ -1,7 +1,7 @@
 // The parts into which the points and the scans of a batch are cut, one for each task.
 ghost use Rattle.std.specs.Prelude.{◌≡◌, ℕ, ◌+◌, ◌<◌, ◌≤◌, List, length, IfOk, flat_map};
 ghost use Rattle.std.specs.List.{AllByRecursion};
-ghost use Rattle.bw_answer.specs.Parts.{IsPartOf, IsWithin, spanned};
+ghost use Rattle.bw_answer.specs.Parts.{IsPartOf, IsSpanOf, spanned};
 
 use bw_key::Memory;
 use bw_memory::Alloc;
@@ -69,7 +69,7 @@ fn next_span(start: usize, most: usize, len: usize) -> Span
     requires most { 0 < most }
     requires start { start ≤ len }
     ensures start { result.start ≡ start }
-    ensures within { IsWithin len result }
+    ensures within { IsSpanOf len result }
     ensures more { start < len → start < result.end }
 {
     let end = start + most.min(len - start);

@@ -14,6 +14,7 @@ ghost use Rattle.bw_answer.specs.declared.points.Point.{Point};
 use crate::points::{Grouping, Point};
 use bw_key::{Key, Memory};
 use bw_memory::Alloc;
+use bw_model::is_below;
 use bw_tree::{PageId, Tree};
 
 /// The page of each operation's key, by the operation's place in the batch: the tree's `route`. The page of an operation
@@ -86,11 +87,4 @@ fn run_end(points: &[Point<'_>], start: usize, end: Option<&Key>) -> usize
         }
     }
     points.len()
-}
-
-// Whether a key is below the end of a range.
-fn is_below(key: &Key, end: Option<&Key>) -> bool
-    ensures { result ≡ is_below_end (option_copied end.entry) key.now }
-{
-    end.is_none_or(|end| *key < *end)
 }

@@ -14,7 +14,7 @@ use Rattle.bw_key.specs.Order.{KeyBytes, key_cmp, key_eq, key_eq_equiv, key_ties
 use Rattle.bw_model.specs.Contents.{is_in_range, is_pair_in_range}
 use Rattle.bw_page.proofs.KeyOrder.{keys_tie}
 use Rattle.bw_page.specs.Leaves.{LeafView}
-use Rattle.bw_delta.specs.Pairs.{value_in}
+use Rattle.bw_delta.specs.Pairs.{value_in_parts}
 
 both_hold : (a b : Bool) → a ≡ true → T b → T (a && b)
 both_hold true b e h = h
@@ -81,12 +81,12 @@ module _ {V : Type 0} where
 
   -- and one that passes all but the last part
   pub value_last : (q : KeyBytes) (parts : List (LeafView V)) (part : LeafView V) (b : Option V) →
-      option_or (value_in parts q) (option_or (find key_cmp q part.pairs) b) ≡ option_or (value_in (parts ++ part ∷ []) q) b
+      option_or (value_in_parts parts q) (option_or (find key_cmp q part.pairs) b) ≡ option_or (value_in_parts (parts ++ part ∷ []) q) b
   value_last q [] part b = ap (λ o. option_or o b) (sym (or_none (find key_cmp q part.pairs)))
   value_last q (p ∷ parts) part b =
-      or_or (find key_cmp q p.pairs) (value_in parts q) (option_or (find key_cmp q part.pairs) b)
+      or_or (find key_cmp q p.pairs) (value_in_parts parts q) (option_or (find key_cmp q part.pairs) b)
       ∙ ap (option_or (find key_cmp q p.pairs)) (value_last q parts part b)
-      ∙ sym (or_or (find key_cmp q p.pairs) (value_in (parts ++ part ∷ []) q) b)
+      ∙ sym (or_or (find key_cmp q p.pairs) (value_in_parts (parts ++ part ∷ []) q) b)
 
 -- two facts on a result make a third
 pub both_ok : {X E : Type 0} {P Q R : X → Type 0} (r : Result X E) → ((x : X) → P x → Q x → R x) → IfOk r P → IfOk r Q → IfOk r R

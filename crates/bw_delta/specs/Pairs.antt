@@ -16,13 +16,13 @@ abbrev pub parts_of : List (Bor (LeafView ValueBytes)) → List (LeafView ValueB
 parts_of = map (λ part. part.now)
 
 -- the value at a key in the first part that has it
-abbrev pub value_in : {V : Type 0} → List (LeafView V) → KeyBytes → Option V
-value_in [] key = None
-value_in (part ∷ parts) key = option_or (find key_cmp key part.pairs) (value_in parts key)
+abbrev pub value_in_parts : {V : Type 0} → List (LeafView V) → KeyBytes → Option V
+value_in_parts [] key = None
+value_in_parts (part ∷ parts) key = option_or (find key_cmp key part.pairs) (value_in_parts parts key)
 
 -- the value at a key as of a stamp: the history of the writes there, over the value in the parts
 abbrev pub latest_value : List (LeafView ValueBytes) → List WriteView → ℕ → KeyBytes → Option ValueBytes
-latest_value parts writes stamp key = history (value_in parts key) (action_at (writes_to key writes)) stamp
+latest_value parts writes stamp key = history (value_in_parts parts key) (action_at (writes_to key writes)) stamp
 
 -- the sorted list of the keys of a range that have a value as of the stamp, each with it
 pub record ArePairsAsOf (parts : List (LeafView ValueBytes)) (low : KeyBytes) (high : Option KeyBytes) (writes : List WriteView) (stamp : ℕ) (pairs : List (KeyBytes × ValueBytes)) : Type 0 where

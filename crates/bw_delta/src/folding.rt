@@ -8,7 +8,7 @@ ghost use Rattle.bw_model.specs.Contents.{is_in_range, is_pair_in_range};
 ghost use Rattle.bw_model.specs.Actions.{effect};
 ghost use Rattle.bw_delta.specs.Batches.{writes_to};
 ghost use Rattle.bw_delta.specs.History.{history, action_at, pointed_to, HasDistinctStamps};
-ghost use Rattle.bw_delta.specs.Pairs.{ArePairsAsOf, parts_of, value_in};
+ghost use Rattle.bw_delta.specs.Pairs.{ArePairsAsOf, parts_of, value_in_parts};
 ghost use Rattle.bw_delta.specs.Readings.{from_stamp};
 ghost use Rattle.bw_delta.specs.Rising.{HasRisingStamps};
 
@@ -53,7 +53,7 @@ pub(crate) fn put_parts(
     high: Option<&Key>,
 ) -> Result<(), Memory>
     ensures inside { OnOk result ((q : KeyBytes) → is_in_range low.now (option_copied high.entry) q ≡ true →
-        tree.get key_cmp values.new q ≡ option_or (value_in (parts_of parts.now) q) (tree.get key_cmp values.old q)) }
+        tree.get key_cmp values.new q ≡ option_or (value_in_parts (parts_of parts.now) q) (tree.get key_cmp values.old q)) }
     ensures outside { OnOk result ((q : KeyBytes) → is_in_range low.now (option_copied high.entry) q ≡ false →
         tree.get key_cmp values.new q ≡ tree.get key_cmp values.old q) }
 {

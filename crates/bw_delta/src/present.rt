@@ -6,7 +6,7 @@ ghost use Rattle.bw_key.specs.Order.{KeyBytes, key_cmp};
 ghost use Rattle.bw_model.specs.Contents.{is_below_end, is_pair_in_range};
 ghost use Rattle.bw_delta.specs.Batches.{writes_to};
 ghost use Rattle.bw_delta.specs.History.{history, action_at, pointed_to};
-ghost use Rattle.bw_delta.specs.Pairs.{parts_of, value_in};
+ghost use Rattle.bw_delta.specs.Pairs.{parts_of, value_in_parts};
 ghost use Rattle.bw_delta.specs.Present.{present_pairs};
 ghost use Rattle.bw_delta.specs.Readings.{from_stamp};
 ghost use Rattle.bw_delta.specs.Rising.{HasRisingStamps};
@@ -36,7 +36,7 @@ impl<'a> Present<'a> {
         parts: &[&'a Leaf],
         high: Option<&Key>,
     ) -> Result<Present<'a>, Memory>
-        ensures { IfOk result (λ present. (q : KeyBytes) → T (is_below_end (option_copied high.entry) q) → find key_cmp q (present_pairs present) ≡ value_in (parts_of parts.now) q) }
+        ensures { IfOk result (λ present. (q : KeyBytes) → T (is_below_end (option_copied high.entry) q) → find key_cmp q (present_pairs present) ≡ value_in_parts (parts_of parts.now) q) }
     {
         if parts.len() == 1 {
             return Ok(Present::OnLeaf(parts[0]));
@@ -121,7 +121,7 @@ fn map_of(
     parts: &[&Leaf],
     high: Option<&Key>,
 ) -> Result<BTreeMap<Key, Value, Alloc>, Memory>
-    ensures { IfOk result (λ values. (q : KeyBytes) → T (is_below_end (option_copied high.entry) q) → find key_cmp q values.entries ≡ value_in (parts_of parts.now) q) }
+    ensures { IfOk result (λ values. (q : KeyBytes) → T (is_below_end (option_copied high.entry) q) → find key_cmp q values.entries ≡ value_in_parts (parts_of parts.now) q) }
 {
     let low = Key::new(alloc, &[]).unwrap();
     let mut values = BTreeMap::new(alloc);

@@ -9,7 +9,7 @@ ghost use Rattle.bw_delta.specs.Readings.{from_stamp};
 use crate::writes::Write;
 use bw_key::Memory;
 use bw_memory::Alloc;
-use bw_model::{Action, Value};
+use bw_model::Value;
 use std::marker::Model;
 
 /// The value at a key as of a stamp that rises, read from the key's writes in the order of their stamps. It copies
@@ -66,22 +66,6 @@ impl<'a> Reading<'a> {
         ensures { option_copied result ≡ self.now.value }
     {
         self.value
-    }
-
-    /// What was written with the very stamp, if anything was.
-    pub fn action(&self) -> Option<&'a Action>
-        ensures { option_copied result ≡ action_at self.now.rest self.now.stamp }
-    {
-        match self.rest.first() {
-            Some(write) => {
-                if write.stamp == self.stamp {
-                    Some(&write.action)
-                } else {
-                    None
-                }
-            }
-            None => None,
-        }
     }
 }
 

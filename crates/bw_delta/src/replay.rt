@@ -6,7 +6,7 @@ ghost use Rattle.bw_key.specs.Order.{KeyBytes, key_cmp};
 ghost use Rattle.bw_model.specs.Contents.{is_pair_in_range};
 ghost use Rattle.bw_model.specs.Values.{ValueBytes};
 ghost use Rattle.bw_delta.specs.History.{pointed_to, HasDistinctStamps};
-ghost use Rattle.bw_delta.specs.Pairs.{parts_of, value_in};
+ghost use Rattle.bw_delta.specs.Pairs.{parts_of, value_in_parts};
 ghost use Rattle.bw_delta.specs.Replays.{IsReplayOf};
 ghost use Rattle.bw_delta.specs.Writes.{WriteView};
 
@@ -61,7 +61,7 @@ impl<'a> Replay<'a> {
     ) -> Result<Replay<'a>, Memory>
         requires { HasDistinctStamps (pointed_to writes.now) }
         ensures stamp { IfOk result (λ replay. replay.stamp ≡ 0) }
-        ensures replay { IfOk result (IsReplayOf (value_in (parts_of parts.now)) (option_copied high.entry) (pointed_to writes.now)) }
+        ensures replay { IfOk result (IsReplayOf (value_in_parts (parts_of parts.now)) (option_copied high.entry) (pointed_to writes.now)) }
     {
         Ok(Replay {
             stamp: 0,

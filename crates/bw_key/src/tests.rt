@@ -17,12 +17,12 @@ fn keys_have_at_most_64_bytes(rt: HostRuntime) -> Result<(), Fail> {
     for len in [0, 1, 24, 25, 63, 64] {
         let bytes = &BYTES[..len];
         let key = Key::new(alloc, bytes)?;
-        assert_eq!(rt; key.bytes(), bytes);
+        assert!(rt; key.bytes() == bytes);
         let copy = key.copy()?;
-        assert_eq!(rt; copy.bytes(), bytes);
-        assert_eq!(rt; copy, key, "{len} bytes");
+        assert!(rt; copy.bytes() == bytes);
+        assert!(rt; copy == key);
     }
-    assert_eq!(rt; Key::new(alloc, &BYTES).err(), Some(KeyFault::TooLong(65)));
+    assert!(rt; Key::new(alloc, &BYTES).err() == Some(KeyFault::TooLong(65)));
     Ok(())
 }
 
@@ -46,13 +46,9 @@ fn keys_are_ordered_byte_by_byte(rt: HostRuntime) -> Result<(), Fail> {
         let lower = Key::new(alloc, lower)?;
         for (j, upper) in rising.iter().enumerate() {
             let upper = Key::new(alloc, upper)?;
-            assert_eq!(rt; lower.cmp(&upper), i.cmp(&j), "rows {i} and {j}");
-            assert_eq!(rt;
-                lower.partial_cmp(&upper),
-                Some(i.cmp(&j)),
-                "rows {i} and {j}"
-            );
-            assert_eq!(rt; lower == upper, i == j, "rows {i} and {j}");
+            assert!(rt; lower.cmp(&upper) == i.cmp(&j));
+            assert!(rt; lower.partial_cmp(&upper) == Some(i.cmp(&j)));
+            assert!(rt; (lower == upper) == (i == j));
         }
     }
     Ok(())
@@ -64,9 +60,9 @@ fn long_keys_are_ordered_as_short_ones(rt: HostRuntime) -> Result<(), Fail> {
     let short = Key::new(alloc, b"kl")?;
     let long = Key::new(alloc, &BYTES[..64])?;
     let prefix = Key::new(alloc, &BYTES[..24])?;
-    assert_eq!(rt; long.cmp(&short), Ordering::Less);
-    assert_eq!(rt; long.cmp(&prefix), Ordering::Greater);
-    assert_ne!(rt; long, prefix);
+    assert!(rt; long.cmp(&short) == Ordering::Less);
+    assert!(rt; long.cmp(&prefix) == Ordering::Greater);
+    assert!(rt; long != prefix);
     Ok(())
 }
 
@@ -76,7 +72,7 @@ fn short_keys_take_no_memory(rt: HostRuntime) -> Result<(), Fail> {
     alloc.refuse(1);
     for len in [0, 1, 23, 24] {
         let key = Key::new(alloc, &BYTES[..len])?;
-        assert_eq!(rt; key.copy()?, key);
+        assert!(rt; key.copy()? == key);
     }
     assert_eq!(rt; alloc.left(), 1);
     Ok(())
@@ -88,18 +84,18 @@ fn long_keys_want_one_growth(rt: HostRuntime) -> Result<(), Fail> {
     for len in [25, 64] {
         let bytes = &BYTES[..len];
         alloc.refuse(1);
-        assert_eq!(rt; Key::new(alloc, bytes).err(), Some(KeyFault::Memory));
+        assert!(rt; Key::new(alloc, bytes).err() == Some(KeyFault::Memory));
         assert_eq!(rt; alloc.left(), 0);
 
         alloc.refuse(2);
         let key = Key::new(alloc, bytes)?;
-        assert_eq!(rt; key.copy().err(), Some(Memory));
+        assert!(rt; key.copy().is_err());
         assert_eq!(rt; alloc.left(), 0);
-        assert_eq!(rt; key.bytes(), bytes);
-        assert_eq!(rt; key.copy()?, key);
+        assert!(rt; key.bytes() == bytes);
+        assert!(rt; key.copy()? == key);
     }
     alloc.refuse(1);
-    assert_eq!(rt; Key::new(alloc, &BYTES).err(), Some(KeyFault::TooLong(65)));
+    assert!(rt; Key::new(alloc, &BYTES).err() == Some(KeyFault::TooLong(65)));
     assert_eq!(rt; alloc.left(), 1);
     Ok(())
 }
@@ -112,7 +108,7 @@ fn a_long_key_has_as_many_bytes_of_memory(rt: HostRuntime) -> Result<(), Fail> {
         assert_eq!(rt; alloc.used(), 25);
         let _copy = key.copy()?;
         assert_eq!(rt; alloc.used(), 50);
-        assert_eq!(rt; key.copy().err(), Some(Memory));
+        assert!(rt; key.copy().is_err());
     }
     assert_eq!(rt; alloc.used(), 0);
     assert_eq!(rt; size_of::<Key>(), 48);
@@ -129,8 +125,8 @@ fn one_byte(alloc: Alloc) -> Result<Vec<u8, Alloc>, Memory> {
 fn a_refused_push_is_want_of_memory(rt: HostRuntime) -> Result<(), Fail> {
     let alloc = heap(&rt)?;
     alloc.refuse(1);
-    assert_eq!(rt; one_byte(alloc).err(), Some(Memory));
-    assert_eq!(rt; one_byte(alloc)?.as_slice(), [7].as_slice());
+    assert!(rt; one_byte(alloc).is_err());
+    assert!(rt; one_byte(alloc)?.as_slice() == [7].as_slice());
     Ok(())
 }
 

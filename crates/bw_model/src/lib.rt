@@ -6,6 +6,7 @@
 mod lists;
 mod operations;
 mod outcomes;
+mod ranges;
 mod reference;
 mod sorted;
 #[cfg(test)]
@@ -15,6 +16,7 @@ mod values;
 pub use lists::{Pairs, Replies};
 pub use operations::{Action, Op, Reply};
 pub use outcomes::Refusal;
+pub use ranges::is_below;
 pub use reference::ReferenceMap;
 pub use values::{VALUE_INLINE, VALUE_MAX, Value, ValueFault};
 

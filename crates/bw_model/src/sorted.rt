@@ -6,6 +6,7 @@ ghost use Rattle.bw_key.specs.Order.{key_cmp, key_eq};
 ghost use Rattle.bw_model.specs.Contents.{is_in_range, is_pair_in_range};
 ghost use Rattle.bw_model.specs.Sorted.{place_of, with_pick};
 
+use crate::ranges::is_below;
 use crate::values::Value;
 use bw_key::{Key, Memory};
 use bw_memory::Alloc;
@@ -67,7 +68,7 @@ pub(crate) fn remove_at(pairs: &mut Vec<(Key, Value), Alloc>, key: &Key)
 fn is_within(key: &Key, from: &Key, to: Option<&Key>) -> bool
     ensures { result ≡ is_in_range from.now (option_copied to.entry) key.now }
 {
-    *key >= *from && to.is_none_or(|to| *key < *to)
+    *key >= *from && is_below(key, to)
 }
 
 /// Adds a copy of the pair, where it is in the range and the list has less than `most`.

@@ -3,6 +3,7 @@
 mod actions;
 mod making;
 mod randomly;
+mod ranges;
 mod reference;
 mod refused;
 mod values;

@@ -15,20 +15,18 @@ use Rattle.bw_page.proofs.Search.{both, is_before, true_holds}
 behind : (q k m : KeyBytes) → is_lt (key_cmp k q) ≡ false → is_lt (key_cmp k m) ≡ true → is_lt (key_cmp m q) ≡ false
 behind q k m from above = upto_trans q k m from (below_back k m above)
 
+-- what passes one test and then another
+pub filter_filter : {X : Type 0} (f p : X → Bool) (xs : List X) → filter p (filter f xs) ≡ filter (λ x. f x && p x) xs
+filter_filter f p [] = refl
+filter_filter f p (x ∷ xs) = elim (f x) as (λ b. filter p (cond b (x ∷ filter f xs) (filter f xs)) ≡ cond (b && p x) (x ∷ filter (λ v. f v && p v) xs) (filter (λ v. f v && p v) xs)) [
+  | true ↦ ap (λ ys. cond (p x) (x ∷ ys) ys) (filter_filter f p xs)
+  | false ↦ filter_filter f p xs
+]
+
 module _ {X : Type 0} where
   -- whether an entry's key is from the given one on
   abbrev pub is_from : KeyBytes → KeyBytes × X → Bool
   is_from q e = not (is_before q e)
-
-  filter_twice : (p r : KeyBytes × X → Bool) (es : List (KeyBytes × X)) → filter (λ e. p e && r e) es ≡ filter r (filter p es)
-  filter_twice p r [] = refl
-  filter_twice p r (e ∷ es) = elim (p e) as (λ b. cond (b && r e) (e ∷ filter (λ e. p e && r e) es) (filter (λ e. p e && r e) es) ≡ filter r (cond b (e ∷ filter p es) (filter p es))) [
-    | true ↦ elim (r e) as (λ c. cond c (e ∷ filter (λ e. p e && r e) es) (filter (λ e. p e && r e) es) ≡ cond c (e ∷ filter r (filter p es)) (filter r (filter p es))) [
-      | true ↦ ap (λ xs. e ∷ xs) (filter_twice p r es)
-      | false ↦ filter_twice p r es
-    ]
-    | false ↦ filter_twice p r es
-  ]
 
   filter_always : (es : List (KeyBytes × X)) → filter (λ e. true) es ≡ es
   filter_always [] = refl
@@ -74,11 +72,11 @@ module _ {X : Type 0} where
   rest_of n es = take_all (length es - n) (drop n es) (omega (arith, length-drop n es))
 
   pub range_from : (low : KeyBytes) (es : List (KeyBytes × X)) → T (is_sorted key_cmp es) → filter (is_pair_in_range low None) es ≡ drop (place_of low es) es
-  range_from low es h = filter_twice (is_from low) (λ e. true) es ∙ filter_always (filter (is_from low) es) ∙ from_place low es h
+  range_from low es h = sym (filter_filter (is_from low) (λ e. true) es) ∙ filter_always (filter (is_from low) es) ∙ from_place low es h
 
   pub range_between : (low high : KeyBytes) (es : List (KeyBytes × X)) → T (is_sorted key_cmp es) →
       filter (is_pair_in_range low (Some high)) es ≡ take (place_of high (drop (place_of low es) es)) (drop (place_of low es) es)
   range_between low high es h =
-      filter_twice (is_from low) (is_before high) es
+      sym (filter_filter (is_from low) (is_before high) es)
       ∙ ap (filter (is_before high)) (from_place low es h)
       ∙ upto_place high (drop (place_of low es) es) (sorted_drop (place_of low es) es h)

@@ -16,7 +16,7 @@ use Rattle.bw_tree.specs.Stages.{IsPosted, IsPostedStage, IsPostedTo, IsStagedAs
 use Rattle.bw_tree.specs.View.{TreeView, StageView, staged_writes}
 use Rattle.bw_tree.specs.declared.staging.Staged.{Staged}
 use Rattle.bw_tree.specs.Levels.{IsOneHome}
-use Rattle.bw_post.specs.Posting.{ArePostedHome, IsHomeOf, IsOver, IsWaiting}
+use Rattle.bw_post.specs.Posting.{ArePostedHome, IsHomeOfRecord, IsOver, IsWaiting}
 
 -- nothing posted yet
 pub none_home : (tree : TreeView) (v : SeatView) → v.book.posted ≡ [] → ArePostedHome tree v
@@ -27,11 +27,11 @@ pub same_home : (tree : TreeView) (v w : SeatView) → w.book.posted ≡ v.book.
 same_home tree v w same h p r some = h p r (omega (arith, some, ap (posts_at p r) same))
 
 -- one more post, to the home of its record
-pub home_more : (tree : TreeView) (v w : SeatView) (r page lost : ℕ) (s : List ℕ) (x : ℕ) → w ≡ posted_over v r page lost s x → IsHomeOf tree r page → ArePostedHome tree v → ArePostedHome tree w
+pub home_more : (tree : TreeView) (v w : SeatView) (r page lost : ℕ) (s : List ℕ) (x : ℕ) → w ≡ posted_over v r page lost s x → IsHomeOfRecord tree r page → ArePostedHome tree v → ArePostedHome tree w
 home_more tree v w r page lost s x posted home h p q some = elim (cases_eq q r) [
   | inr other ↦ h p q (omega (arith, before, less (eqb page p) (eqb r q) (other_test q r other), some))
   | inl same ↦ elim (cases_eq p page) [
-    | inl here ↦ subst (λ (z : ℕ). IsHomeOf tree z p) (sym same) (subst (IsHomeOf tree r) (sym here) home)
+    | inl here ↦ subst (λ (z : ℕ). IsHomeOfRecord tree z p) (sym same) (subst (IsHomeOfRecord tree r) (sym here) home)
     | inr away ↦ h p q (omega (arith, before, elsewhere (eqb page p) (eqb r q) (other_test p page away), some))
   ]
 ]

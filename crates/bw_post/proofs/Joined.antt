@@ -14,7 +14,7 @@ use Rattle.bw_board.specs.Plays.{lost_in}
 use Rattle.bw_board.specs.Public.{BoardView, SeatView, IsSound}
 use Rattle.bw_board.specs.Working.{HasPostedAll}
 use Rattle.bw_tree.specs.View.{TreeView}
-use Rattle.bw_post.specs.Posting.{ArePostedHome, HasWorked, HasClaimedNothing, IsHomeOf, IsOver, IsTold, width_of}
+use Rattle.bw_post.specs.Posting.{ArePostedHome, HasWorked, HasClaimedNothing, IsHomeOfRecord, IsOver, IsTold, width_of}
 use Rattle.bw_post.specs.declared.workers.Worker.{Worker}
 use Rattle.bw_post.proofs.Homes.{none_home, same_home}
 use Rattle.bw_post.proofs.Lost.{lost_both, lost_few}
@@ -50,7 +50,7 @@ worked_both tree board a b w over first second both lost = record {
   homes = λ p r some. (
       let all : posts_at p r w.seat.book.posted ≡ posts_at p r a.seat.book.posted + posts_at p r b.seat.book.posted =
       ap (λ (v : SeatView). posts_at p r v.book.posted) both ∙ total-append (λ (x : Post). one_if (eqb x.page p && eqb x.rec r)) a.seat.book.posted b.seat.book.posted in
-      elim (cases_lt 0 (posts_at p r a.seat.book.posted)) as (λ c. IsHomeOf tree r p) [
+      elim (cases_lt 0 (posts_at p r a.seat.book.posted)) as (λ c. IsHomeOfRecord tree r p) [
         | inl here ↦ first.homes p r here
         | inr none ↦ second.homes p r (omega (arith, all, some, none))
       ]

@@ -36,12 +36,12 @@ abbrev pub AreHomes : TreeView → List ℕ → Type 0
 AreHomes tree homes = (r : ℕ) (w : WriteView) → slice_get (staged_writes tree.staged) r ≡ Some w → HasHome tree homes w
 
 -- the page is the home of a staged record
-abbrev pub IsHomeOf : TreeView → ℕ → ℕ → Type 0
-IsHomeOf tree r p = (w : WriteView) → slice_get (staged_writes tree.staged) r ≡ Some w → IsOneHome tree.slots tree.levels w.key p
+abbrev pub IsHomeOfRecord : TreeView → ℕ → ℕ → Type 0
+IsHomeOfRecord tree r p = (w : WriteView) → slice_get (staged_writes tree.staged) r ≡ Some w → IsOneHome tree.slots tree.levels w.key p
 
 -- what the seat posted is at home on its page
 abbrev pub ArePostedHome : TreeView → SeatView → Type 0
-ArePostedHome tree seat = (p r : ℕ) → 0 < posts_at p r seat.book.posted → IsHomeOf tree r p
+ArePostedHome tree seat = (p r : ℕ) → 0 < posts_at p r seat.book.posted → IsHomeOfRecord tree r p
 
 -- a worker who didn't claim yet
 pub record HasClaimedNothing (board : BoardView) (worker : Worker) : Type 0 where

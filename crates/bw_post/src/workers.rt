@@ -6,7 +6,7 @@ ghost use Rattle.bw_core.specs.World.{owns, total};
 ghost use Rattle.bw_board.specs.Plays.{lost_in};
 ghost use Rattle.bw_board.specs.Working.{HasLeft, HasPostedAll};
 ghost use Rattle.bw_tree.specs.View.{staged_writes};
-ghost use Rattle.bw_post.specs.Posting.{AreHomes, ArePostedHome, HasWorked, HasClaimedNothing, IsHomeOf, IsOver, IsTold, width_of};
+ghost use Rattle.bw_post.specs.Posting.{AreHomes, ArePostedHome, HasWorked, HasClaimedNothing, IsHomeOfRecord, IsOver, IsTold, width_of};
 
 use crate::gates::Gate;
 use bw_board::{Board, Seat};
@@ -145,7 +145,7 @@ fn home_at(tree: &Tree, pages: &[PageId], number: u64) -> PageId
     requires pages { AreHomes tree.now pages.now }
     requires there { number < length (staged_writes tree.now.staged) }
     ensures there { result < length tree.now.heads }
-    ensures home { IsHomeOf tree.now number result }
+    ensures home { IsHomeOfRecord tree.now number result }
 {
     let place = tree.staged_write(number).stamp - tree.next_stamp();
     pages[place as usize]

@@ -11,9 +11,9 @@ use Rattle.bw_model.specs.Contents.{Contents, is_below_end, is_in_range, pairs_o
 use Rattle.bw_model.specs.Values.{ValueBytes}
 use Rattle.bw_page.proofs.KeyOrder.{below_back, below_self, upto_trans}
 use Rattle.bw_delta.proofs.Maps.{sorted_in_range}
-use Rattle.bw_tree.specs.Slots.{Slot, PageState, Free, Gone, Live, slot_at}
+use Rattle.bw_tree.specs.Slots.{Slot, PageState, Free, Gone, Live, slot_at, has_key}
 use Rattle.bw_tree.specs.Levels.{row}
-use Rattle.bw_tree.specs.Scans.{Reaches, is_on}
+use Rattle.bw_tree.specs.Scans.{Reaches}
 use Rattle.bw_tree.specs.Before.{IsBefore, low_of}
 use Rattle.bw_tree.proofs.RangeLemmas.{one_then_other, all_of_those, none_of_those, first_of_front}
 use Rattle.bw_tree.proofs.BeforeLemmas.{upto_end}
@@ -97,10 +97,10 @@ from_on low k = not (is_lt (key_cmp k low))
 
 -- with a leaf before the end, the pairs from the leaf's low key on have been read
 pub passes_back : (slots : List Slot) (levels : List (List ℕ)) (m : Contents ValueBytes) (from : KeyBytes) (to end : Option KeyBytes) (p : ℕ) (read new : List (KeyBytes × ValueBytes)) → IsBefore slots levels end p → ScanningBack (pairs_of_range m from to) read from to end →
-    new ≡ read ++ reverse (where_key key_cmp (is_on (slot_at slots p)) (pairs_of_range m from end)) → new ≡ reverse (where_key key_cmp (from_on (low_of (slot_at slots p))) (pairs_of_range m from to))
+    new ≡ read ++ reverse (where_key key_cmp (has_key (slot_at slots p)) (pairs_of_range m from end)) → new ≡ reverse (where_key key_cmp (from_on (low_of (slot_at slots p))) (pairs_of_range m from to))
 passes_back slots levels m from to end p read new before h more =
     more
-    ∙ ap (λ (l : List (KeyBytes × ValueBytes)). l ++ reverse (where_key key_cmp (is_on (slot_at slots p)) (pairs_of_range m from end))) h.so_far
+    ∙ ap (λ (l : List (KeyBytes × ValueBytes)). l ++ reverse (where_key key_cmp (has_key (slot_at slots p)) (pairs_of_range m from end))) h.so_far
     ∙ ap (λ (l : List (KeyBytes × ValueBytes)). reverse (where_key key_cmp later all) ++ reverse l) (on_page ∙ sym here)
     ∙ sym (reverse-append (where_key key_cmp between all) (where_key key_cmp later all))
     ∙ ap reverse (one_then_other between later (from_on s.low)
@@ -148,11 +148,11 @@ passes_back slots levels m from to end p read new before h more =
     range_tests true false false true within = refl
     range_tests true false l false within = refl
 
-    on_page : where_key key_cmp (is_on (slot_at slots p)) (pairs_of_range m from end) ≡ where_key key_cmp (λ k. is_in_range from end k && from_on s.low k) (entries m)
+    on_page : where_key key_cmp (has_key (slot_at slots p)) (pairs_of_range m from end) ≡ where_key key_cmp (λ k. is_in_range from end k && from_on s.low k) (entries m)
     on_page =
-        both_tests (is_on (slot_at slots p)) (is_in_range from end) (λ k. is_in_range from end k && from_on s.low k)
+        both_tests (has_key (slot_at slots p)) (is_in_range from end) (λ k. is_in_range from end k && from_on s.low k)
         (λ k. page_tests (not (is_lt (key_cmp k from))) (is_below_end end k) (is_lt (key_cmp k s.low)) (is_below_end s.high k) (λ below. holds _ (before.reaches k (true_holds _ below)))
-        ∙ ap (λ (o : Slot). is_in_range from end k && is_on o k) (sym before.is)) (entries m)
+        ∙ ap (λ (o : Slot). is_in_range from end k && has_key o k) (sym before.is)) (entries m)
 
     here : where_key key_cmp between all ≡ where_key key_cmp (λ k. is_in_range from end k && from_on s.low k) (entries m)
     here =
@@ -272,7 +272,7 @@ pub record PassedBack (slots : List Slot) (levels : List (List ℕ)) (m : Conten
   pub less : leaves_before slots levels (Some low) < leaves_before slots levels end
 
 pub passed_back : (slots : List Slot) (levels : List (List ℕ)) (m : Contents ValueBytes) (from low : KeyBytes) (to end : Option KeyBytes) (p : ℕ) (read new : List (KeyBytes × ValueBytes)) → IsBefore slots levels end p → ScanningBack (pairs_of_range m from to) read from to end →
-    new ≡ read ++ reverse (where_key key_cmp (is_on (slot_at slots p)) (pairs_of_range m from end)) → low ≡ low_of (slot_at slots p) → PassedBack slots levels m from to end low new
+    new ≡ read ++ reverse (where_key key_cmp (has_key (slot_at slots p)) (pairs_of_range m from end)) → low ≡ low_of (slot_at slots p) → PassedBack slots levels m from to end low new
 passed_back slots levels m from low to end p read new before h more is = record {
   so_far = passes_back slots levels m from to end p read new before h more ∙ ap (λ (k : KeyBytes). reverse (where_key key_cmp (from_on k) (pairs_of_range m from to))) (sym is);
   starts = subst (λ (k : KeyBytes). T (is_below_end end k)) (sym (is ∙ ap low_of before.is)) before.starts;

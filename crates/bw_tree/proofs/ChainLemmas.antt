@@ -1,7 +1,10 @@
 -- Chains, one record after another.
-use Rattle.std.proofs.Common.{◌≡◌, ℕ, suc, ◌-◌, ◌<◌, ◌≤◌, true, cond, List, [], ◌∷◌, length, Option, Some, None, ltb, refl, sym, ap, ◌∙◌, subst, arith}
+use Rattle.std.proofs.Common.{◌≡◌, ℕ, suc, ◌-◌, ◌<◌, ◌≤◌, true, false, cond, List, [], ◌∷◌, length, Option, Some, None, ltb, refl, sym, ap, ◌∙◌, subst, arith}
 use Rattle.std.proofs.lemmas.Bool.Decides.{nat_tests}
+use Rattle.std.proofs.lemmas.Option.{slice_get-map}
+use Rattle.std.specs.Option.{option_map}
 use Rattle.std.specs.Prelude.{slice_get}
+use Rattle.bw_delta.specs.Arenas.{links_of}
 use Rattle.bw_delta.specs.Writes.{WriteView}
 use Rattle.bw_delta.specs.declared.deltas.Delta.{Delta}
 use Rattle.bw_delta.specs.declared.deltas.Delta.TheVariants.{Put, Split, Absorb, Removed, AddChild, DropChild}
@@ -14,16 +17,31 @@ use Rattle.bw_tree.proofs.WalkLemmas.{walked_is, ended_is, way_falls_within}
 pub link_is : (records : Records) (word : ℕ) (r : Delta × ℕ) → record_at records word ≡ Some r → link_of records word ≡ Some r.1
 link_is records word r at = ap linked_word at
 
+-- the link of a record is found among the links alone
+pub link_among : (records : Records) (word : ℕ) → 4294967296 ≤ word → slice_get (links_of records) (word - 4294967296) ≡ link_of records word
+link_among records word from =
+    let test : ltb word 4294967296 ≡ false = grind (arith, nat_tests) in
+    slice_get-map (λ (r : Delta × ℕ). r.1) records (word - 4294967296)
+    ∙ linked_as (slice_get records (word - 4294967296))
+    ∙ sym (ap (λ b. linked_word (cond b None (slice_get records (word - 4294967296)))) test)
+  where
+    linked_as : (o : Option (Delta × ℕ)) → option_map (λ r. r.1) o ≡ linked_word o
+    linked_as None = refl
+    linked_as (Some r) = refl
+
 pub no_record : (records : Records) (word : ℕ) → word < 4294967296 → record_at records word ≡ None
 no_record records word below =
     let test : ltb word 4294967296 ≡ true = grind (arith, nat_tests) in
     ap (λ b. cond b None (slice_get records (word - 4294967296))) test
 
-no_next : {q : ℕ} → None ≡ Some q → ⊥
+pub no_next : {q : ℕ} → None ≡ Some q → ⊥
 no_next e = cc
 
-same_next : {p q : ℕ} → Some p ≡ Some q → p ≡ q
+pub same_next : {p q : ℕ} → Some p ≡ Some q → p ≡ q
 same_next e = cc
+
+pub no_link : (records : Records) (word : ℕ) → word < 4294967296 → None ≡ link_of records word
+no_link records word below = sym (ap linked_word (no_record records word below))
 
 -- a link stands in a record
 pub linked : (records : Records) (word q : ℕ) → link_of records word ≡ Some q → (r : Delta × ℕ) × (record_at records word ≡ Some r) × (r.1 ≡ q)
@@ -131,6 +149,29 @@ under_put bases records word under_it d w ends at put =
       ends = subst (λ d. Below bases records d under_it) put u.ends;
       less = u.less;
     }
+
+-- a change over another one is a write
+write_over : (d : Delta) (ds : List Delta) → IsShaped (d ∷ ds) → (ds ≡ [] → ⊥) → (w : WriteView) × (d ≡ Put w)
+write_over (Put w) ds shaped more = (w, refl)
+write_over (Split k to) ds shaped more = absurd (more shaped)
+write_over (Absorb k base high side) ds shaped more = absurd shaped
+write_over (Removed left) ds shaped more = absurd shaped
+write_over (AddChild k child) ds shaped more = absurd shaped
+write_over (DropChild k) ds shaped more = absurd shaped
+
+-- so under a record that lies over another one is the rest of the chain
+pub over_record : (bases : Bases) (records : Records) (word under_it : ℕ) → Ends bases records word → link_of records word ≡ Some under_it → 4294967296 ≤ under_it → UnderPut bases records word under_it
+over_record bases records word under_it ends link from = by ends.0 ends.1.0 ends.1.1
+  where
+    by : (ws : List ℕ) (e : ℕ) → EndsAt bases records word ws e → UnderPut bases records word under_it
+    by [] e h = absurd (no_next (sym h.way.1 ∙ link))
+    by (w ∷ []) e h = absurd (omega (arith, from, h.limit, same_next (sym h.way.1.1 ∙ link), h.way.1.2.0))
+    by (w ∷ v ∷ ws) e h =
+        let there = linked records word under_it link in
+        let listed : deltas_at records (w ∷ v ∷ ws) ≡ there.0.0 ∷ deltas_at records (v ∷ ws) = ap (λ o. delta_in o (deltas_at records (v ∷ ws))) (ap (record_at records) h.way.0 ∙ there.1) in
+        let more : deltas_at records (v ∷ ws) ≡ [] → ⊥ = λ none. omega (arith, ap length (none_on records h.way.1.0 (v ∷ ws) e h.way.1.2 none)) in
+        let put = write_over there.0.0 (deltas_at records (v ∷ ws)) (subst IsShaped listed h.shaped) more in
+        under_put bases records word under_it there.0.0 put.0 ends (there.1 ∙ ap (λ n. Some (there.0.0, n)) there.2) put.1
 
 -- under any other change lies a base page
 pub under_other : (bases : Bases) (records : Records) (word under_it : ℕ) (d : Delta) → Ends bases records word → record_at records word ≡ Some (d, under_it) → ((w : WriteView) → d ≡ Put w → ⊥) →

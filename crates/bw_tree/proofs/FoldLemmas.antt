@@ -17,10 +17,10 @@ use Rattle.bw_page.proofs.KeyOrder.{below_back, below_self, below_trans, upto_tr
 use Rattle.bw_delta.specs.History.{HasDistinctStamps}
 use Rattle.bw_delta.proofs.ContentsAsOf.{same_contents}
 use Rattle.bw_delta.proofs.Maps.{sorted_in_range}
-use Rattle.bw_tree.specs.Slots.{Slot, Body, Pairs, Children, slot_at, side_of, side_of_slot, IsSoundBody}
+use Rattle.bw_tree.specs.Slots.{Slot, Body, Pairs, Children, slot_at, side_of, side_of_slot, IsSoundBody, has_key}
 use Rattle.bw_tree.specs.Levels.{AreLevels, IsHome, Stands, SideBySide, row}
 use Rattle.bw_tree.specs.Before.{low_of}
-use Rattle.bw_tree.specs.Scans.{ArePairsOn, Reaches, high_of, is_on}
+use Rattle.bw_tree.specs.Scans.{ArePairsOn, Reaches, high_of}
 use Rattle.bw_tree.specs.Making.{AreAbutting, HasRules, IsOverLeaves, count_from, leaf_slot, pairs_in}
 use Rattle.bw_tree.specs.Folding.{IsFolded, folded_leaf, folded_at, folded_from}
 use Rattle.bw_tree.specs.View.{TreeView, contents_at, row_writes}
@@ -281,10 +281,10 @@ module _ (tree : TreeView) (root : ℕ) (lawful : AreLevels tree.slots root tree
       let st = (leaf_in_row tree.slots root tree.levels lawful p has).stands in
       let slot = slot_at tree.slots p in
       leaf_pairs tree.slots root tree.levels lawful distinct stamp p from to pairs has so
-      ∙ ap (λ n. where_key key_cmp (is_on slot) (pairs_of_range (contents_at tree n) from to)) now
-      ∙ ap (λ (k : KeyBytes). where_key key_cmp (is_on slot) (pairs_of_range (contents_at tree tree.next) k to)) low
-      ∙ ap (λ (o : Option KeyBytes). where_key key_cmp (is_on slot) (pairs_of_range (contents_at tree tree.next) (low_of slot) o)) high
-      ∙ all_of_those (is_on slot) (is_in_range (low_of slot) (high_of slot)) (λ k inside. subst (λ (o : Slot). is_in_range (low_of o) (high_of o) k ≡ true → is_on o k ≡ true) (sym st.is) (λ e. e) inside)
+      ∙ ap (λ n. where_key key_cmp (has_key slot) (pairs_of_range (contents_at tree n) from to)) now
+      ∙ ap (λ (k : KeyBytes). where_key key_cmp (has_key slot) (pairs_of_range (contents_at tree tree.next) k to)) low
+      ∙ ap (λ (o : Option KeyBytes). where_key key_cmp (has_key slot) (pairs_of_range (contents_at tree tree.next) (low_of slot) o)) high
+      ∙ all_of_those (has_key slot) (is_in_range (low_of slot) (high_of slot)) (λ k inside. subst (λ (o : Slot). is_in_range (low_of o) (high_of o) k ≡ true → has_key o k ≡ true) (sym st.is) (λ e. e) inside)
       (entries (contents_at tree tree.next))
 
   pub folded_parts : HasDistinctStamps (row_writes tree.slots (row tree.levels 0)) → (p stamp : ℕ) (slot : Slot) (from : KeyBytes) (to : Option KeyBytes) (low : KeyBytes) (high : Option KeyBytes) (pairs : List (KeyBytes × ValueBytes)) → Contains (row tree.levels 0) p →

@@ -14,7 +14,7 @@ use Rattle.bw_page.specs.declared.pages.Page.TheVariants.{Leaf as LeafPage}
 use Rattle.bw_delta.specs.Writes.{WriteView}
 use Rattle.bw_delta.specs.Batches.{writes_to}
 use Rattle.bw_delta.specs.History.{history, action_at, pointed_to}
-use Rattle.bw_delta.specs.Pairs.{ArePairsAsOf, value_in as part_value}
+use Rattle.bw_delta.specs.Pairs.{ArePairsAsOf, value_in_parts}
 use Rattle.bw_delta.specs.Replays.{ReplayView, IsReplayOf}
 use Rattle.bw_delta.specs.declared.deltas.Delta.{Delta}
 use Rattle.bw_delta.specs.declared.deltas.Delta.TheVariants.{Put}
@@ -127,7 +127,7 @@ pairs_on_ok slot leaf writes low high end stamp (Err e) all ends base so = so
 
 -- the base leaf under all writes is replayed as the page
 pub replayed_leaf : (slot : Slot) (leaf : LeafView ValueBytes) (writes : List WriteView) (end : Option KeyBytes) (replay : ReplayView) → writes ≡ writes_over slot → end ≡ high_of slot →
-    ((key : KeyBytes) → EndsAbove slot key → base_of slot key ≡ find key_cmp key leaf.pairs) → IsReplayOf (part_value (leaf ∷ [])) end writes replay → IsLeafReplay slot replay
+    ((key : KeyBytes) → EndsAbove slot key → base_of slot key ≡ find key_cmp key leaf.pairs) → IsReplayOf (value_in_parts (leaf ∷ [])) end writes replay → IsLeafReplay slot replay
 replayed_leaf slot leaf writes end replay all ends base so = record {
   rising = so.rising;
   values = λ key stamp below le.
@@ -141,7 +141,7 @@ replayed_leaf slot leaf writes end replay all ends base so = record {
     holds false t = absurd t
 
 pub replayed_leaf_ok : {E : Type 0} (slot : Slot) (leaf : LeafView ValueBytes) (writes : List WriteView) (end : Option KeyBytes) (r : Result ReplayView E) → writes ≡ writes_over slot → end ≡ high_of slot →
-    ((key : KeyBytes) → EndsAbove slot key → base_of slot key ≡ find key_cmp key leaf.pairs) → IfOk r (IsReplayOf (part_value (leaf ∷ [])) end writes) → IfOk r (IsLeafReplay slot)
+    ((key : KeyBytes) → EndsAbove slot key → base_of slot key ≡ find key_cmp key leaf.pairs) → IfOk r (IsReplayOf (value_in_parts (leaf ∷ [])) end writes) → IfOk r (IsLeafReplay slot)
 replayed_leaf_ok slot leaf writes end (Ok replay) all ends base so = replayed_leaf slot leaf writes end replay all ends base so
 replayed_leaf_ok slot leaf writes end (Err e) all ends base so = so
 

@@ -18,13 +18,13 @@ use Rattle.bw_delta.specs.Replays.{ReplayView}
 use Rattle.bw_delta.proofs.Maps.{sorted_in_range}
 use Rattle.bw_delta.proofs.Replays.{pairs_now}
 use Rattle.bw_tree.specs.Walk.{walked}
-use Rattle.bw_tree.specs.Slots.{Slot, slot_at, side_of, side_of_slot}
+use Rattle.bw_tree.specs.Slots.{Slot, slot_at, side_of, side_of_slot, has_key}
 use Rattle.bw_tree.specs.Levels.{AreLevels, IsHome, row}
 use Rattle.bw_tree.specs.Reading.{base_of, value_in, writes_over}
 use Rattle.bw_tree.specs.Replaying.{AreReadLeaves, IsKept, IsLeafReplay}
 use Rattle.bw_tree.specs.Before.{IsBefore, low_of}
 use Rattle.bw_tree.specs.declared.scans.ReadLeaf.{ReadLeaf}
-use Rattle.bw_tree.specs.Scans.{ArePairsOn, Reaches, high_of, is_on}
+use Rattle.bw_tree.specs.Scans.{ArePairsOn, Reaches, high_of}
 use Rattle.bw_tree.specs.View.{TreeView, contents_at, row_writes}
 use Rattle.bw_tree.proofs.BackLemmas.{ScanningBack, PassedBack, begins_back, passed_back, ends_back, enough_back, goes_back}
 use Rattle.bw_tree.proofs.ScanLemmas.{Scanning, HasPassed, leaf_in_row, leaf_pairs, begins_scan, passes, ends_scan, goes_on, enough_read}
@@ -85,7 +85,7 @@ pairs_of_replay slot replay from to end ends sorted so = record {
 module _ (tree : TreeView) (lawful : AreLevels tree.slots tree.root tree.levels) (distinct : HasDistinctStamps (row_writes tree.slots (row tree.levels 0))) where
   -- and which of the contents they are
   pub pairs_on_leaf : (p : ℕ) (replay : ReplayView) (from : KeyBytes) (to end : Option KeyBytes) → Contains (row tree.levels 0) p → ((key : KeyBytes) → is_below_end end key ≡ (is_below_end (high_of (slot_at tree.slots p)) key && is_below_end to key)) →
-      T (is_sorted key_cmp replay.pairs) → IsLeafReplay (slot_at tree.slots p) replay → filter (is_pair_in_range from end) replay.pairs ≡ where_key key_cmp (is_on (slot_at tree.slots p)) (pairs_of_range (contents_at tree replay.stamp) from to)
+      T (is_sorted key_cmp replay.pairs) → IsLeafReplay (slot_at tree.slots p) replay → filter (is_pair_in_range from end) replay.pairs ≡ where_key key_cmp (has_key (slot_at tree.slots p)) (pairs_of_range (contents_at tree replay.stamp) from to)
   pairs_on_leaf p replay from to end has ends sorted so =
       leaf_pairs tree.slots tree.root tree.levels lawful distinct replay.stamp p from to _ has (pairs_of_replay (slot_at tree.slots p) replay from to end ends sorted so)
 
@@ -101,7 +101,7 @@ pub record ReadNext (tree : TreeView) (all : List (KeyBytes × ValueBytes)) (mos
 
 -- the pairs of a range that lie on a leaf
 abbrev pub leaf_of : TreeView → ℕ → KeyBytes → Option KeyBytes → ℕ → List (KeyBytes × ValueBytes)
-leaf_of tree stamp from to p = where_key key_cmp (is_on (slot_at tree.slots p)) (pairs_of_range (contents_at tree stamp) from to)
+leaf_of tree stamp from to p = where_key key_cmp (has_key (slot_at tree.slots p)) (pairs_of_range (contents_at tree stamp) from to)
 
 module _ (tree : TreeView) (lawful : AreLevels tree.slots tree.root tree.levels) (distinct : HasDistinctStamps (row_writes tree.slots (row tree.levels 0))) (stamp most : ℕ) (from : KeyBytes) (to : Option KeyBytes) where
   abbrev all_pairs : List (KeyBytes × ValueBytes)

@@ -8,6 +8,7 @@ use Rattle.std.proofs.lemmas.List.Sorted.{IsPermutation-append, IsPermutation-ap
 use Rattle.bw_key.specs.Order.{KeyBytes, key_cmp}
 use Rattle.bw_model.specs.Contents.{is_in_range}
 use Rattle.bw_page.proofs.KeyOrder.{below_trans}
+use Rattle.bw_page.proofs.Ranges.{filter_filter}
 use Rattle.bw_delta.specs.Writes.{WriteView}
 use Rattle.bw_tree.specs.Slots.{Slot, PageState, Body, Pairs, Children, Live, slot_at, has_key, level_of, is_leaf, body_is_leaf, IsSoundBody}
 use Rattle.bw_tree.specs.Levels.{Stands, SideBySide}
@@ -32,13 +33,6 @@ exchanged a b c d =
 -- from a key on
 abbrev pub is_from : KeyBytes → WriteView → Bool
 is_from low w = not (is_lt (key_cmp w.key low))
-
-filter_filter : (f p : WriteView → Bool) (ws : List WriteView) → filter p (filter f ws) ≡ filter (λ w. f w && p w) ws
-filter_filter f p [] = refl
-filter_filter f p (w ∷ ws) = elim (f w) as (λ b. filter p (cond b (w ∷ filter f ws) (filter f ws)) ≡ cond (b && p w) (w ∷ filter (λ v. f v && p v) ws) (filter (λ v. f v && p v) ws)) [
-  | true ↦ ap (λ l. cond (p w) (w ∷ l) l) (filter_filter f p ws)
-  | false ↦ filter_filter f p ws
-]
 
 filter_same : (f g : WriteView → Bool) → ((w : WriteView) → f w ≡ g w) → (ws : List WriteView) → filter f ws ≡ filter g ws
 filter_same f g same [] = refl

@@ -15,10 +15,10 @@ use Rattle.bw_delta.specs.ContentsAsOf.{contents_as_of}
 use Rattle.bw_delta.proofs.ContentsAsOf.{only_equal_tie}
 use Rattle.bw_delta.proofs.Maps.{find_in_range, sorted_in_range}
 use Rattle.bw_tree.specs.Walk.{walked}
-use Rattle.bw_tree.specs.Slots.{Slot, PageState, Live, slot_at, side_of, side_of_slot}
+use Rattle.bw_tree.specs.Slots.{Slot, PageState, Live, slot_at, side_of, side_of_slot, has_key}
 use Rattle.bw_tree.specs.Levels.{Stands, AreLevels, IsHome, row}
 use Rattle.bw_tree.specs.Reading.{value_in, writes_over}
-use Rattle.bw_tree.specs.Scans.{ArePairsOn, Reaches, high_of, is_on}
+use Rattle.bw_tree.specs.Scans.{ArePairsOn, Reaches, high_of}
 use Rattle.bw_tree.specs.View.{row_pairs, row_writes}
 use Rattle.bw_tree.proofs.WalkLemmas.{way_falls}
 use Rattle.bw_tree.proofs.RowLemmas.{InRow, in_row}
@@ -160,23 +160,23 @@ module _ (slots : List Slot) (root : ℕ) (levels : List (List ℕ)) (lawful : A
 
     -- the pairs of a leaf are those of the contents whose keys are in its range
     pub leaf_pairs : (p : ℕ) (from : KeyBytes) (to : Option KeyBytes) (pairs : List (KeyBytes × ValueBytes)) → Contains (row levels 0) p → ArePairsOn (slot_at slots p) from to stamp pairs →
-        pairs ≡ where_key key_cmp (is_on (slot_at slots p)) (pairs_of_range contents from to)
+        pairs ≡ where_key key_cmp (has_key (slot_at slots p)) (pairs_of_range contents from to)
     leaf_pairs p from to pairs has so = by (leaf_in_row p has).stands.state (leaf_in_row p has).stands.is
       where
         slot : Slot
         slot = slot_at slots p
 
-        by : (s : PageState) → slot_at slots p ≡ Live s → pairs ≡ where_key key_cmp (is_on (slot_at slots p)) (pairs_of_range contents from to)
+        by : (s : PageState) → slot_at slots p ≡ Live s → pairs ≡ where_key key_cmp (has_key (slot_at slots p)) (pairs_of_range contents from to)
         by s is =
-            same_entries key_cmp key_cmp_total only_equal_tie pairs (where_key key_cmp (is_on (slot_at slots p)) (pairs_of_range contents from to)) so.sorted
-            (is_sorted-where_key key_cmp (is_on (slot_at slots p)) (pairs_of_range contents from to) (sorted_in_range from to (entries contents) (entries_sorted contents)))
+            same_entries key_cmp key_cmp_total only_equal_tie pairs (where_key key_cmp (has_key (slot_at slots p)) (pairs_of_range contents from to)) so.sorted
+            (is_sorted-where_key key_cmp (has_key (slot_at slots p)) (pairs_of_range contents from to) (sorted_in_range from to (entries contents) (entries_sorted contents)))
             (λ key. so.values key ∙ ap (λ (o : Slot). cond (is_in_range from to key && is_below_end (high_of o) key) (value_in (slot_at slots p) key stamp) None) is
             ∙ at (is_in_range from to key) (is_lt (key_cmp key s.low)) (is_below_end s.high key) (value_in (slot_at slots p) key stamp) (get contents key)
             (λ upto below. sym (home_value slots root levels lawful distinct key p stamp (home_of key p s has is upto below))) (none_below key p s has is)
-            ∙ sym (ap (λ (o : Slot). cond (is_on o key) (cond (is_in_range from to key) (get contents key) None) None) is)
-            ∙ ap (λ (v : Option ValueBytes). cond (is_on (slot_at slots p) key) (cond (is_in_range from to key) v None) None) (get-entries contents key)
-            ∙ ap (λ (v : Option ValueBytes). cond (is_on (slot_at slots p) key) v None) (sym (find_in_range from to key (entries contents)))
-            ∙ sym (find-where_key key_cmp (is_on (slot_at slots p)) key (λ x tie. ap (is_on (slot_at slots p)) (sym (keys_tie key x tie))) (pairs_of_range contents from to)))
+            ∙ sym (ap (λ (o : Slot). cond (has_key o key) (cond (is_in_range from to key) (get contents key) None) None) is)
+            ∙ ap (λ (v : Option ValueBytes). cond (has_key (slot_at slots p) key) (cond (is_in_range from to key) v None) None) (get-entries contents key)
+            ∙ ap (λ (v : Option ValueBytes). cond (has_key (slot_at slots p) key) v None) (sym (find_in_range from to key (entries contents)))
+            ∙ sym (find-where_key key_cmp (has_key (slot_at slots p)) key (λ x tie. ap (has_key (slot_at slots p)) (sym (keys_tie key x tie))) (pairs_of_range contents from to)))
           where
             at : (a l h : Bool) (v g : Option ValueBytes) → (l ≡ false → h ≡ true → v ≡ g) → (l ≡ true → v ≡ None) → cond (a && h) v None ≡ cond (not l && h) (cond a g None) None
             at true true true v g same none = none refl
@@ -206,15 +206,15 @@ module _ (slots : List Slot) (root : ℕ) (levels : List (List ℕ)) (lawful : A
         (λ k inside. holds _ (subst (λ (o : Slot). T (is_below_end (high_of o) k)) passed.is (reaches k (right_of _ _ (true_holds _ inside))))) (entries contents)
 
   -- with the pairs of a leaf, what is below its end has been read
-  pub passes : (all found new : List (KeyBytes × ValueBytes)) (p : ℕ) → T (is_sorted key_cmp all) → Scanning slots levels all found p → new ≡ found ++ where_key key_cmp (is_on (slot_at slots p)) all → HasPassed slots all new p
+  pub passes : (all found new : List (KeyBytes × ValueBytes)) (p : ℕ) → T (is_sorted key_cmp all) → Scanning slots levels all found p → new ≡ found ++ where_key key_cmp (has_key (slot_at slots p)) all → HasPassed slots all new p
   passes all found new p sorted h more =
       let s = h.state in
       record {
         state = s;
         is = h.is;
         so_far =
-            more ∙ ap (λ (l : List (KeyBytes × ValueBytes)). l ++ where_key key_cmp (is_on (slot_at slots p)) all) h.so_far
-            ∙ ap (λ (o : Slot). where_key key_cmp (λ k. is_lt (key_cmp k s.low)) all ++ where_key key_cmp (is_on o) all) h.is
+            more ∙ ap (λ (l : List (KeyBytes × ValueBytes)). l ++ where_key key_cmp (has_key (slot_at slots p)) all) h.so_far
+            ∙ ap (λ (o : Slot). where_key key_cmp (λ k. is_lt (key_cmp k s.low)) all ++ where_key key_cmp (has_key o) all) h.is
             ∙ one_then_other (λ k. is_lt (key_cmp k s.low)) (is_in_range s.low s.high) (is_below_end s.high)
             (λ k below. ap (λ b. not b && is_below_end s.high k) below)
             (λ a b on above. upto_trans s.low a b (holds_not _ (left_of _ _ (true_holds _ on))) (below_back a b above))

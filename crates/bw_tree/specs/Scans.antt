@@ -1,5 +1,5 @@
 -- The pairs of a range of keys that lie on a page.
-use Rattle.std.specs.Prelude.{◌≡◌, ℕ, Bool, false, ◌&&◌, T, List, Option, Some, None, if◌then◌else◌}
+use Rattle.std.specs.Prelude.{◌≡◌, ℕ, ◌&&◌, T, List, Option, Some, None, if◌then◌else◌}
 use Rattle.std.specs.FinMap.{find, is_sorted}
 use Rattle.bw_key.specs.Order.{KeyBytes, key_cmp}
 use Rattle.bw_model.specs.Contents.{is_below_end, is_in_range}
@@ -12,12 +12,6 @@ abbrev pub high_of : Slot → Option KeyBytes
 high_of (Live s) = s.high
 high_of (Gone l) = None
 high_of Free = None
-
--- a page's range has the key
-abbrev pub is_on : Slot → KeyBytes → Bool
-is_on (Live s) key = is_in_range s.low s.high key
-is_on (Gone l) key = false
-is_on Free key = false
 
 -- the sorted list of the keys of a range that are below the page's end and have a value as of the stamp, each with it
 pub record ArePairsOn (slot : Slot) (low : KeyBytes) (high : Option KeyBytes) (stamp : ℕ) (pairs : List (KeyBytes × ValueBytes)) : Type 0 where

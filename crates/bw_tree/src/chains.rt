@@ -1,5 +1,5 @@
 // Base pages and the chains of delta records over them.
-ghost use Rattle.std.specs.Prelude.{◌≡◌, ℕ, ◌≤◌, ◌&&◌, true, false, T, length, slice_get, is_some, Some, None, IfOk, MatchOption};
+ghost use Rattle.std.specs.Prelude.{◌≡◌, ℕ, ◌<◌, ◌≤◌, ◌&&◌, true, false, T, length, slice_get, is_some, Some, None, IfOk, MatchOption};
 ghost use Rattle.std.specs.Option.{option_copied, option_map};
 ghost use Rattle.std.specs.FinMap.{find, is_sorted};
 ghost use Rattle.bw_key.specs.Order.{KeyBytes, key_cmp};
@@ -11,7 +11,7 @@ ghost use Rattle.bw_delta.specs.declared.deltas.Delta.TheVariants.{Put};
 ghost use Rattle.bw_page.specs.Inners.{IsLastUpto};
 ghost use Rattle.bw_tree.specs.Slots.{Slot, is_leaf, side_of_slot};
 ghost use Rattle.bw_tree.specs.Reading.{EndsAbove, base_of, writes_over};
-ghost use Rattle.bw_tree.specs.Chains.{Bases, Ends, IsPut, IsWrite, based, change, plain, record_at, slot_of_word};
+ghost use Rattle.bw_tree.specs.Chains.{Bases, Ends, IsPut, IsWrite, based, change, link_of, plain, record_at, slot_of_word};
 ghost use Rattle.bw_tree.specs.Replaying.{IsLeafReplay};
 ghost use Rattle.bw_tree.specs.Scans.{ArePairsOn, EndsBelow, Reaches, high_of};
 ghost use Rattle.bw_tree.specs.Before.{ChildrenStandFor, IsLinked, StandsFor, StandsForAt, StartsBelow, count_below, low_of};
@@ -116,20 +116,49 @@ impl Chains {
         self.bases.get(word as usize)?.as_ref()
     }
 
-    /// What lies under the writes of a chain: at most one change, and a base page.
+    // The word under the record that a word names, if it names one.
+    #[tactic(auto, using(crate::proofs::ChainLemmas::link_among, crate::proofs::ChainLemmas::no_link))]
+    fn link(&self, word: u64) -> Option<u64>
+        ensures { result ≡ link_of self.now.records word }
+    {
+        if word < FLOOR {
+            return None;
+        }
+        self.arena.links().get((word - FLOOR) as usize).copied()
+    }
+
+    // The word of a chain's lowest record, or of its base page where there is no record. It reads links alone.
+    fn lowest(&self, head: u64) -> u64
+        requires { Ends self.now.bases self.now.records head }
+        ensures ends { Ends self.now.bases self.now.records result }
+        ensures same { bare (slot_of_word self.now.bases self.now.records head) ≡ bare (slot_of_word self.now.bases self.now.records result) }
+        ensures last { (under : ℕ) → link_of self.now.records result ≡ Some under → under < 4294967296 }
+    {
+        let mut word = head;
+        while let Some(under) = self.link(word) {
+            if under < FLOOR {
+                return word;
+            }
+            word = under;
+        }
+        word
+    }
+
+    /// What lies under the writes of a chain: at most one change, and a base page. The chain is walked by its links, and
+    /// of its records the lowest alone is looked at.
     pub(crate) fn under_writes(&self, head: u64) -> (Option<&Delta>, Option<&Page>)
         requires { Ends self.now.bases self.now.records head }
         ensures same { bare (slot_of_word self.now.bases self.now.records head) ≡ bare (over self.now.bases result.0 (plain_at result.1)) }
         ensures other { IsNoWrite result.0 }
     {
-        let mut word = head;
-        while let Some((delta, under)) = self.record(word) {
-            match delta {
-                Delta::Put(_) => word = under,
-                _ => return (Some(delta), self.base(under)),
-            }
+        let word = self.lowest(head);
+        let Some((delta, under)) = self.record(word) else {
+            return (None, self.base(word));
+        };
+        match delta {
+            Delta::Put(_) => (None, self.base(under)),
+            _ => (Some(delta), self.base(under)),
         }
-        (None, self.base(word))
     }
 
     /// Where a search for a key goes on from a page.

@@ -6,11 +6,11 @@ ghost use Rattle.std.specs.FinMap.Entries.{where_key};
 ghost use Rattle.bw_key.specs.Order.{key_cmp};
 ghost use Rattle.bw_model.specs.Contents.{Contents, first_of_range, is_below_end, last_of_range, pairs_of_range};
 ghost use Rattle.bw_model.specs.Values.{ValueBytes};
-ghost use Rattle.bw_tree.specs.Slots.{side_of_slot, slot_at};
+ghost use Rattle.bw_tree.specs.Slots.{side_of_slot, slot_at, has_key};
 ghost use Rattle.bw_tree.specs.Before.{IsBefore, low_of};
 ghost use Rattle.bw_tree.specs.Levels.{IsHome, row};
 ghost use Rattle.bw_tree.specs.Replaying.{IsKept, IsReadLeaf};
-ghost use Rattle.bw_tree.specs.Scans.{Reaches, high_of, is_on};
+ghost use Rattle.bw_tree.specs.Scans.{Reaches, high_of};
 ghost use Rattle.bw_tree.specs.View.{contents_at};
 
 use crate::chains::{lower_end, reaches};
@@ -18,7 +18,7 @@ use crate::tree::Tree;
 use bw_delta::Replay;
 use bw_key::{Key, Memory};
 use bw_memory::Alloc;
-use bw_model::{Pairs, Value};
+use bw_model::{Pairs, Value, is_below};
 use bw_page::PageId;
 use std::collections::BTreeMap;
 use std::marker::Model;
@@ -134,7 +134,7 @@ impl<'a> Scans<'a> {
     ) -> Result<Option<PageId>, Memory>
         requires { Contains (row self.old.tree.levels 0) page }
         ensures tree { self.new.tree ≡ self.old.tree }
-        ensures read { OnOk result (read.new.items ≡ read.old.items ++ take (most - length read.old.items) (where_key key_cmp (is_on (slot_at self.old.tree.slots page)) (pairs_of_range (contents_at self.old.tree stamp) from.now (option_copied to.entry)))) }
+        ensures read { OnOk result (read.new.items ≡ read.old.items ++ take (most - length read.old.items) (where_key key_cmp (has_key (slot_at self.old.tree.slots page)) (pairs_of_range (contents_at self.old.tree stamp) from.now (option_copied to.entry)))) }
         ensures next { IfOk result (λ next. MatchOption next (Reaches (high_of (slot_at self.old.tree.slots page)) (option_copied to.entry)) (λ next. side_of_slot (slot_at self.old.tree.slots page) ≡ Some next)) }
     {
         self.tree.know_levels();
@@ -194,7 +194,7 @@ impl<'a> Scans<'a> {
     ) -> Result<&'a Key, Memory>
         requires { Contains (row self.old.tree.levels 0) page }
         ensures tree { self.new.tree ≡ self.old.tree }
-        ensures read { OnOk result (read.new.items ≡ read.old.items ++ take (most - length read.old.items) (reverse (where_key key_cmp (is_on (slot_at self.old.tree.slots page)) (pairs_of_range (contents_at self.old.tree stamp) from.now (option_copied to.entry))))) }
+        ensures read { OnOk result (read.new.items ≡ read.old.items ++ take (most - length read.old.items) (reverse (where_key key_cmp (has_key (slot_at self.old.tree.slots page)) (pairs_of_range (contents_at self.old.tree stamp) from.now (option_copied to.entry))))) }
         ensures low { IfOk result (λ low. low.now ≡ low_of (slot_at self.old.tree.slots page)) }
     {
         self.tree.know_levels();
@@ -319,11 +319,4 @@ fn asks_for_none(from: &Key, to: Option<&Key>, most: u64) -> bool
     ensures begins { result ≡ false → T (is_below_end (option_copied to.entry) from.now) }
 {
     most == 0 || !is_below(from, to)
-}
-
-// Whether a key is below the end of a range.
-fn is_below(key: &Key, end: Option<&Key>) -> bool
-    ensures { result ≡ is_below_end (option_copied end.entry) key.now }
-{
-    end.is_none_or(|end| *key < *end)
 }

@@ -1,6 +1,6 @@
 // What each write answers and leaves.
 use super::making::Maker;
-use crate::{Action, Reply};
+use crate::{Action, Reply, Value};
 use std::process::Abort;
 
 // Compares what a write answers and leaves at a key that had this value.
@@ -10,12 +10,19 @@ fn compare<R: Abort>(
     (action, before): (Action, Option<&'static str>),
     (reply, after): (Reply, Option<&'static str>),
 ) {
-    let before = before.map(|text| make.value(text));
+    let before = make.value_or_none(before);
     let answer = action.answer(before.as_ref()).expect(rt, "memory");
-    assert_eq!(rt; answer, reply, "{action:?}");
-    let left = action.effect(before.as_ref()).map(|value| value.bytes());
-    let after = after.map(|text| text.as_bytes());
-    assert_eq!(rt; left, after, "{action:?}");
+    assert!(rt; answer == reply);
+    assert!(rt; is(action.effect(before.as_ref()), after));
+}
+
+// Whether a value is that of a text, or there is none.
+fn is(value: Option<&Value>, text: Option<&'static str>) -> bool {
+    match (value, text) {
+        (Some(value), Some(text)) => value.bytes() == text.as_bytes(),
+        (None, None) => true,
+        _ => false,
+    }
 }
 
 #[test]

@@ -15,7 +15,7 @@ pub type Pair = (&'static str, &'static str);
 pub fn same<R: Abort>(rt: &R, left: &[Reply], right: &[Reply]) {
     assert_eq!(rt; left.len(), right.len());
     for (left, right) in left.iter().zip(right) {
-        assert_eq!(rt; *left, *right);
+        assert!(rt; left == right);
     }
 }
 
@@ -40,8 +40,22 @@ impl<'a, R: Abort> Maker<'a, R> {
         Key::new(self.alloc, text.as_bytes()).expect(self.rt, "a key")
     }
 
+    pub fn end(&self, text: Option<&'static str>) -> Option<Key> {
+        match text {
+            Some(text) => Some(self.key(text)),
+            None => None,
+        }
+    }
+
     pub fn value(&self, text: &str) -> Value {
         Value::new(self.alloc, text.as_bytes()).expect(self.rt, "a value")
+    }
+
+    pub fn value_or_none(&self, text: Option<&'static str>) -> Option<Value> {
+        match text {
+            Some(text) => Some(self.value(text)),
+            None => None,
+        }
     }
 
     pub fn pairs(&self, texts: &[Pair]) -> Pairs {
@@ -80,7 +94,7 @@ impl<'a, R: Abort> Maker<'a, R> {
     pub fn scan(&self, from: &str, to: Option<&'static str>, most: u64) -> Op {
         Op::Scan {
             from: self.key(from),
-            to: to.map(|to| self.key(to)),
+            to: self.end(to),
             most,
         }
     }
@@ -88,7 +102,7 @@ impl<'a, R: Abort> Maker<'a, R> {
     pub fn rscan(&self, from: &str, to: Option<&'static str>, most: u64) -> Op {
         Op::Rscan {
             from: self.key(from),
-            to: to.map(|to| self.key(to)),
+            to: self.end(to),
             most,
         }
     }

@@ -128,6 +128,6 @@ fn batches_are_answered_as_by_a_table(rt: HostRuntime) {
 
         let pairs = pairs_between(&rt, &make, &table, (0, 6));
         let entries = map.entries().expect(&rt, "memory");
-        assert_eq!(rt; entries, make.pairs(&pairs), "batch {batch}: {ops:?}");
+        assert!(rt; entries == make.pairs(&pairs), "batch {batch}");
     }
 }

@@ -9,7 +9,7 @@ use std::process::Abort;
 const BEFORE: &[Pair] = &[("a", "1"), (LONG, LONG)];
 
 // What a map is asked for.
-#[derive(Debug, Drop)]
+#[derive(Drop)]
 enum Work {
     Copy,
     Entries,
@@ -42,12 +42,12 @@ fn refusals<R: Abort>(rt: &R, make: &Maker<R>, work: &Work) -> u64 {
         let was_refused = make.alloc.left() == 0 || make.alloc.left() > growth;
         make.alloc.refuse(0);
 
-        assert_eq!(rt; lacked, was_refused, "growth {growth}");
+        assert_eq!(rt; lacked, was_refused);
         if !was_refused {
             return growth - 1;
         }
         let pairs = map.entries().expect(rt, "memory");
-        assert_eq!(rt; pairs, make.pairs(BEFORE), "growth {growth}");
+        assert!(rt; pairs == make.pairs(BEFORE));
     }
     panic!(rt; "no run met no refusal")
 }
@@ -77,7 +77,7 @@ fn each_piece_of_work_meets_each_refusal(rt: HostRuntime) {
         Work::Run(Vec::new(make.alloc)),
     ];
     for work in &works {
-        assert!(rt; refusals(&rt, &make, work) > 0, "{work:?}");
+        assert!(rt; refusals(&rt, &make, work) > 0);
     }
     assert_eq!(rt; refusals(&rt, &make, &Work::Apply(make.get("a"))), 0);
 }

@@ -8,7 +8,7 @@ use std::process::Abort;
 fn has_children<R: Abort>(rt: &R, inner: &Inner, wanted: &[(&'static [u8], u32)]) {
     assert_eq!(rt; inner.children().len(), wanted.len());
     for (child, (sep, page)) in inner.children().iter().zip(wanted) {
-        assert_eq!(rt; child.0.bytes(), *sep);
+        assert!(rt; child.0.bytes() == *sep);
         assert_eq!(rt; child.1.0, *page);
     }
 }
@@ -16,7 +16,7 @@ fn has_children<R: Abort>(rt: &R, inner: &Inner, wanted: &[(&'static [u8], u32)]
 // Whether a page over leaves begins at a key and is the last one.
 fn is_last_from<R: Abort>(rt: &R, inner: &Inner, low: &[u8]) {
     assert_eq!(rt; inner.level(), 1);
-    assert_eq!(rt; inner.low().bytes(), low);
+    assert!(rt; inner.low().bytes() == low);
     assert!(rt; inner.high().is_none());
     assert!(rt; inner.side().is_none());
 }
@@ -37,12 +37,9 @@ fn an_inner_page_has_its_bounds_and_children(rt: HostRuntime) {
     let alloc = heap(&rt, rt.alloc());
     let inner = from_start(&rt, alloc);
     assert_eq!(rt; inner.level(), 1);
-    assert_eq!(rt; inner.low().bytes(), b"".as_slice());
-    assert_eq!(rt;
-        inner.high().map(|high| high.bytes()),
-        Some(b"c".as_slice())
-    );
-    assert_eq!(rt; inner.side(), Some(PageId(9)));
+    assert!(rt; inner.low().bytes() == b"".as_slice());
+    assert!(rt; inner.high().map(|high| high.bytes()) == Some(b"c".as_slice()));
+    assert!(rt; inner.side() == Some(PageId(9)));
     has_children(&rt, &inner, &[(b"", 0)]);
 }
 

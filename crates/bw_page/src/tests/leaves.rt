@@ -26,14 +26,14 @@ fn c_to_h<R: Abort>(rt: &R, alloc: Alloc) -> Leaf {
 fn has_pairs<R: Abort>(rt: &R, leaf: &Leaf, wanted: &[(&'static [u8], &'static [u8])]) {
     assert_eq!(rt; leaf.pairs().len(), wanted.len());
     for (pair, (key, value)) in leaf.pairs().iter().zip(wanted) {
-        assert_eq!(rt; pair.0.bytes(), *key);
-        assert_eq!(rt; pair.1.bytes(), *value);
+        assert!(rt; pair.0.bytes() == *key);
+        assert!(rt; pair.1.bytes() == *value);
     }
 }
 
 // Whether a leaf begins at a key and is the last one.
 fn is_last_from<R: Abort>(rt: &R, leaf: &Leaf, low: &[u8]) {
-    assert_eq!(rt; leaf.low().bytes(), low);
+    assert!(rt; leaf.low().bytes() == low);
     assert!(rt; leaf.high().is_none());
     assert!(rt; leaf.side().is_none());
 }
@@ -53,9 +53,9 @@ fn an_empty_leaf_has_all_keys_and_no_pair(rt: HostRuntime) {
 fn a_leaf_has_its_bounds_and_pairs(rt: HostRuntime) {
     let alloc = heap(&rt, rt.alloc());
     let leaf = c_to_h(&rt, alloc);
-    assert_eq!(rt; leaf.low().bytes(), b"c".as_slice());
-    assert_eq!(rt; leaf.high().map(|high| high.bytes()), Some(b"h".as_slice()));
-    assert_eq!(rt; leaf.side(), Some(PageId(7)));
+    assert!(rt; leaf.low().bytes() == b"c".as_slice());
+    assert!(rt; leaf.high().map(|high| high.bytes()) == Some(b"h".as_slice()));
+    assert!(rt; leaf.side() == Some(PageId(7)));
     has_pairs(
         &rt,
         &leaf,
@@ -76,7 +76,7 @@ fn a_key_is_found_among_the_pairs_alone(rt: HostRuntime) {
     for (bytes, wanted) in found {
         let key = key(&rt, alloc, bytes);
         alloc.refuse(1);
-        assert_eq!(rt; leaf.find(&key).map(|value| value.bytes()), Some(wanted));
+        assert!(rt; leaf.find(&key).map(|value| value.bytes()) == Some(wanted));
         assert_eq!(rt; alloc.left(), 1);
     }
     for bytes in [b"".as_slice(), b"b", b"cc", b"e", b"g", b"h", b"z"] {
@@ -96,8 +96,8 @@ fn a_range_has_its_pairs_and_takes_no_memory(rt: HostRuntime) {
     alloc.refuse(1);
     let pairs = leaf.between(&d, Some(&f));
     assert_eq!(rt; pairs.len(), 2);
-    assert_eq!(rt; pairs[0].0.bytes(), b"d".as_slice());
-    assert_eq!(rt; pairs[1].0.bytes(), b"dd".as_slice());
+    assert!(rt; pairs[0].0.bytes() == b"d".as_slice());
+    assert!(rt; pairs[1].0.bytes() == b"dd".as_slice());
     assert_eq!(rt; leaf.between(&e, None).len(), 1);
     assert!(rt; leaf.between(&f, Some(&d)).is_empty());
     assert_eq!(rt; alloc.left(), 1);

@@ -1,16 +1,14 @@
 // Each growth of memory refused in turn. A refused call asks for no further one.
 use super::making::{LONG, a_and_b, c_with, from_c, from_start, from_start_and_c, heap, key};
-use crate::{Memory, PageId};
+use crate::PageId;
 
 #[test]
 fn the_half_of_a_leaf_takes_one_growth(rt: HostRuntime) {
     let alloc = heap(&rt, rt.alloc());
     let leaf = a_and_b(&rt, alloc);
-    for growth in 1..=1 {
-        alloc.refuse(growth);
-        assert_eq!(rt; leaf.upper_half(1).err(), Some(Memory), "growth {growth}");
-        assert_eq!(rt; alloc.left(), 0);
-    }
+    alloc.refuse(1);
+    assert!(rt; leaf.upper_half(1).is_err());
+    assert_eq!(rt; alloc.left(), 0);
     alloc.refuse(2);
     assert!(rt; leaf.upper_half(1).is_ok());
     assert_eq!(rt; alloc.left(), 1);
@@ -23,7 +21,7 @@ fn two_leaves_take_one_growth_and_one_for_a_long_value(rt: HostRuntime) {
     let right = c_with(&rt, alloc, LONG);
     for growth in 1..=2 {
         alloc.refuse(growth);
-        assert_eq!(rt; left.joined(&right).err(), Some(Memory), "growth {growth}");
+        assert!(rt; left.joined(&right).is_err());
         assert_eq!(rt; alloc.left(), 0);
     }
     alloc.refuse(3);
@@ -36,11 +34,9 @@ fn two_inner_pages_take_one_growth(rt: HostRuntime) {
     let alloc = heap(&rt, rt.alloc());
     let left = from_start(&rt, alloc);
     let right = from_c(&rt, alloc);
-    for growth in 1..=1 {
-        alloc.refuse(growth);
-        assert_eq!(rt; left.joined(&right).err(), Some(Memory), "growth {growth}");
-        assert_eq!(rt; alloc.left(), 0);
-    }
+    alloc.refuse(1);
+    assert!(rt; left.joined(&right).is_err());
+    assert_eq!(rt; alloc.left(), 0);
     alloc.refuse(2);
     assert!(rt; left.joined(&right).is_ok());
     assert_eq!(rt; alloc.left(), 1);
@@ -53,11 +49,7 @@ fn another_child_takes_one_growth_and_one_for_a_long_separator(rt: HostRuntime) 
     let sep = key(&rt, alloc, LONG);
     for growth in 1..=2 {
         alloc.refuse(growth);
-        assert_eq!(rt;
-            inner.with_child(&sep, PageId(5)).err(),
-            Some(Memory),
-            "growth {growth}"
-        );
+        assert!(rt; inner.with_child(&sep, PageId(5)).is_err());
         assert_eq!(rt; alloc.left(), 0);
     }
     alloc.refuse(3);
@@ -70,15 +62,9 @@ fn one_child_less_takes_one_growth(rt: HostRuntime) {
     let alloc = heap(&rt, rt.alloc());
     let inner = from_start_and_c(&rt, alloc);
     let sep = key(&rt, alloc, b"c");
-    for growth in 1..=1 {
-        alloc.refuse(growth);
-        assert_eq!(rt;
-            inner.without_child(&sep).err(),
-            Some(Memory),
-            "growth {growth}"
-        );
-        assert_eq!(rt; alloc.left(), 0);
-    }
+    alloc.refuse(1);
+    assert!(rt; inner.without_child(&sep).is_err());
+    assert_eq!(rt; alloc.left(), 0);
     alloc.refuse(2);
     assert!(rt; inner.without_child(&sep).is_ok());
     assert_eq!(rt; alloc.left(), 1);
@@ -93,7 +79,7 @@ fn the_half_of_an_inner_page_takes_one_growth_and_two_for_a_long_low_key(rt: Hos
     assert!(rt; inner.children().len() == 3);
     for growth in 1..=3 {
         alloc.refuse(growth);
-        assert_eq!(rt; inner.upper_half(1).err(), Some(Memory), "growth {growth}");
+        assert!(rt; inner.upper_half(1).is_err());
         assert_eq!(rt; alloc.left(), 0);
     }
     alloc.refuse(4);

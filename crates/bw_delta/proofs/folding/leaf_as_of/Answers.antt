@@ -10,7 +10,7 @@ use Rattle.bw_model.specs.Values.{ValueBytes}
 use Rattle.bw_delta.specs.Writes.{WriteView}
 use Rattle.bw_delta.specs.History.{history, action_at, pointed_to}
 use Rattle.bw_delta.specs.Batches.{writes_to}
-use Rattle.bw_delta.specs.Pairs.{parts_of, value_in, latest_value}
+use Rattle.bw_delta.specs.Pairs.{parts_of, value_in_parts, latest_value}
 use Rattle.bw_delta.proofs.Filters.{same_filtered}
 use Rattle.bw_delta.proofs.Histories.{same_history}
 use Rattle.bw_delta.proofs.Maps.{both_ok, only_inside, or_none}
@@ -23,7 +23,7 @@ latest c q inside =
     let stamp = c.args.stamp in
     let given = pointed_to c.args.writes.now in
     let ordered = pointed_to c.in_ok-ordered.ordered.items in
-    let parts = value_in (parts_of c.args.parts.now) q in
+    let parts = value_in_parts (parts_of c.args.parts.now) q in
     let base = tree.get key_cmp c.put_parts.new.values q in
     let is_base = c.in_ok-put_parts.ensures.inside q inside ∙ ap (λ (es : List Pair). option_or parts (lookup (tree.is_at (key_cmp q)) es)) c.new-values.ensures.empty ∙ or_none parts in
     c.in_ok-put_writes.ensures.values q

@@ -8,7 +8,7 @@ use Rattle.bw_key.specs.Order.{key_cmp}
 use Rattle.bw_model.specs.Values.{ValueBytes}
 use Rattle.bw_model.specs.Lists.{Pair}
 use Rattle.bw_page.specs.Leaves.{LeafView}
-use Rattle.bw_delta.specs.Pairs.{parts_of, value_in}
+use Rattle.bw_delta.specs.Pairs.{parts_of, value_in_parts}
 use Rattle.bw_delta.proofs.Maps.{value_last}
 use Rattle.bw_delta.proofs.folding.put_parts.Goals as goal
 
@@ -20,7 +20,7 @@ loop-part-preserved c = record {
       let before = tree.get key_cmp c.loop-part.values q in
       let put = c.in_ok-put_pairs.ensures.inside q inside ∙ ap (λ (l : List Pair). option_or (find key_cmp q l) before) c.pairs.ensures.value in
       let seen = ap parts_of c.in-Some.ensures.steps ∙ map-append (λ (r : Bor (LeafView ValueBytes)). r.now) rest (part ∷ []) in
-      ap (option_or (value_in (parts_of rest) q)) put ∙ value_last q (parts_of rest) part.now before
-      ∙ ap (λ (l : List (LeafView ValueBytes)). option_or (value_in l q) before) (sym seen) ∙ c.loop-part.invariant.inside q inside;
+      ap (option_or (value_in_parts (parts_of rest) q)) put ∙ value_last q (parts_of rest) part.now before
+      ∙ ap (λ (l : List (LeafView ValueBytes)). option_or (value_in_parts l q) before) (sym seen) ∙ c.loop-part.invariant.inside q inside;
   outside = λ q outside. c.in_ok-put_pairs.ensures.outside q outside ∙ c.loop-part.invariant.outside q outside;
 }

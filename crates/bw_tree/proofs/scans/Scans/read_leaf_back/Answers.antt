@@ -7,9 +7,9 @@ use Rattle.bw_key.specs.Order.{key_cmp}
 use Rattle.bw_model.specs.Contents.{is_below_end, is_pair_in_range, pairs_of_range}
 use Rattle.bw_model.specs.Lists.{Pair}
 use Rattle.bw_tree.specs.Levels.{row}
-use Rattle.bw_tree.specs.Slots.{slot_at}
+use Rattle.bw_tree.specs.Slots.{slot_at, has_key}
 use Rattle.bw_tree.specs.Replaying.{IsLeafReplay, ScansView}
-use Rattle.bw_tree.specs.Scans.{high_of, is_on}
+use Rattle.bw_tree.specs.Scans.{high_of}
 use Rattle.bw_tree.specs.View.{TreeView, contents_at}
 use Rattle.bw_tree.proofs.ReplayLemmas.{pairs_on_leaf}
 use Rattle.bw_tree.proofs.scans.Scans.read_leaf_back.Goals as goal
@@ -24,7 +24,7 @@ returns-clause-read c =
     let replay = c.in_ok-leaf.leaf.replay in
     let page = c.args.page in
     let left = c.args.most - length read in
-    let on_leaf : TreeView → ℕ → List Pair = λ t stamp. where_key key_cmp (is_on (slot_at t.slots page)) (pairs_of_range (contents_at t stamp) from to) in
+    let on_leaf : TreeView → ℕ → List Pair = λ t stamp. where_key key_cmp (has_key (slot_at t.slots page)) (pairs_of_range (contents_at t stamp) from to) in
     let leaf_pairs =
     pairs_on_leaf tree c.know_levels.ensures.lawful c.know_levels.ensures.distinct page replay from to (option_copied c.lower_end-end.result)
     (subst (λ (t : TreeView). Contains (row t.levels 0) page) (sym now) c.requires)
