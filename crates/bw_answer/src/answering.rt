@@ -18,8 +18,8 @@ use std::thread::Threads;
 /// that the first i operations leave.
 ///
 /// A reply depends on the tree as of its operation's stamp alone. So the operations on one key each, grouped by key, are
-/// cut into at most `workers` parts of the same length, and so are the scans; the parts are answered side by side. A
-/// small batch is one part, and starts no thread.
+/// cut into at most `workers` parts alike in length, and so are the scans; the parts are answered side by side. A
+/// batch of under 2,048 operations on keys and under 128 scans is one part, and starts no thread.
 ///
 /// In a part each leaf that has a key of it is searched for once. The writes over it are sorted by key, and each key's
 /// are then passed once, beside the operations on the key. So the cost doesn't depend on how many of them are on one

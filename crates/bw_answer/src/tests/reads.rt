@@ -69,6 +69,28 @@ fn many_reads_are_answered_alike_by_any_number_of_workers(rt: HostRuntime) {
     }
 }
 
+// How many growths the replies by so many workers take.
+fn growths<R: Abort + Threads + Sync>(rt: &R, alloc: Alloc, workers: u64) -> u64 {
+    let tree = three(rt, alloc);
+    let ops = reads(rt, alloc, 5_000);
+    let many = 1_000_000;
+    alloc.refuse(many);
+    let replies = answered(rt, alloc, &tree, &ops, workers);
+    let left = alloc.left();
+    alloc.refuse(0);
+    assert!(rt; replies.is_ok());
+    many.saturating_sub(left)
+}
+
+// Each part has lists of its own.
+#[test]
+fn more_workers_answer_in_more_parts(rt: HostRuntime) {
+    let alloc = heap(&rt, rt.alloc());
+    let alone = growths(&rt, alloc, 1);
+    let four = growths(&rt, alloc, 4);
+    assert!(rt; alone < four);
+}
+
 #[test]
 fn each_key_has_its_home_at_its_place(rt: HostRuntime) {
     let alloc = heap(&rt, rt.alloc());

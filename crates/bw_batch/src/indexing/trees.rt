@@ -1,4 +1,5 @@
 // The tree below an index.
+use crate::Key;
 use crate::tests::making::Maker;
 use bw_memory::Alloc;
 use bw_model::Op;
@@ -41,6 +42,35 @@ fn chains_are_folded_by_what_batches_walk(rt: HostRuntime) {
     assert_eq!(rt; index.tree.records(), 0);
     assert!(rt; index.tree.heads() == [0].as_slice());
     assert_eq!(rt; index.folded, 1);
+}
+
+// Upserts of so many keys.
+fn upserts<R: Abort>(rt: &R, make: &Maker<R>, count: u32) -> Vec<Op, Alloc> {
+    let mut ops = Vec::new(make.alloc);
+    for number in 0..count {
+        let key = Key::new(make.alloc, &number.to_be_bytes()).expect(rt, "a key");
+        ops.push(Op::Upsert(key, make.value("1")))
+            .expect(rt, "memory");
+    }
+    ops
+}
+
+// Once there were many pairs, they are folded again after so many more records were walked.
+#[test]
+fn many_pairs_are_folded_less_often(rt: HostRuntime) {
+    let make = Maker::new(&rt, rt.alloc());
+    let mut index = make.index(65536);
+    let batches = [
+        (upserts(&rt, &make, 2000), 0),
+        (writes(&rt, &make, 1500), 1500),
+        (writes(&rt, &make, 0), 1500),
+        (writes(&rt, &make, 0), 0),
+    ];
+    for (ops, records) in &batches {
+        index.run(&rt, ops, &OpenGate).expect(&rt, "memory");
+        assert_eq!(rt; index.tree.records(), *records);
+    }
+    assert_eq!(rt; index.folded, 2001);
 }
 
 // A batch that is too long, and one without memory, leave the tree below as it was.

@@ -16,6 +16,11 @@ fn upserts<R: Abort>(rt: &R, make: &Maker<R>, count: u32, is_one_key: bool) -> V
     ops
 }
 
+// The reply to a write over the value of this place.
+fn was<R: Abort>(rt: &R, make: &Maker<R>, place: u32) -> Reply {
+    Reply::Was(Value::new(make.alloc, &place.to_be_bytes()).expect(rt, "a value"))
+}
+
 // How many pairs the index holds, and the last value.
 fn held<R: Abort>(rt: &R, index: &Index) -> (usize, Option<[u8; 4]>) {
     let pairs = index.contents().expect(rt, "memory").into_vec();
@@ -38,8 +43,9 @@ fn one_key_is_written_65536_times(rt: HostRuntime) {
     let replies = done.replies.as_slice();
     assert_eq!(rt; replies.len(), 65_536);
     assert!(rt; replies.first() == Some(&Reply::New));
-    let before = Value::new(make.alloc, &[0, 0, 0xff, 0xfe]).expect(&rt, "a value");
-    assert!(rt; replies.last() == Some(&Reply::Was(before)));
+    for (before, reply) in replies.iter().skip(1).enumerate() {
+        assert!(rt; *reply == was(&rt, &make, before as u32));
+    }
     assert!(rt; held(&rt, &index) == (1, Some([0, 0, 0xff, 0xff])));
 }
 

@@ -1,5 +1,5 @@
 // Batches over many leaves, compared with the plain program.
-ghost use Rattle.std.specs.Prelude.{◌≡◌, ◌<◌, None};
+ghost use Rattle.std.specs.Prelude.{◌≡◌, ◌<◌, ◌≤◌, None};
 ghost use Rattle.bw_tree.specs.Making.{AreAbutting};
 
 use super::making::{LONG, Maker, WORKERS, same};
@@ -10,36 +10,52 @@ use bw_model::ReferenceMap;
 use std::process::Abort;
 use std::thread::Threads;
 
-// The leaf at place i begins at the key of the byte 4 i, and the first one at the least key.
-const LEAVES: u32 = 64;
-
 const VALUES: [&str; 3] = ["", "1", LONG];
 
-// Empty leaves from a low key on: the one at this place, and all behind it.
-fn leaves_from<R: Abort>(rt: &R, make: &Maker<R>, low: Key, place: u32) -> Vec<Leaf, Alloc>
-    requires { place < 64 }
+// Of so many empty leaves the one at this place, which begins at the low key, and all behind it. The leaf at place i
+// begins at the key of the byte i * step, and the first one at the least key.
+fn leaves_from<R: Abort>(
+    rt: &R,
+    make: &Maker<R>,
+    low: Key,
+    place: u32,
+    count: u32,
+    step: u8,
+) -> Vec<Leaf, Alloc>
+    requires place { place < count }
+    requires few { count ≤ 256 }
     ensures { AreAbutting place low result.items }
 {
     let none = Pairs::from_vec(Vec::new(make.alloc));
     let next = place + 1;
-    if next == LEAVES {
+    if next == count {
         let last = Leaf::from_pairs(low, None, None, none);
         return vec![in make.alloc; last].expect(rt, "a leaf");
     }
-    let high = key(rt, make, &[next as u8 * 4]);
+    let high = key(rt, make, &[(next as u8).wrapping_mul(step)]);
     assert!(rt; low < high);
     let begins = high.copy().expect(rt, "a key");
     let leaf = Leaf::from_pairs(low, Some(high), Some(PageId(next)), none);
-    let mut leaves = leaves_from(rt, make, begins, next);
+    let mut leaves = leaves_from(rt, make, begins, next, count, step);
     leaves.insert(0, leaf).expect(rt, "a leaf");
     leaves
 }
 
-// An index over empty leaves, with so many workers and pieces of so many records.
-fn over_leaves<R: Abort>(rt: &R, make: &Maker<R>, workers: u64, piece: u64) -> Index {
-    let leaves = leaves_from(rt, make, key(rt, make, &[]), 0);
+// A tree over so many empty leaves, with a root.
+fn tree_of<R: Abort>(rt: &R, make: &Maker<R>, count: u32, step: u8) -> Tree
+    requires some { 0 < count }
+    requires few { count ≤ 256 }
+    ensures { result.staged ≡ None }
+{
+    let leaves = leaves_from(rt, make, key(rt, make, &[]), 0, count, step);
     let tree = Tree::from_level(make.alloc, leaves).expect(rt, "a tree");
-    assert!(rt; tree.heads().len() == LEAVES as usize + 1);
+    assert!(rt; tree.heads().len() == count as usize + 1);
+    tree
+}
+
+// An index over 64 empty leaves, with so many workers and pieces of so many records.
+fn over_leaves<R: Abort>(rt: &R, make: &Maker<R>, workers: u64, piece: u64) -> Index {
+    let tree = tree_of(rt, make, 64, 4);
     Index::from_tree(make.alloc, make.working(workers, piece), tree)
 }
 
@@ -129,6 +145,14 @@ fn batches_over_many_leaves_are_answered_as_by_the_plain_program(rt: HostRuntime
     let make = Maker::new(&rt, rt.alloc());
     let index = over_leaves(&rt, &make, 4, 64);
     compare(&rt, &make, 20130408, index, 40, 80);
+}
+
+#[test]
+fn batches_over_250_leaves_are_answered_as_by_the_plain_program(rt: HostRuntime) {
+    let make = Maker::new(&rt, rt.alloc());
+    let tree = tree_of(&rt, &make, 250, 1);
+    let index = Index::from_tree(make.alloc, make.working(4, 64), tree);
+    compare(&rt, &make, 20180610, index, 10, 200);
 }
 
 #[test]

@@ -13,19 +13,26 @@ use std::thread::Threads;
 // The word of the first record.
 const FLOOR: u64 = 4294967296;
 
-// One record waits until another one was posted, and counts the calls of both kinds.
+// More turns than a thread takes to start.
+const TURNS: u64 = 200000000;
+
+// One record waits so many turns until another one was posted. All calls are counted.
 #[derive(Drop)]
 struct Turn {
     late: u64,
+    first: u64,
+    turns: u64,
     posted: AtomicU64,
     calls: AtomicU64,
     gave_up: AtomicU64,
 }
 
 impl Turn {
-    fn new(late: u64) -> Turn {
+    fn new(late: u64, first: u64, turns: u64) -> Turn {
         Turn {
             late,
+            first,
+            turns,
             posted: AtomicU64::new(0),
             calls: AtomicU64::new(0),
             gave_up: AtomicU64::new(0),
@@ -39,7 +46,7 @@ impl Gate for Turn {
         if r != self.late {
             return;
         }
-        for _ in 0..200000000u64 {
+        for _ in 0..self.turns {
             if self.posted.load(Ordering::SeqCst) == 1 {
                 return;
             }
@@ -49,7 +56,7 @@ impl Gate for Turn {
 
     fn after(&self, r: u64) {
         self.calls.fetch_add(1, Ordering::SeqCst);
-        if r != self.late {
+        if r == self.first {
             self.posted.store(1, Ordering::SeqCst);
         }
     }
@@ -92,7 +99,7 @@ fn two_workers_post_in_either_order(rt: HostRuntime) {
     let alloc = heap(&rt, rt.alloc());
     let ops = puts(&rt, alloc, 2);
     for late in 0..2u64 {
-        let turn = Turn::new(late);
+        let turn = Turn::new(late, 1 - late, TURNS);
         let (tree, _) = posted(&rt, alloc, &ops, 1, 2, &turn);
         assert_eq!(rt; turn.gave_up.load(Ordering::SeqCst), 0);
         assert_eq!(rt; turn.calls.load(Ordering::SeqCst), 4);
@@ -101,6 +108,53 @@ fn two_workers_post_in_either_order(rt: HostRuntime) {
         has(&rt, alloc, &tree, 1, &[(b"a", Some(b"0"))]);
         has(&rt, alloc, &tree, 2, &[(b"a", Some(b"1"))]);
     }
+}
+
+// The writes of a piece are posted by one worker, in their order.
+#[test]
+fn a_piece_is_posted_by_one_worker(rt: HostRuntime) {
+    let alloc = heap(&rt, rt.alloc());
+    let ops = puts(&rt, alloc, 4);
+    let turn = Turn::new(0, 1, TURNS / 10);
+    let (tree, _) = posted(&rt, alloc, &ops, 2, 2, &turn);
+    assert_eq!(rt; turn.gave_up.load(Ordering::SeqCst), 1);
+    assert_eq!(rt; tree.records(), 4);
+}
+
+// Each record waits until so many have come.
+#[derive(Drop)]
+struct Meeting {
+    wanted: u64,
+    came: AtomicU64,
+    gave_up: AtomicU64,
+}
+
+impl Gate for Meeting {
+    fn before(&self, _r: u64) {
+        self.came.fetch_add(1, Ordering::SeqCst);
+        for _ in 0..TURNS {
+            if self.came.load(Ordering::SeqCst) >= self.wanted {
+                return;
+            }
+        }
+        self.gave_up.store(1, Ordering::SeqCst);
+    }
+
+    fn after(&self, _r: u64) {}
+}
+
+#[test]
+fn four_workers_post_at_once(rt: HostRuntime) {
+    let alloc = heap(&rt, rt.alloc());
+    let ops = puts(&rt, alloc, 4);
+    let meeting = Meeting {
+        wanted: 4,
+        came: AtomicU64::new(0),
+        gave_up: AtomicU64::new(0),
+    };
+    let (tree, _) = posted(&rt, alloc, &ops, 1, 4, &meeting);
+    assert_eq!(rt; meeting.gave_up.load(Ordering::SeqCst), 0);
+    assert_eq!(rt; tree.records(), 4);
 }
 
 // Compares the value at the key as of each stamp.
