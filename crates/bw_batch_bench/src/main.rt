@@ -2,9 +2,10 @@
 //!
 //! An index and a map are filled with the same keys of 8 bytes, 44 to a leaf of the index, and then run the same batches,
 //! which are drawn from a seed: gets, then gets and upserts in equal parts, and then scans of 32 pairs and upserts in equal
-//! parts. With no word there are few keys, and how many replies of the two are the same is printed. With the word `time` there are 10,000 keys and 1,000,000, and batches
-//! of 65,536 operations: then the times in the middle are printed, and the ratio of the index's to the map's. Beside it
-//! stands the ratio of all times together, since the index folds its chains after some batches only.
+//! parts. With no word there are few keys, and how many replies of the two are the same is printed. With the word `time`
+//! there are 10,000 keys and 1,000,000, and batches of 65,536 operations: then the times in the middle are printed, and the
+//! ratio of the index's to the map's. Beside it stands the ratio of all times together, since the index folds its chains
+//! after some batches only.
 #![tactic(auto)]
 
 ghost use Rattle.std.specs.Prelude.{◌<◌};
