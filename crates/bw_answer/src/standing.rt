@@ -215,12 +215,7 @@ fn scan_reply(scans: &mut Scans<'_>, op: &Op, stamp: u64) -> Result<Reply, Memor
     let pairs = match op {
         Op::Scan { from, to, most } => scans.scan(from, to.as_ref(), *most, stamp)?,
         Op::Rscan { from, to, most } => scans.scan_back(from, to.as_ref(), *most, stamp)?,
-        Op::Get(_)
-        | Op::Insert(_, _)
-        | Op::Upsert(_, _)
-        | Op::Update(_, _)
-        | Op::Delete(_)
-        | Op::SwapIf(_, _, _) => unreachable!(),
+        _ => unreachable!(),
     };
     Ok(Reply::Pairs(pairs))
 }

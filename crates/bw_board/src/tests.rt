@@ -13,7 +13,7 @@ use std::process::Abort;
 pub(crate) const FLOOR: u64 = 4294967296;
 
 pub(crate) fn counted(alloc: Global) -> Result<Alloc, Memory> {
-    Ok(Box::leak(Box::new(alloc, Heap::counted(alloc))?))
+    Ok(Heap::counted(alloc).leak(alloc)?)
 }
 
 // One seat of two that have posted all that they own.
@@ -33,11 +33,11 @@ fn joined(board: &Board, first: Seat, second: Seat) -> Seat
 fn five_records_are_claimed_by_twos(rt: HostRuntime) {
     let alloc = counted(rt.alloc()).expect(&rt, "memory");
     let (board, mut seat) = Board::open(alloc, &[7], FLOOR, 5, 2, &[None]).expect(&rt, "memory");
-    assert_eq!(rt; board.claim(&mut seat), Some(0..2));
-    assert_eq!(rt; board.claim(&mut seat), Some(2..4));
-    assert_eq!(rt; board.claim(&mut seat), Some(4..5));
-    assert_eq!(rt; board.claim(&mut seat), None);
-    assert_eq!(rt; board.claim(&mut seat), None);
+    assert!(rt; board.claim(&mut seat) == Some(0..2));
+    assert!(rt; board.claim(&mut seat) == Some(2..4));
+    assert!(rt; board.claim(&mut seat) == Some(4..5));
+    assert!(rt; board.claim(&mut seat) == None);
+    assert!(rt; board.claim(&mut seat) == None);
 }
 
 #[test]
@@ -63,24 +63,24 @@ fn two_seats_post_one_after_the_other(rt: HostRuntime) {
     let Some(span) = board.claim(&mut first) else {
         panic!(rt; "nothing to claim")
     };
-    assert_eq!(rt; span, 0..1);
-    assert_eq!(rt; board.post(&mut first, span.start, 0).lost, 0);
+    assert!(rt; span == (0..1));
+    assert!(rt; board.post(&mut first, span.start, 0).lost == 0);
     let Some(span) = board.claim(&mut second) else {
         panic!(rt; "nothing to claim")
     };
-    assert_eq!(rt; span, 1..2);
-    assert_eq!(rt; board.post(&mut second, span.start, 0).lost, 0);
+    assert!(rt; span == (1..2));
+    assert!(rt; board.post(&mut second, span.start, 0).lost == 0);
     let chain = board.peek(&mut second, 0).expect(&rt, "memory");
-    assert_eq!(rt; chain.as_slice(), [1, 0].as_slice());
+    assert!(rt; chain.as_slice() == [1, 0].as_slice());
     let chain = board.peek(&mut first, 0).expect(&rt, "memory");
-    assert_eq!(rt; chain.as_slice(), [1, 0].as_slice());
+    assert!(rt; chain.as_slice() == [1, 0].as_slice());
     if board.claim(&mut first).is_some() || board.claim(&mut second).is_some() {
         panic!(rt; "a third record")
     }
     let seat = joined(&board, first, second);
     let closed = board.close(seat).expect(&rt, "memory");
-    assert_eq!(rt; closed.heads(), [4294967297].as_slice());
-    assert_eq!(rt; closed.links(), [7, 4294967296].as_slice());
+    assert!(rt; closed.heads() == [4294967297].as_slice());
+    assert!(rt; closed.links() == [7, 4294967296].as_slice());
     assert!(rt; closed.swapped().is_empty());
 }
 
@@ -97,22 +97,22 @@ fn a_seat_that_looked_posts_after_another(rt: HostRuntime) {
     let Some(one) = board.claim(&mut second) else {
         panic!(rt; "nothing to claim")
     };
-    assert_eq!(rt; zero, 0..1);
-    assert_eq!(rt; one, 1..2);
-    assert_eq!(rt; board.look(&mut first, 0), 7);
-    assert_eq!(rt; board.post(&mut second, one.start, 0).lost, 0);
+    assert!(rt; zero == (0..1));
+    assert!(rt; one == (1..2));
+    assert!(rt; board.look(&mut first, 0) == 7);
+    assert!(rt; board.post(&mut second, one.start, 0).lost == 0);
     assert!(rt; board.post(&mut first, zero.start, 0).lost <= 1);
     let chain = board.peek(&mut first, 0).expect(&rt, "memory");
-    assert_eq!(rt; chain.as_slice(), [0, 1].as_slice());
-    assert_eq!(rt; board.look(&mut second, 0), 4294967296);
+    assert!(rt; chain.as_slice() == [0, 1].as_slice());
+    assert!(rt; board.look(&mut second, 0) == 4294967296);
     if board.claim(&mut first).is_some() || board.claim(&mut second).is_some() {
         panic!(rt; "a third record")
     }
     let seat = joined(&board, first, second);
     let closed = board.close(seat).expect(&rt, "memory");
     let (heads, links, swapped) = closed.into_parts();
-    assert_eq!(rt; heads.as_slice(), [4294967296].as_slice());
-    assert_eq!(rt; links.as_slice(), [4294967297, 7].as_slice());
+    assert!(rt; heads.as_slice() == [4294967296].as_slice());
+    assert!(rt; links.as_slice() == [4294967297, 7].as_slice());
     assert!(rt; swapped.is_empty());
 }
 
@@ -127,7 +127,7 @@ fn a_board_without_records(rt: HostRuntime) {
         panic!(rt; "a record")
     }
     let closed = board.close(seat).expect(&rt, "memory");
-    assert_eq!(rt; closed.heads(), heads.as_slice());
+    assert!(rt; closed.heads() == heads.as_slice());
     assert!(rt; closed.links().is_empty() && closed.swapped().is_empty());
 }
 
@@ -137,18 +137,18 @@ fn a_word_is_replaced_before_a_post(rt: HostRuntime) {
     let (board, mut seat) = Board::open(alloc, &[FLOOR], FLOOR + 1, 1, 1, &[Some(5)]).expect(
         &rt, "memory",
     );
-    assert_eq!(rt; board.replace(&mut seat, 0), Replaced::Won);
+    assert!(rt; board.replace(&mut seat, 0) == Replaced::Won);
     let Some(span) = board.claim(&mut seat) else {
         panic!(rt; "nothing to claim")
     };
-    assert_eq!(rt; board.post(&mut seat, span.start, 0).lost, 0);
+    assert!(rt; board.post(&mut seat, span.start, 0).lost == 0);
     if board.claim(&mut seat).is_some() {
         panic!(rt; "a second record")
     }
     let closed = board.close(seat).expect(&rt, "memory");
-    assert_eq!(rt; closed.heads(), [4294967297].as_slice());
-    assert_eq!(rt; closed.links(), [5].as_slice());
-    assert_eq!(rt; closed.swapped(), [0].as_slice());
+    assert!(rt; closed.heads() == [4294967297].as_slice());
+    assert!(rt; closed.links() == [5].as_slice());
+    assert!(rt; closed.swapped() == [0].as_slice());
 }
 
 #[test]
@@ -160,14 +160,14 @@ fn a_replacement_comes_late(rt: HostRuntime) {
     let Some(span) = board.claim(&mut seat) else {
         panic!(rt; "nothing to claim")
     };
-    assert_eq!(rt; board.post(&mut seat, span.start, 0).lost, 0);
-    assert_eq!(rt; board.replace(&mut seat, 0), Replaced::Late);
+    assert!(rt; board.post(&mut seat, span.start, 0).lost == 0);
+    assert!(rt; board.replace(&mut seat, 0) == Replaced::Late);
     if board.claim(&mut seat).is_some() {
         panic!(rt; "a second record")
     }
     let closed = board.close(seat).expect(&rt, "memory");
-    assert_eq!(rt; closed.heads(), [4294967297].as_slice());
-    assert_eq!(rt; closed.links(), [4294967296].as_slice());
+    assert!(rt; closed.heads() == [4294967297].as_slice());
+    assert!(rt; closed.links() == [4294967296].as_slice());
     assert!(rt; closed.swapped().is_empty());
 }
 
@@ -188,7 +188,7 @@ fn is_refused(rt: &impl Abort, alloc: Alloc, growth: u64, call: Call) -> bool {
         return has_come(rt, alloc, growth, opened.is_err());
     }
     let (board, mut seat) = Board::open(alloc, &[7], FLOOR, 1, 1, &[Some(5)]).expect(rt, "memory");
-    assert_eq!(rt; board.replace(&mut seat, 0), Replaced::Won);
+    assert!(rt; board.replace(&mut seat, 0) == Replaced::Won);
     let Some(span) = board.claim(&mut seat) else {
         panic!(rt; "nothing to claim")
     };
@@ -198,7 +198,7 @@ fn is_refused(rt: &impl Abort, alloc: Alloc, growth: u64, call: Call) -> bool {
         let chain = board.peek(&mut seat, 0);
         let found = has_come(rt, alloc, growth, chain.is_err());
         let chain = board.peek(&mut seat, 0).expect(rt, "memory");
-        assert_eq!(rt; chain.as_slice(), [0].as_slice());
+        assert!(rt; chain.as_slice() == [0].as_slice());
         return found;
     }
     if board.claim(&mut seat).is_some() {
@@ -213,7 +213,7 @@ fn is_refused(rt: &impl Abort, alloc: Alloc, growth: u64, call: Call) -> bool {
 fn has_come(rt: &impl Abort, alloc: Alloc, growth: u64, is_err: bool) -> bool {
     let found = alloc.left() == 0 || alloc.left() > growth;
     alloc.refuse(0);
-    assert_eq!(rt; found, is_err);
+    assert!(rt; found == is_err);
     found
 }
 
@@ -231,6 +231,6 @@ fn count_refused(rt: &impl Abort, alloc: Alloc, call: Call) -> u64 {
 fn each_growth_is_refused_in_turn(rt: HostRuntime) {
     let alloc = counted(rt.alloc()).expect(&rt, "memory");
     assert!(rt; count_refused(&rt, alloc, Call::Open) > 2);
-    assert_eq!(rt; count_refused(&rt, alloc, Call::Peek), 1);
-    assert_eq!(rt; count_refused(&rt, alloc, Call::Close), 3);
+    assert!(rt; count_refused(&rt, alloc, Call::Peek) == 1);
+    assert!(rt; count_refused(&rt, alloc, Call::Close) == 3);
 }

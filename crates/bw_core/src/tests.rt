@@ -14,7 +14,7 @@ use std::process::Abort;
 pub(crate) const FLOOR: u64 = 4294967296;
 
 pub(crate) fn counted(alloc: Global) -> Result<Alloc, Memory> {
-    Ok(Box::leak(Box::new(alloc, Heap::counted(alloc))?))
+    Ok(Heap::counted(alloc).leak(alloc)?)
 }
 
 // Two seats post to one page: the second is first, and the first has to try again.
@@ -265,20 +265,17 @@ fn two_seats_post_to_one_page(rt: HostRuntime) {
     play(&rt, &mut world, &TWO_POSTS);
     play(&rt, &mut world, &NOT_ALLOWED);
     let text = shown(alloc, &world).expect(&rt, "memory");
-    assert_eq!(rt;
-        text.as_str(),
-        "heads [4294967296] links [4294967297, 7] next 2\nbook true 512 false owns 0..1 posted 0 to 0 lost 1 saw [0, 1] over [7]\nbook true 512 false owns 1..2 posted 1 to 0 lost 0 saw [1] over [7]"
+    assert!(rt;
+        text.as_str()
+            == "heads [4294967296] links [4294967297, 7] next 2\nbook true 512 false owns 0..1 posted 0 to 0 lost 1 saw [0, 1] over [7]\nbook true 512 false owns 1..2 posted 1 to 0 lost 0 saw [1] over [7]"
     );
-    assert_eq!(rt; world.first(), [7].as_slice());
-    assert_eq!(rt;
-        world.fresh(0).expect(&rt, "memory").as_slice(),
-        [0, 1].as_slice()
-    );
+    assert!(rt; world.first() == [7].as_slice());
+    assert!(rt; world.fresh(0).expect(&rt, "memory").as_slice() == [0, 1].as_slice());
     play(&rt, &mut world, &JOINED);
     let text = shown(alloc, &world).expect(&rt, "memory");
-    assert_eq!(rt;
-        text.as_str(),
-        "heads [4294967296] links [4294967297, 7] next 2\nbook true 1024 false owns 0..1 owns 1..2 posted 0 to 0 lost 1 posted 1 to 0 lost 0 saw [0, 1] over [7]\nbook false 0 false over []"
+    assert!(rt;
+        text.as_str()
+            == "heads [4294967296] links [4294967297, 7] next 2\nbook true 1024 false owns 0..1 owns 1..2 posted 0 to 0 lost 1 posted 1 to 0 lost 0 saw [0, 1] over [7]\nbook false 0 false over []"
     );
 }
 
@@ -288,9 +285,9 @@ fn a_first_word_is_replaced(rt: HostRuntime) {
     let mut world = World::start(alloc, &[7], FLOOR, 1, 1, &[Some(5)]).expect(&rt, "memory");
     play(&rt, &mut world, &REPLACED);
     let text = shown(alloc, &world).expect(&rt, "memory");
-    assert_eq!(rt;
-        text.as_str(),
-        "heads [4294967296] links [5] next 1\nbook true 512 false tried 0 true saw [] over [5]\nbook true 512 false owns 0..1 posted 0 to 0 lost 1 saw [0] over [5]"
+    assert!(rt;
+        text.as_str()
+            == "heads [4294967296] links [5] next 1\nbook true 512 false tried 0 true saw [] over [5]\nbook true 512 false owns 0..1 posted 0 to 0 lost 1 saw [0] over [5]"
     );
 }
 
@@ -300,9 +297,9 @@ fn a_replacement_is_late(rt: HostRuntime) {
     let mut world = World::start(alloc, &[7], FLOOR, 1, 1, &[Some(5)]).expect(&rt, "memory");
     play(&rt, &mut world, &LATE);
     let text = shown(alloc, &world).expect(&rt, "memory");
-    assert_eq!(rt;
-        text.as_str(),
-        "heads [4294967296] links [7] next 1\nbook true 512 false owns 0..1 posted 0 to 0 lost 0 saw [0] over [7]\nbook true 512 false tried 0 false saw [0] over [7]"
+    assert!(rt;
+        text.as_str()
+            == "heads [4294967296] links [7] next 1\nbook true 512 false owns 0..1 posted 0 to 0 lost 0 saw [0] over [7]\nbook true 512 false tried 0 false saw [0] over [7]"
     );
 }
 
@@ -312,9 +309,9 @@ fn pieces_and_widths(rt: HostRuntime) {
     let mut world = World::start(alloc, &[7], FLOOR, 5, 2, &[None]).expect(&rt, "memory");
     play(&rt, &mut world, &PIECES);
     let text = shown(alloc, &world).expect(&rt, "memory");
-    assert_eq!(rt;
-        text.as_str(),
-        "heads [7] links [0, 0, 0, 0, 0] next 8\nbook true 1024 true owns 0..2 owns 2..4 owns 4..5 saw [] over [7]"
+    assert!(rt;
+        text.as_str()
+            == "heads [7] links [0, 0, 0, 0, 0] next 8\nbook true 1024 true owns 0..2 owns 2..4 owns 4..5 saw [] over [7]"
     );
     play(&rt, &mut world, &SPLITS);
 }
@@ -369,7 +366,7 @@ fn a_start_and_a_replay_are_refused(rt: HostRuntime) {
         let found = World::replay(alloc, &[7, 8], FLOOR, 3, 2, &[None, Some(5)], &events);
         let was_refused = alloc.left() == 0 || alloc.left() > growth;
         alloc.refuse(0);
-        assert_eq!(rt; was_refused, found.is_err());
+        assert!(rt; was_refused == found.is_err());
         if let Ok(world) = found {
             assert_eq!(rt; world.books().len(), 2);
             return;
@@ -396,8 +393,8 @@ fn a_list_of_events_is_replayed(rt: HostRuntime) {
     ];
     let world = World::replay(alloc, &[7], FLOOR, 1, 1, &[None], &events).expect(&rt, "memory");
     let text = shown(alloc, &world).expect(&rt, "memory");
-    assert_eq!(rt;
-        text.as_str(),
-        "heads [7] links [7] next 1\nbook true 1024 false owns 0..1 under 0 to 0 lost 0 armed true saw [] over [7]"
+    assert!(rt;
+        text.as_str()
+            == "heads [7] links [7] next 1\nbook true 1024 false owns 0..1 under 0 to 0 lost 0 armed true saw [] over [7]"
     );
 }

@@ -61,9 +61,5 @@ pub fn post_all<R: Threads + Sync, G: Gate>(
 fn no_spares(alloc: Alloc, pages: usize) -> Result<Vec<Option<u64>, Alloc>, Memory>
     ensures { IfOk result (λ spares. spares.items ≡ replicate pages None) }
 {
-    let mut spares = Vec::with_capacity(alloc, pages)?;
-    for _ in 0..pages {
-        spares.push(None)?;
-    }
-    Ok(spares)
+    Ok(vec![in alloc; None; pages]?)
 }

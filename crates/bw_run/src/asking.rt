@@ -182,7 +182,7 @@ fn program<'a>(global: Global) -> Result<Command<'a>, AllocError>
 fn with_limits<'a>(global: Global, command: Command<'a>) -> Result<Command<'a>, AllocError>
     ensures { IfOk result (λ with. app_of with ≡ fold with_rule (app_of command.entry) number_rules) }
 {
-    let workers = "How many threads post the writes of a batch, 1 to 64";
+    let workers = "How many threads post the writes of a batch, and answer it, 1 to 64";
     let piece = "How many writes a worker takes at once, 1 to 4096";
     let chain = "How many writes stand before a leaf's page until they are folded, 1 to 1024";
     let page_max = "Above how many entries a page is split, 4 to 4096";

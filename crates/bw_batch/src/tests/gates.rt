@@ -48,8 +48,8 @@ fn replies_dont_depend_on_who_posts_first(rt: HostRuntime) {
         };
         let mut index = Index::new(make.alloc, options).expect(&rt, "an index");
         let done = index.run(&rt, &ops, &turn).expect(&rt, "memory");
-        assert_eq!(rt; turn.gave_up.load(Ordering::SeqCst), 0);
-        assert_eq!(rt; turn.calls.load(Ordering::SeqCst), 4);
+        assert!(rt; turn.gave_up.load(Ordering::SeqCst) == 0);
+        assert!(rt; turn.calls.load(Ordering::SeqCst) == 4);
         same(&rt, done.replies.as_slice(), &[Reply::New, make.was("1")]);
     }
 }

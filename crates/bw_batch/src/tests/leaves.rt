@@ -129,14 +129,14 @@ fn compare<R: Abort + Threads + Sync>(
 ) {
     let mut random = Random { state: seed };
     let mut map = ReferenceMap::new(make.alloc);
-    for number in 0..batches {
+    for _ in 0..batches {
         let ops = batch(rt, make, &mut random, len);
         let done = index.run(rt, &ops, &OpenGate).expect(rt, "memory");
         let expected = map.run(&ops).expect(rt, "memory");
         same(rt, done.replies.as_slice(), expected.as_slice());
         let contents = index.contents().expect(rt, "memory");
         let expected = map.entries().expect(rt, "memory");
-        assert!(rt; contents == expected, "seed {seed}, batch {number}");
+        assert!(rt; contents == expected);
     }
 }
 

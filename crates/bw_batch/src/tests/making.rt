@@ -17,7 +17,7 @@ pub type Pair = (&'static str, &'static str);
 pub fn same<R: Abort>(rt: &R, left: &[Reply], right: &[Reply]) {
     assert_eq!(rt; left.len(), right.len());
     for (left, right) in left.iter().zip(right) {
-        assert_eq!(rt; *left, *right);
+        assert!(rt; *left == *right);
     }
 }
 
@@ -31,11 +31,8 @@ pub struct Maker<'a, R: Abort> {
 impl<'a, R: Abort> Maker<'a, R> {
     /// A maker on a heap of its own, which is never freed.
     pub fn new(rt: &'a R, global: Global) -> Maker<'a, R> {
-        let heap = Box::new(global, Heap::counted(global)).expect(rt, "a heap");
-        Maker {
-            rt,
-            alloc: Box::leak(heap),
-        }
+        let alloc = Heap::counted(global).leak(global).expect(rt, "a heap");
+        Maker { rt, alloc }
     }
 
     /// Options with this `batch_max`.
@@ -94,10 +91,18 @@ impl<'a, R: Abort> Maker<'a, R> {
         Op::SwapIf(self.key(key), self.value(old), self.value(new))
     }
 
+    // The end of a range, where it has one.
+    fn end(&self, to: Option<&'static str>) -> Option<Key> {
+        match to {
+            Some(to) => Some(self.key(to)),
+            None => None,
+        }
+    }
+
     pub fn scan(&self, from: &str, to: Option<&'static str>, most: u64) -> Op {
         Op::Scan {
             from: self.key(from),
-            to: to.map(|to| self.key(to)),
+            to: self.end(to),
             most,
         }
     }
@@ -105,7 +110,7 @@ impl<'a, R: Abort> Maker<'a, R> {
     pub fn rscan(&self, from: &str, to: Option<&'static str>, most: u64) -> Op {
         Op::Rscan {
             from: self.key(from),
-            to: to.map(|to| self.key(to)),
+            to: self.end(to),
             most,
         }
     }

@@ -146,7 +146,7 @@ fn follow<R: Abort>(
                 same(rt, done.replies.as_slice(), replies.as_slice());
             }
             Err(refusal) => {
-                assert_eq!(rt; *refusal, Refusal::Memory);
+                assert!(rt; *refusal == Refusal::Memory);
                 refused = refused.saturating_add(1);
             }
         }
@@ -168,11 +168,11 @@ fn refuse_all_in_turn<R: Abort + Threads + Sync>(rt: &R, make: &Maker<R>, worker
             Ok(outcomes) => follow(rt, make, &batches, &outcomes, &after),
             // No batch ran.
             Err(Memory) => {
-                assert_eq!(rt; after, make.pairs(BEFORE));
+                assert!(rt; after == make.pairs(BEFORE));
                 1
             }
         };
-        assert_eq!(rt; refused, was_refused as u64);
+        assert!(rt; refused == was_refused as u64);
         if !was_refused {
             assert!(rt; growth > 10);
             return;

@@ -46,9 +46,9 @@ pub fn compare_done<R: Abort>(rt: &R, outcome: &Result<Done, Refusal>, expected:
     match outcome {
         Ok(done) => {
             same(rt, done.replies.as_slice(), expected);
-            assert_eq!(rt; done.tidy, Tidy::default());
+            assert!(rt; done.tidy == Tidy::default());
         }
-        Err(refusal) => panic!(rt; "{refusal}"),
+        Err(_) => panic!(rt; "the batch was refused"),
     }
 }
 

@@ -1,12 +1,12 @@
 // An arena, record by record.
-use super::making::{heap, write};
-use crate::{Action, Arena, Delta, Memory};
+use super::making::{delete, heap};
+use crate::{Arena, Delta, Memory};
 use bw_memory::Alloc;
 use std::process::Abort;
 
 // The record of a delete at `a` with this stamp.
 fn put<R: Abort>(rt: &R, alloc: Alloc, stamp: u64) -> Delta {
-    Delta::Put(write(rt, alloc, stamp, b"a", Action::Delete))
+    Delta::Put(delete(rt, alloc, stamp))
 }
 
 // Three records, whose links are 10, 11 and 12.

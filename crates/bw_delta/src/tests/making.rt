@@ -11,11 +11,13 @@ use std::alloc::Global;
 use std::process::Abort;
 
 /// Longer than a key or a value that takes no memory.
-pub const LONG: &[u8] = b"a text of more than 24 bytes";
+pub fn long() -> &'static [u8] {
+    b"a text of more than 24 bytes"
+}
 
 /// A heap of its own, which is never freed.
 pub fn heap<R: Abort>(rt: &R, global: Global) -> Alloc {
-    Box::leak(Box::new(global, Heap::counted(global)).expect(rt, "a heap"))
+    Heap::counted(global).leak(global).expect(rt, "a heap")
 }
 
 pub fn key<R: Abort>(rt: &R, alloc: Alloc, bytes: &[u8]) -> Key
@@ -38,15 +40,54 @@ pub fn write<R: Abort>(rt: &R, alloc: Alloc, stamp: u64, bytes: &[u8], action: A
     }
 }
 
+/// The delete of `a` with this stamp.
+pub fn delete<R: Abort>(rt: &R, alloc: Alloc, stamp: u64) -> Write
+    ensures { result.stamp ≡ stamp }
+{
+    write(rt, alloc, stamp, b"a", Action::Delete)
+}
+
+/// An insert.
+pub fn insert<R: Abort>(rt: &R, alloc: Alloc, stamp: u64, at: &[u8], bytes: &[u8]) -> Write
+    ensures { result.stamp ≡ stamp }
+{
+    let action = Action::Insert(value(rt, alloc, bytes));
+    write(rt, alloc, stamp, at, action)
+}
+
+/// An update at `a`.
+pub fn update<R: Abort>(rt: &R, alloc: Alloc, stamp: u64, bytes: &[u8]) -> Write
+    ensures { result.stamp ≡ stamp }
+{
+    let action = Action::Update(value(rt, alloc, bytes));
+    write(rt, alloc, stamp, b"a", action)
+}
+
+/// A key and its value.
+pub fn pair<R: Abort>(rt: &R, alloc: Alloc, at: &[u8], bytes: &[u8]) -> (Key, Value)
+    ensures { result.0 ≡ at.now }
+{
+    (key(rt, alloc, at), value(rt, alloc, bytes))
+}
+
+/// A list of one pair.
+pub fn one<R: Abort>(rt: &R, alloc: Alloc, pair: (Key, Value)) -> Pairs
+    ensures { result ≡ pair ∷ [] }
+{
+    Pairs::from_vec(vec![in alloc; pair].expect(rt, "the pair"))
+}
+
+/// A list of two pairs.
+pub fn two<R: Abort>(rt: &R, alloc: Alloc, first: (Key, Value), second: (Key, Value)) -> Pairs
+    ensures { result ≡ first ∷ second ∷ [] }
+{
+    Pairs::from_vec(vec![in alloc; first, second].expect(rt, "the pairs"))
+}
+
 /// The leaf of all keys, with this value at `a`.
 pub fn leaf_of<R: Abort>(rt: &R, alloc: Alloc, bytes: &[u8]) -> Leaf {
-    let pairs = vec![in alloc; (key(rt, alloc, b"a"), value(rt, alloc, bytes))];
-    Leaf::from_pairs(
-        key(rt, alloc, b""),
-        None,
-        None,
-        Pairs::from_vec(pairs.expect(rt, "the pair")),
-    )
+    let pairs = one(rt, alloc, pair(rt, alloc, b"a", bytes));
+    Leaf::from_pairs(key(rt, alloc, b""), None, None, pairs)
 }
 
 /// Whether pairs have these bytes.

@@ -1,9 +1,11 @@
 // What stamped writes leave, in each order of the slice.
-use super::making::{are, heap, key, leaf_of, pairs_of, value, value_of, write};
+use super::making::{
+    are, delete, heap, insert, key, leaf_of, pair, pairs_of, two, update, value, value_of, write,
+};
 use crate::{Action, Write, contents_are_history};
 use bw_key::Key;
 use bw_memory::Alloc;
-use bw_model::{Pairs, Value};
+use bw_model::Value;
 use bw_page::{Leaf, PageId};
 use std::process::Abort;
 
@@ -51,9 +53,9 @@ fn compare_leaf<R: Abort>(rt: &R, alloc: Alloc, order: (&Write, &Write, &Write))
 
 // An update at 7, a delete at 2 and an insert at 5, in each of their orders.
 fn ordered<R: Abort>(rt: &R, alloc: Alloc, order: u32) -> (Write, Write, Write) {
-    let update = write(rt, alloc, 7, b"a", Action::Update(value(rt, alloc, b"3")));
-    let delete = write(rt, alloc, 2, b"a", Action::Delete);
-    let insert = write(rt, alloc, 5, b"a", Action::Insert(value(rt, alloc, b"9")));
+    let update = update(rt, alloc, 7, b"3");
+    let delete = delete(rt, alloc, 2);
+    let insert = insert(rt, alloc, 5, b"a", b"9");
     match order {
         0 => (update, delete, insert),
         1 => (update, insert, delete),
@@ -74,27 +76,32 @@ fn each_order_of_the_writes_leaves_the_same(rt: HostRuntime) {
     }
 }
 
-// A leaf from `low` on and below `high`, with these two pairs.
-fn part<R: Abort>(rt: &R, alloc: Alloc, is_first: bool) -> Leaf {
-    if is_first {
-        let pairs = vec![in alloc;
-            (key(rt, alloc, b"a"), value(rt, alloc, b"1")),
-            (key(rt, alloc, b"b"), value(rt, alloc, b"2")),
-        ];
-        let pairs = Pairs::from_vec(pairs.expect(rt, "the pairs"));
-        let high = Some(key(rt, alloc, b"c"));
-        Leaf::from_pairs(key(rt, alloc, b""), high, Some(PageId(1)), pairs)
-    } else {
-        let pairs = vec![in alloc;
-            (key(rt, alloc, b"c"), value(rt, alloc, b"3")),
-            (key(rt, alloc, b"e"), value(rt, alloc, b"5")),
-        ];
-        let pairs = Pairs::from_vec(pairs.expect(rt, "the pairs"));
-        Leaf::from_pairs(key(rt, alloc, b"c"), None, None, pairs)
-    }
+// The leaf below `c`: a 1, b 2.
+fn below_c<R: Abort>(rt: &R, alloc: Alloc) -> Leaf {
+    let (a, b) = (pair(rt, alloc, b"a", b"1"), pair(rt, alloc, b"b", b"2"));
+    let pairs = two(rt, alloc, a, b);
+    let (low, high) = (key(rt, alloc, b""), key(rt, alloc, b"c"));
+    Leaf::from_pairs(low, Some(high), Some(PageId(1)), pairs)
 }
 
-// Compares the pairs of a range as of a stamp, under an upsert of a at 0, an insert of d at 1 and a delete of c at 2.
+// The leaf from `c` on: c 3, e 5.
+fn from_c<R: Abort>(rt: &R, alloc: Alloc) -> Leaf {
+    let (c, e) = (pair(rt, alloc, b"c", b"3"), pair(rt, alloc, b"e", b"5"));
+    let pairs = two(rt, alloc, c, e);
+    Leaf::from_pairs(key(rt, alloc, b"c"), None, None, pairs)
+}
+
+// A delete of c at 2, an upsert of a at 0 and an insert of d at 1.
+fn three_writes<R: Abort>(rt: &R, alloc: Alloc) -> (Write, Write, Write) {
+    let upsert = Action::Upsert(value(rt, alloc, b"9"));
+    (
+        write(rt, alloc, 2, b"c", Action::Delete),
+        write(rt, alloc, 0, b"a", upsert),
+        insert(rt, alloc, 1, b"d", b"4"),
+    )
+}
+
+// Compares the pairs of a range as of a stamp, under the three writes.
 fn compare_range<R: Abort>(
     rt: &R,
     alloc: Alloc,
@@ -102,10 +109,8 @@ fn compare_range<R: Abort>(
     stamp: u64,
     wanted: &[(&'static [u8], &'static [u8])],
 ) {
-    let (first, second) = (part(rt, alloc, true), part(rt, alloc, false));
-    let a = write(rt, alloc, 0, b"a", Action::Upsert(value(rt, alloc, b"9")));
-    let d = write(rt, alloc, 1, b"d", Action::Insert(value(rt, alloc, b"4")));
-    let c = write(rt, alloc, 2, b"c", Action::Delete);
+    let (first, second) = (below_c(rt, alloc), from_c(rt, alloc));
+    let (c, a, d) = three_writes(rt, alloc);
     let pairs = pairs_of(rt, alloc, &[&first, &second], range, (&c, &a, &d), stamp);
     assert!(rt; are(&pairs.expect(rt, "memory"), wanted));
 }

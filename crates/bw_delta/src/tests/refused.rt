@@ -1,6 +1,6 @@
 // Each growth of memory refused in turn.
-use super::making::{LONG, heap, key, leaf_of, pairs_of, value, value_of, write};
-use crate::{Action, Memory};
+use super::making::{delete, heap, insert, key, leaf_of, long, pairs_of, update, value, value_of};
+use crate::Memory;
 use bw_memory::Alloc;
 use bw_model::{Pairs, Value};
 use std::process::Abort;
@@ -14,12 +14,12 @@ pub fn was_refused(alloc: Alloc, growth: u64) -> bool {
 
 // What a delete and an insert leave of a value, where this growth is refused.
 fn read_value<R: Abort>(rt: &R, alloc: Alloc, growth: u64) -> Result<Option<Value>, Memory> {
-    let start = value(rt, alloc, LONG);
-    let delete = write(rt, alloc, 1, b"a", Action::Delete);
-    let insert = write(rt, alloc, 2, b"a", Action::Insert(value(rt, alloc, LONG)));
-    let late = write(rt, alloc, 9, b"a", Action::Delete);
+    let start = value(rt, alloc, long());
+    let first = delete(rt, alloc, 1);
+    let insert = insert(rt, alloc, 2, b"a", long());
+    let late = delete(rt, alloc, 9);
     alloc.refuse(growth);
-    value_of(rt, alloc, Some(&start), (&late, &insert, &delete), 9)
+    value_of(rt, alloc, Some(&start), (&late, &insert, &first), 9)
 }
 
 #[test]
@@ -29,7 +29,7 @@ fn each_growth_of_a_value_is_refused(rt: HostRuntime) {
         let left = read_value(&rt, alloc, growth);
         if !was_refused(alloc, growth) {
             let left = left.expect(&rt, "memory");
-            assert!(rt; left == Some(value(&rt, alloc, LONG)));
+            assert!(rt; left == Some(value(&rt, alloc, long())));
             assert_eq!(rt; growth, 3);
             return;
         }
@@ -40,11 +40,11 @@ fn each_growth_of_a_value_is_refused(rt: HostRuntime) {
 
 // What an insert and an update leave of a leaf, where this growth is refused.
 fn read_leaf<R: Abort>(rt: &R, alloc: Alloc, growth: u64) -> Result<Pairs, Memory> {
-    let leaf = leaf_of(rt, alloc, LONG);
+    let leaf = leaf_of(rt, alloc, long());
     let low = key(rt, alloc, b"");
-    let insert = write(rt, alloc, 2, LONG, Action::Insert(value(rt, alloc, LONG)));
-    let update = write(rt, alloc, 1, b"a", Action::Update(value(rt, alloc, LONG)));
-    let late = write(rt, alloc, 9, b"a", Action::Delete);
+    let insert = insert(rt, alloc, 2, long(), long());
+    let update = update(rt, alloc, 1, long());
+    let late = delete(rt, alloc, 9);
     alloc.refuse(growth);
     pairs_of(
         rt,

@@ -1,7 +1,9 @@
 // The pairs of a page as of stamps that rise.
-use super::making::{LONG, are, are_apart, heap, key, leaf_of, value, write};
+use super::making::{
+    are, are_apart, delete, heap, insert, key, leaf_of, long, pair, two, update, value,
+};
 use super::refused::was_refused;
-use crate::{Action, Memory, Replay, Write};
+use crate::{Memory, Replay, Write};
 use bw_key::Key;
 use bw_memory::Alloc;
 use bw_model::Pairs;
@@ -23,8 +25,8 @@ fn last(alloc: Alloc, replay: &Replay, high: &Key, most: u64) -> Result<Pairs, M
     Ok(Pairs::from_vec(read))
 }
 
-// Compares the first and the last pairs of a leaf of all keys with a 1 and b 2.
-fn compare_ends<R: Abort>(rt: &R, alloc: Alloc, replay: &Replay) {
+// Compares the first pairs of a leaf of all keys with a 1 and b 2.
+fn compare_firsts<R: Abort>(rt: &R, alloc: Alloc, replay: &Replay) {
     let (a, b) = (key(rt, alloc, b"a"), key(rt, alloc, b"b"));
     let pairs = first(alloc, replay, &a, 9).expect(rt, "memory");
     assert!(rt; are(&pairs, &[(b"a", b"1"), (b"b", b"2")]));
@@ -34,22 +36,23 @@ fn compare_ends<R: Abort>(rt: &R, alloc: Alloc, replay: &Replay) {
     assert!(rt; are(&pairs, &[(b"b", b"2")]));
     let pairs = first(alloc, replay, &b, 0).expect(rt, "memory");
     assert!(rt; are(&pairs, &[]));
-    let high = key(rt, alloc, b"c");
-    let pairs = last(alloc, replay, &high, 9).expect(rt, "memory");
+}
+
+// Compares the last pairs of that leaf.
+fn compare_lasts<R: Abort>(rt: &R, alloc: Alloc, replay: &Replay) {
+    let (b, c) = (key(rt, alloc, b"b"), key(rt, alloc, b"c"));
+    let pairs = last(alloc, replay, &c, 9).expect(rt, "memory");
     assert!(rt; are(&pairs, &[(b"b", b"2"), (b"a", b"1")]));
     let pairs = last(alloc, replay, &b, 9).expect(rt, "memory");
     assert!(rt; are(&pairs, &[(b"a", b"1")]));
-    let pairs = last(alloc, replay, &high, 1).expect(rt, "memory");
+    let pairs = last(alloc, replay, &c, 1).expect(rt, "memory");
     assert!(rt; are(&pairs, &[(b"b", b"2")]));
 }
 
 // The leaf of all keys: a 1, b 2.
 fn a_and_b<R: Abort>(rt: &R, alloc: Alloc) -> Leaf {
-    let pairs = vec![in alloc;
-        (key(rt, alloc, b"a"), value(rt, alloc, b"1")),
-        (key(rt, alloc, b"b"), value(rt, alloc, b"2")),
-    ];
-    let pairs = Pairs::from_vec(pairs.expect(rt, "the pairs"));
+    let (a, b) = (pair(rt, alloc, b"a", b"1"), pair(rt, alloc, b"b", b"2"));
+    let pairs = two(rt, alloc, a, b);
     Leaf::from_pairs(key(rt, alloc, b""), None, None, pairs)
 }
 
@@ -58,17 +61,19 @@ fn a_leaf_is_read_from_both_ends(rt: HostRuntime) {
     let alloc = heap(&rt, rt.alloc());
     let leaf = a_and_b(&rt, alloc);
     let replay = Replay::new(alloc, &[&leaf], None, &[]).expect(&rt, "memory");
-    compare_ends(&rt, alloc, &replay);
+    compare_firsts(&rt, alloc, &replay);
+    compare_lasts(&rt, alloc, &replay);
 }
 
 #[test]
 fn a_leaf_under_a_write_is_read_from_both_ends(rt: HostRuntime) {
     let alloc = heap(&rt, rt.alloc());
     let leaf = leaf_of(&rt, alloc, b"1");
-    let insert = write(&rt, alloc, 0, b"b", Action::Insert(value(&rt, alloc, b"2")));
+    let insert = insert(&rt, alloc, 0, b"b", b"2");
     let mut replay = Replay::new(alloc, &[&leaf], None, &[&insert]).expect(&rt, "memory");
     replay.advance(1).expect(&rt, "memory");
-    compare_ends(&rt, alloc, &replay);
+    compare_firsts(&rt, alloc, &replay);
+    compare_lasts(&rt, alloc, &replay);
 }
 
 #[test]
@@ -85,7 +90,7 @@ fn a_leaf_without_writes_is_read_where_it_stands(rt: HostRuntime) {
 fn a_leaf_is_read_where_it_stands_up_to_its_first_write(rt: HostRuntime) {
     let alloc = heap(&rt, rt.alloc());
     let leaf = leaf_of(&rt, alloc, b"1");
-    let delete = write(&rt, alloc, 5, b"a", Action::Delete);
+    let delete = delete(&rt, alloc, 5);
     let mut replay = Replay::new(alloc, &[&leaf], None, &[&delete]).expect(&rt, "memory");
     alloc.refuse(1);
     replay.advance(5).expect(&rt, "memory");
@@ -136,9 +141,9 @@ fn compare<'a, R: Abort>(
 fn a_replay_goes_on_from_stamp_to_stamp(rt: HostRuntime) {
     let alloc = heap(&rt, rt.alloc());
     let leaf = leaf_of(&rt, alloc, b"4");
-    let update = write(&rt, alloc, 7, b"a", Action::Update(value(&rt, alloc, b"3")));
-    let delete = write(&rt, alloc, 2, b"a", Action::Delete);
-    let insert = write(&rt, alloc, 5, b"a", Action::Insert(value(&rt, alloc, b"9")));
+    let update = update(&rt, alloc, 7, b"3");
+    let delete = delete(&rt, alloc, 2);
+    let insert = insert(&rt, alloc, 5, b"a", b"9");
     compare(&rt, alloc, &leaf, (&update, &delete, &insert));
     compare(&rt, alloc, &leaf, (&insert, &update, &delete));
 }
@@ -159,11 +164,11 @@ fn read_at<'a, R: Abort>(
 
 // What an insert and an update leave of a leaf, where this growth is refused.
 fn read_leaf<R: Abort>(rt: &R, alloc: Alloc, growth: u64) -> Result<Pairs, Memory> {
-    let leaf = leaf_of(rt, alloc, LONG);
+    let leaf = leaf_of(rt, alloc, long());
     let least = key(rt, alloc, b"");
-    let insert = write(rt, alloc, 2, LONG, Action::Insert(value(rt, alloc, LONG)));
-    let update = write(rt, alloc, 1, b"a", Action::Update(value(rt, alloc, LONG)));
-    let late = write(rt, alloc, 9, b"a", Action::Delete);
+    let insert = insert(rt, alloc, 2, long(), long());
+    let update = update(rt, alloc, 1, long());
+    let late = delete(rt, alloc, 9);
     alloc.refuse(growth);
     read_at(rt, alloc, &leaf, &least, (&late, &insert, &update))
 }
@@ -175,7 +180,7 @@ fn each_growth_of_a_replay_is_refused(rt: HostRuntime) {
         let left = read_leaf(&rt, alloc, growth);
         if !was_refused(alloc, growth) {
             let pairs = left.expect(&rt, "memory");
-            assert!(rt; are(&pairs, &[(b"a", LONG), (LONG, LONG)]));
+            assert!(rt; are(&pairs, &[(b"a", long()), (long(), long())]));
             assert!(rt; growth > 5);
             return;
         }

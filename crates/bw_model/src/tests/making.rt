@@ -29,11 +29,8 @@ pub struct Maker<'a, R: Abort> {
 impl<'a, R: Abort> Maker<'a, R> {
     /// A maker on a heap of its own, which is never freed.
     pub fn new(rt: &'a R, global: Global) -> Maker<'a, R> {
-        let heap = Box::new(global, Heap::counted(global)).expect(rt, "a heap");
-        Maker {
-            rt,
-            alloc: Box::leak(heap),
-        }
+        let alloc = Heap::counted(global).leak(global).expect(rt, "a heap");
+        Maker { rt, alloc }
     }
 
     pub fn key(&self, text: &str) -> Key {

@@ -18,14 +18,34 @@ enum Work {
     Run(Vec<Op, Alloc>),
 }
 
+fn lacks_copy(map: &ReferenceMap) -> bool {
+    map.copy().is_err()
+}
+
+fn lacks_entries(map: &ReferenceMap) -> bool {
+    map.entries().is_err()
+}
+
+fn lacks_write(map: &mut ReferenceMap, key: &Key, action: &Action) -> bool {
+    map.write(key, action).is_err()
+}
+
+fn lacks_apply(map: &mut ReferenceMap, op: &Op) -> bool {
+    map.apply(op).is_err()
+}
+
+fn lacks_run(map: &mut ReferenceMap, ops: &[Op]) -> bool {
+    map.run(ops).is_err()
+}
+
 // Whether there was no memory for the work.
 fn lacks_memory(map: &mut ReferenceMap, work: &Work) -> bool {
     match work {
-        Work::Copy => map.copy().is_err(),
-        Work::Entries => map.entries().is_err(),
-        Work::Write(key, action) => map.write(key, action).is_err(),
-        Work::Apply(op) => map.apply(op).is_err(),
-        Work::Run(ops) => map.run(ops).is_err(),
+        Work::Copy => lacks_copy(map),
+        Work::Entries => lacks_entries(map),
+        Work::Write(key, action) => lacks_write(map, key, action),
+        Work::Apply(op) => lacks_apply(map, op),
+        Work::Run(ops) => lacks_run(map, ops),
     }
 }
 
@@ -42,7 +62,7 @@ fn refusals<R: Abort>(rt: &R, make: &Maker<R>, work: &Work) -> u64 {
         let was_refused = make.alloc.left() == 0 || make.alloc.left() > growth;
         make.alloc.refuse(0);
 
-        assert_eq!(rt; lacked, was_refused);
+        assert!(rt; lacked == was_refused);
         if !was_refused {
             return growth - 1;
         }
@@ -79,5 +99,5 @@ fn each_piece_of_work_meets_each_refusal(rt: HostRuntime) {
     for work in &works {
         assert!(rt; refusals(&rt, &make, work) > 0);
     }
-    assert_eq!(rt; refusals(&rt, &make, &Work::Apply(make.get("a"))), 0);
+    assert!(rt; refusals(&rt, &make, &Work::Apply(make.get("a"))) == 0);
 }

@@ -106,9 +106,9 @@ fn a_key_belongs_to_the_last_separator_up_to_it(rt: HostRuntime) {
         (b"z", 1),
     ];
     for (bytes, child) in wanted {
-        assert_eq!(rt; child_for(&rt, alloc, &inner, bytes), child);
+        assert!(rt; child_for(&rt, alloc, &inner, bytes) == child);
     }
-    assert_eq!(rt; child_for(&rt, alloc, &from_c(&rt, alloc), b"c"), 1);
+    assert!(rt; child_for(&rt, alloc, &from_c(&rt, alloc), b"c") == 1);
 }
 
 // The level of a page, or the page that took a removed one's range over.
@@ -123,7 +123,7 @@ fn told(page: &Page) -> u32 {
 #[test]
 fn a_page_is_of_one_kind(rt: HostRuntime) {
     let alloc = heap(&rt, rt.alloc());
-    assert_eq!(rt; told(&Page::Leaf(c_with(&rt, alloc, b"3"))), 0);
-    assert_eq!(rt; told(&Page::Inner(from_c(&rt, alloc))), 1);
-    assert_eq!(rt; told(&Page::Gone(PageId(4))), 4);
+    assert!(rt; told(&Page::Leaf(c_with(&rt, alloc, b"3"))) == 0);
+    assert!(rt; told(&Page::Inner(from_c(&rt, alloc))) == 1);
+    assert!(rt; told(&Page::Gone(PageId(4))) == 4);
 }

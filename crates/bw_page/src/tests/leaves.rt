@@ -1,25 +1,34 @@
 // Leaves.
-use super::making::{a_and_b, c_with, heap, key, value};
-use crate::{Leaf, PageId};
+ghost use Rattle.std.specs.Prelude.{◌≡◌, [], ◌∷◌};
+
+use super::making::{a_and_b, c_with, heap, key, pair};
+use crate::{Leaf, PageId, Value};
+use bw_key::Key;
 use bw_memory::Alloc;
 use bw_model::Pairs;
 use std::process::Abort;
 
+// A list of four pairs.
+fn four<R: Abort>(
+    rt: &R,
+    alloc: Alloc,
+    a: (Key, Value),
+    b: (Key, Value),
+    c: (Key, Value),
+    d: (Key, Value),
+) -> Pairs
+    ensures { result ≡ a ∷ b ∷ c ∷ d ∷ [] }
+{
+    Pairs::from_vec(vec![in alloc; a, b, c, d].expect(rt, "the pairs"))
+}
+
 // The leaf of the keys from `c` on and below `h`, with page 7 at its right.
 fn c_to_h<R: Abort>(rt: &R, alloc: Alloc) -> Leaf {
-    let pairs = vec![in alloc;
-        (key(rt, alloc, b"c"), value(rt, alloc, b"3")),
-        (key(rt, alloc, b"d"), value(rt, alloc, b"4")),
-        (key(rt, alloc, b"dd"), value(rt, alloc, b"")),
-        (key(rt, alloc, b"f"), value(rt, alloc, b"6")),
-    ]
-    .expect(rt, "the pairs");
-    Leaf::from_pairs(
-        key(rt, alloc, b"c"),
-        Some(key(rt, alloc, b"h")),
-        Some(PageId(7)),
-        Pairs::from_vec(pairs),
-    )
+    let (c, d) = (pair(rt, alloc, b"c", b"3"), pair(rt, alloc, b"d", b"4"));
+    let (dd, f) = (pair(rt, alloc, b"dd", b""), pair(rt, alloc, b"f", b"6"));
+    let pairs = four(rt, alloc, c, d, dd, f);
+    let (low, high) = (key(rt, alloc, b"c"), key(rt, alloc, b"h"));
+    Leaf::from_pairs(low, Some(high), Some(PageId(7)), pairs)
 }
 
 // Compares a leaf's pairs with the bytes of the wanted ones.
@@ -128,5 +137,5 @@ fn the_upper_half_begins_with_the_first_pair_that_moves(rt: HostRuntime) {
 fn page_names_are_their_numbers(rt: HostRuntime) {
     assert_eq!(rt; PageId(3), PageId(3));
     assert_ne!(rt; PageId(3), PageId(4));
-    assert_eq!(rt; PageId(u32::MAX).0, 4294967295);
+    assert!(rt; PageId(u32::MAX).0 == 4294967295);
 }

@@ -31,10 +31,10 @@ fn the_writes_are_folded(rt: HostRuntime) {
     let alloc = heap(&rt, rt.alloc());
     let mut tree = written(&rt, alloc);
     stands(&rt, &tree, &[0, FLOOR, FLOOR + 1, 3], 2, 3);
-    assert_eq!(rt; tree.fold(), Ok(3));
+    assert!(rt; tree.fold() == Ok(3));
     stands(&rt, &tree, &[0, 1, 2, 3], 0, 3);
     assert_eq!(rt; tree.root(), PageId(3));
-    assert_eq!(rt; tree.route(&key(&rt, alloc, b"e")), PageId(2));
+    assert!(rt; tree.route(&key(&rt, alloc, b"e")) == PageId(2));
     holds(&rt, alloc, &tree, 3, &AFTER);
 }
 

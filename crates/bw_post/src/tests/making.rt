@@ -15,7 +15,7 @@ use std::thread::Threads;
 
 /// A heap of its own, which is never freed.
 pub fn heap<R: Abort>(rt: &R, global: Global) -> Alloc {
-    Box::leak(Box::new(global, Heap::counted(global)).expect(rt, "a heap"))
+    Heap::counted(global).leak(global).expect(rt, "a heap")
 }
 
 pub fn key<R: Abort>(rt: &R, alloc: Alloc, bytes: &[u8]) -> Key
@@ -28,22 +28,37 @@ pub fn value<R: Abort>(rt: &R, alloc: Alloc, bytes: &[u8]) -> Value {
     Value::new(alloc, bytes).expect(rt, "a value")
 }
 
+// A key and its value.
+fn pair<R: Abort>(rt: &R, alloc: Alloc, at: &[u8], bytes: &[u8]) -> (Key, Value)
+    ensures { result.0 ≡ at.now }
+{
+    (key(rt, alloc, at), value(rt, alloc, bytes))
+}
+
+// A list of one pair.
+fn one<R: Abort>(rt: &R, alloc: Alloc, pair: (Key, Value)) -> Pairs
+    ensures { result ≡ pair ∷ [] }
+{
+    Pairs::from_vec(vec![in alloc; pair].expect(rt, "the pair"))
+}
+
+// A list of two pairs.
+fn two<R: Abort>(rt: &R, alloc: Alloc, first: (Key, Value), second: (Key, Value)) -> Pairs
+    ensures { result ≡ first ∷ second ∷ [] }
+{
+    Pairs::from_vec(vec![in alloc; first, second].expect(rt, "the pairs"))
+}
+
 // The leaf up to `c`, with page 1 at its right: a 1, b 2.
 fn up_to_c<R: Abort>(rt: &R, alloc: Alloc) -> Leaf
     ensures low { result.low ≡ [] }
     ensures high { result.high ≡ Some (99 ∷ []) }
     ensures side { result.side ≡ Some 1 }
 {
-    let pairs = vec![in alloc;
-        (key(rt, alloc, b"a"), value(rt, alloc, b"1")),
-        (key(rt, alloc, b"b"), value(rt, alloc, b"2")),
-    ];
-    Leaf::from_pairs(
-        key(rt, alloc, b""),
-        Some(key(rt, alloc, b"c")),
-        Some(PageId(1)),
-        Pairs::from_vec(pairs.expect(rt, "the pairs")),
-    )
+    let (a, b) = (pair(rt, alloc, b"a", b"1"), pair(rt, alloc, b"b", b"2"));
+    let pairs = two(rt, alloc, a, b);
+    let (low, high) = (key(rt, alloc, b""), key(rt, alloc, b"c"));
+    Leaf::from_pairs(low, Some(high), Some(PageId(1)), pairs)
 }
 
 // The leaf from `c` on and below `e`, with page 2 at its right: c 3.
@@ -52,13 +67,9 @@ fn from_c<R: Abort>(rt: &R, alloc: Alloc) -> Leaf
     ensures high { result.high ≡ Some (101 ∷ []) }
     ensures side { result.side ≡ Some 2 }
 {
-    let pairs = vec![in alloc; (key(rt, alloc, b"c"), value(rt, alloc, b"3"))];
-    Leaf::from_pairs(
-        key(rt, alloc, b"c"),
-        Some(key(rt, alloc, b"e")),
-        Some(PageId(2)),
-        Pairs::from_vec(pairs.expect(rt, "the pair")),
-    )
+    let pairs = one(rt, alloc, pair(rt, alloc, b"c", b"3"));
+    let (low, high) = (key(rt, alloc, b"c"), key(rt, alloc, b"e"));
+    Leaf::from_pairs(low, Some(high), Some(PageId(2)), pairs)
 }
 
 // The leaf from `e` on: e 5.
@@ -67,13 +78,8 @@ fn from_e<R: Abort>(rt: &R, alloc: Alloc) -> Leaf
     ensures high { result.high ≡ None }
     ensures side { result.side ≡ None }
 {
-    let pairs = vec![in alloc; (key(rt, alloc, b"e"), value(rt, alloc, b"5"))];
-    Leaf::from_pairs(
-        key(rt, alloc, b"e"),
-        None,
-        None,
-        Pairs::from_vec(pairs.expect(rt, "the pair")),
-    )
+    let pairs = one(rt, alloc, pair(rt, alloc, b"e", b"5"));
+    Leaf::from_pairs(key(rt, alloc, b"e"), None, None, pairs)
 }
 
 // Three leaves: a 1 and b 2; c 3; e 5.
@@ -129,11 +135,7 @@ fn has_at<R: Abort>(
     let found = tree
         .value_at(&key(rt, alloc, bytes), stamp)
         .expect(rt, "memory");
-    assert_eq!(rt;
-        found.as_ref().map(|value| value.bytes()),
-        wanted,
-        "as of {stamp}"
-    );
+    assert!(rt; found.as_ref().map(|value| value.bytes()) == wanted);
 }
 
 /// Compares the values at keys as of a stamp.
@@ -153,8 +155,8 @@ pub fn has<R: Abort>(
 fn are<R: Abort>(rt: &R, pairs: &Pairs, wanted: &[(&'static [u8], &'static [u8])]) {
     assert_eq!(rt; pairs.as_slice().len(), wanted.len());
     for (pair, (key, value)) in pairs.as_slice().iter().zip(wanted) {
-        assert_eq!(rt; pair.0.bytes(), *key);
-        assert_eq!(rt; pair.1.bytes(), *value);
+        assert!(rt; pair.0.bytes() == *key);
+        assert!(rt; pair.1.bytes() == *value);
     }
 }
 

@@ -101,9 +101,9 @@ fn two_workers_post_in_either_order(rt: HostRuntime) {
     for late in 0..2u64 {
         let turn = Turn::new(late, 1 - late, TURNS);
         let (tree, _) = posted(&rt, alloc, &ops, 1, 2, &turn);
-        assert_eq!(rt; turn.gave_up.load(Ordering::SeqCst), 0);
-        assert_eq!(rt; turn.calls.load(Ordering::SeqCst), 4);
-        assert_eq!(rt; tree.heads(), [FLOOR + late].as_slice());
+        assert!(rt; turn.gave_up.load(Ordering::SeqCst) == 0);
+        assert!(rt; turn.calls.load(Ordering::SeqCst) == 4);
+        assert!(rt; tree.heads() == [FLOOR + late].as_slice());
         has(&rt, alloc, &tree, 0, &[(b"a", None)]);
         has(&rt, alloc, &tree, 1, &[(b"a", Some(b"0"))]);
         has(&rt, alloc, &tree, 2, &[(b"a", Some(b"1"))]);
@@ -117,7 +117,7 @@ fn a_piece_is_posted_by_one_worker(rt: HostRuntime) {
     let ops = puts(&rt, alloc, 4);
     let turn = Turn::new(0, 1, TURNS / 10);
     let (tree, _) = posted(&rt, alloc, &ops, 2, 2, &turn);
-    assert_eq!(rt; turn.gave_up.load(Ordering::SeqCst), 1);
+    assert!(rt; turn.gave_up.load(Ordering::SeqCst) == 1);
     assert_eq!(rt; tree.records(), 4);
 }
 
@@ -153,7 +153,7 @@ fn four_workers_post_at_once(rt: HostRuntime) {
         gave_up: AtomicU64::new(0),
     };
     let (tree, _) = posted(&rt, alloc, &ops, 1, 4, &meeting);
-    assert_eq!(rt; meeting.gave_up.load(Ordering::SeqCst), 0);
+    assert!(rt; meeting.gave_up.load(Ordering::SeqCst) == 0);
     assert_eq!(rt; tree.records(), 4);
 }
 
@@ -163,10 +163,7 @@ fn each_is_read<R: Abort>(rt: &R, alloc: Alloc, tree: &Tree, count: u64) {
     for stamp in 1..count {
         let digit = ((stamp - 1) % 10) as u8 + b'0';
         let found = tree.value_at(&name, stamp).expect(rt, "memory");
-        assert_eq!(rt;
-            found.as_ref().map(|value| value.bytes()),
-            Some([digit].as_slice())
-        );
+        assert!(rt; found.as_ref().map(|value| value.bytes()) == Some([digit].as_slice()));
     }
 }
 

@@ -12,7 +12,7 @@ Arguments:
   [FILE]  The trace; - is standard input [default: -]
 
 Options:
-      --workers <N>     How many threads post the writes of a batch, 1 to 64 [default: 4]
+      --workers <N>     How many threads post the writes of a batch, and answer it, 1 to 64 [default: 4]
       --piece <N>       How many writes a worker takes at once, 1 to 4096 [default: 64]
       --chain <N>       How many writes stand before a leaf's page until they are folded, 1 to 1024 [default: 8]
       --page-max <N>    Above how many entries a page is split, 4 to 4096 [default: 64]

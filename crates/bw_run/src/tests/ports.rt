@@ -225,7 +225,7 @@ impl<'a, R: Abort + Files + AllocGlobal + Threads + Sync> Runner<'a, R> {
     }
 
     pub fn expect_text(&self, sink: &Sink, text: &str) {
-        assert_eq!(self.rt; sink.taken.as_slice(), text.as_bytes());
+        assert!(self.rt; sink.taken.as_slice() == text.as_bytes());
     }
 
     /// One line, or nothing where there is no message.

@@ -116,6 +116,6 @@ impl<'a, R: Abort> Maker<'a, R> {
     }
 
     pub fn expect_text(&self, sink: &Sink, text: &str) {
-        assert_eq!(self.rt; sink.taken.as_slice(), text.as_bytes());
+        assert!(self.rt; sink.taken.as_slice() == text.as_bytes());
     }
 }

@@ -26,7 +26,7 @@ impl<R: Abort> Maker<'_, R> {
     fn expect_reply(&self, reply: Reply, text: &str) {
         let mut out = self.sink();
         let outcome = print_replies(self.alloc, &mut out, &[reply]);
-        assert_eq!(self.rt; outcome, Ok(()));
+        assert!(self.rt; outcome == Ok(()));
         self.expect_text(&out, text);
     }
 }
@@ -87,14 +87,11 @@ fn replies_are_printed_in_their_order(rt: HostRuntime) {
     let make = Maker::new(&rt, rt.alloc());
     let mut out = make.sink();
     let none: [Reply; 0] = [];
-    assert_eq!(rt; print_replies(make.alloc, &mut out, &none), Ok(()));
+    assert!(rt; print_replies(make.alloc, &mut out, &none) == Ok(()));
     make.expect_text(&out, "");
     let replies = [Reply::New, Reply::Was(make.value(b"1")), Reply::Absent];
-    assert_eq!(rt; print_replies(make.alloc, &mut out, &replies), Ok(()));
-    assert_eq!(rt;
-        print_replies(make.alloc, &mut out, &[Reply::Inserted]),
-        Ok(())
-    );
+    assert!(rt; print_replies(make.alloc, &mut out, &replies) == Ok(()));
+    assert!(rt; print_replies(make.alloc, &mut out, &[Reply::Inserted]) == Ok(()));
     make.expect_text(&out, "new\nwas 1\nnone\ninserted\n");
 }
 
@@ -109,16 +106,13 @@ fn a_long_text_is_handed_on_in_parts(rt: HostRuntime) {
         text.push_str("none\n").expect(&rt, "memory");
     }
     let mut out = make.sink();
-    assert_eq!(rt; print_replies(make.alloc, &mut out, &replies), Ok(()));
+    assert!(rt; print_replies(make.alloc, &mut out, &replies) == Ok(()));
     make.expect_text(&out, text.as_str());
     assert!(rt; out.calls > 1);
 
     for call in 1..out.calls.saturating_add(1) {
         let mut out = make.sink_failing_at(call);
-        assert_eq!(rt;
-            print_replies(make.alloc, &mut out, &replies),
-            Err(TraceFault::Write)
-        );
+        assert!(rt; print_replies(make.alloc, &mut out, &replies) == Err(TraceFault::Write));
         assert!(rt; out.taken.len() < text.len());
     }
 }
@@ -143,7 +137,7 @@ fn each_growth_of_a_text_is_refused_in_turn(rt: HostRuntime) {
         match outcome {
             Ok(()) => make.expect_text(&out, text),
             Err(fault) => {
-                assert_eq!(rt; fault, TraceFault::Memory, "growth {growth}");
+                assert!(rt; fault == TraceFault::Memory);
                 assert!(rt;
                     text.as_bytes().starts_with(out.taken.as_slice()),
                     "growth {growth}"

@@ -43,7 +43,7 @@ impl<R: Abort> Maker<'_, R> {
     // The same fault again and again.
     fn expect_fault<I: Inlet>(&self, source: &mut Source<I>, fault: TraceFault) {
         for _ in 0..3 {
-            assert_eq!(self.rt; read_batch(source).err(), Some(fault));
+            assert!(self.rt; read_batch(source).err() == Some(fault));
         }
     }
 }
@@ -94,12 +94,12 @@ fn a_source_keeps_its_want_of_memory(rt: HostRuntime) {
     let mut source = make.source("get a\ngo\nget b\ngo\n");
     make.expect_batch(&mut source, &[make.get("a")]);
     make.alloc.refuse(1);
-    assert_eq!(rt; read_batch(&mut source).err(), Some(TraceFault::Memory));
+    assert!(rt; read_batch(&mut source).err() == Some(TraceFault::Memory));
     make.alloc.refuse(0);
     make.expect_fault(&mut source, TraceFault::Memory);
     make.alloc.refuse(1);
     let input = make.pieces("get a", 1);
-    assert_eq!(rt; Source::new(make.alloc, input, 1000).err(), Some(Memory));
+    assert!(rt; Source::new(make.alloc, input, 1000).err() == Some(Memory));
 }
 
 #[test]
@@ -126,7 +126,7 @@ fn faults_have_their_texts(rt: HostRuntime) {
         ),
     ] {
         let found = format!(in rt.alloc(); "{fault}").expect(&rt, "memory");
-        assert_eq!(rt; found.as_str(), text);
+        assert!(rt; found.as_str() == text);
     }
 }
 
@@ -144,9 +144,6 @@ fn refused(alloc: Alloc) -> Result<(), TraceFault> {
 #[test]
 fn want_of_memory_is_a_fault(rt: HostRuntime) {
     let make = Maker::new(&rt, rt.alloc());
-    assert_eq!(rt; refused(make.alloc), Err(TraceFault::Memory));
-    assert_eq!(rt;
-        TraceFault::from(std::alloc::AllocError),
-        TraceFault::Memory
-    );
+    assert!(rt; refused(make.alloc) == Err(TraceFault::Memory));
+    assert!(rt; TraceFault::from(std::alloc::AllocError) == TraceFault::Memory);
 }

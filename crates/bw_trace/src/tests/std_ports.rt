@@ -29,7 +29,7 @@ fn a_writer_of_std_takes_texts(rt: HostRuntime) {
     let (front, back) = queue.as_slices();
     let mut taken = front.to_vec(rt.alloc()).expect(&rt, "memory");
     taken.extend_from_slice(back).expect(&rt, "memory");
-    assert_eq!(rt; taken.as_slice(), b"is 1\nnone\n".as_slice());
+    assert!(rt; taken.as_slice() == b"is 1\nnone\n".as_slice());
 }
 
 // Holds bytes back until it is flushed.
@@ -69,10 +69,7 @@ fn each_text_is_flushed(rt: HostRuntime) {
     };
     for (flushes, taken) in [(1, 5), (2, 10)] {
         assert!(rt; FromWrite::new(&mut writer).put(b"none\n").is_ok());
-        assert_eq!(rt;
-            (writer.flushes, writer.taken, writer.held),
-            (flushes, taken, 0)
-        );
+        assert!(rt; (writer.flushes, writer.taken, writer.held) == (flushes, taken, 0));
     }
     assert!(rt; FromWrite::new(&mut writer).put(b"none\n") == Err(Failed));
 }

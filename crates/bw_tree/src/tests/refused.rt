@@ -48,7 +48,7 @@ fn stage_refused<R: Abort>(rt: &R, alloc: Alloc, growth: u64) -> bool {
     alloc.refuse(growth);
     let staged = tree.stage(&ops);
     let refused = was_refused(alloc, growth);
-    assert_eq!(rt; staged.is_err(), refused);
+    assert!(rt; staged.is_err() == refused);
     stands(rt, &tree, 3, &[0, 1, 2, 3], if refused { 0 } else { 2 });
     has(rt, alloc, &tree, 9, &[(b"c", Some(b"3")), (LONG, None)]);
     refused
@@ -75,10 +75,7 @@ fn a_refused_batch_is_staged_again(rt: HostRuntime) {
     if tree.stage(&ops).is_err() {
         alloc.refuse(0);
         let staged = tree.stage(&ops).expect(&rt, "memory");
-        assert_eq!(rt;
-            (staged.base, staged.floor, staged.records),
-            (0, 4294967296, 2)
-        );
+        assert!(rt; (staged.base, staged.floor, staged.records) == (0, 4294967296, 2));
         return;
     }
     panic!(rt; "the growth was not refused")

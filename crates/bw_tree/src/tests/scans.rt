@@ -1,7 +1,8 @@
 // Scans over three leaves.
 use super::making::{are, heap, key, three_leaves};
 use super::refused::was_refused;
-use crate::{Memory, Scans};
+use crate::{Memory, Scans, Tree};
+use bw_memory::Alloc;
 use bw_model::Pairs;
 use std::process::Abort;
 
@@ -94,39 +95,64 @@ fn scans_follow_one_another_at_any_stamps(rt: HostRuntime) {
     }
 }
 
+// The scans of a tree whose second and third leaf were read.
+fn read<'a, R: Abort>(rt: &R, alloc: Alloc, tree: &'a Tree) -> Scans<'a> {
+    let mut scans = Scans::new(alloc, tree);
+    let from = key(rt, alloc, b"c");
+    has_pairs(
+        rt,
+        scans.scan(&from, None, 2, 0),
+        &[(b"c", b"3"), (b"e", b"5")],
+    );
+    scans
+}
+
 #[test]
 fn leaves_that_were_read_are_found_again(rt: HostRuntime) {
     let alloc = heap(&rt, rt.alloc());
     let tree = three_leaves(&rt, alloc);
-    let mut scans = Scans::new(alloc, &tree);
-    let least = key(&rt, alloc, b"");
-    let b = key(&rt, alloc, b"b");
-    let c = key(&rt, alloc, b"c");
-    let d = key(&rt, alloc, b"d");
-    let e = key(&rt, alloc, b"e");
-    has_pairs(&rt, scans.scan(&c, None, 1, 0), &[(b"c", b"3")]);
+    let mut scans = read(&rt, alloc, &tree);
+    let (b, d) = (key(&rt, alloc, b"b"), key(&rt, alloc, b"d"));
     has_pairs(&rt, scans.scan(&d, None, 9, 0), &[(b"e", b"5")]);
     has_pairs(
         &rt,
-        scans.scan(&b, Some(&e), 9, 0),
+        scans.scan(&b, Some(&d), 9, 0),
         &[(b"b", b"2"), (b"c", b"3")],
     );
+    has_pairs(&rt, scans.scan_back(&d, None, 9, 0), &[(b"e", b"5")]);
+}
+
+#[test]
+fn leaves_that_were_read_are_found_again_below_an_end(rt: HostRuntime) {
+    let alloc = heap(&rt, rt.alloc());
+    let tree = three_leaves(&rt, alloc);
+    let mut scans = read(&rt, alloc, &tree);
+    let least = key(&rt, alloc, b"");
+    let e = key(&rt, alloc, b"e");
     has_pairs(
         &rt,
         scans.scan_back(&least, Some(&e), 1, 0),
         &[(b"c", b"3")],
     );
+    let d = key(&rt, alloc, b"d");
     has_pairs(
         &rt,
         scans.scan_back(&least, Some(&d), 2, 0),
         &[(b"c", b"3"), (b"b", b"2")],
     );
+}
+
+#[test]
+fn a_leaf_is_found_below_one_that_was_read(rt: HostRuntime) {
+    let alloc = heap(&rt, rt.alloc());
+    let tree = three_leaves(&rt, alloc);
+    let mut scans = read(&rt, alloc, &tree);
+    let (least, c) = (key(&rt, alloc, b""), key(&rt, alloc, b"c"));
     has_pairs(
         &rt,
         scans.scan_back(&least, Some(&c), 1, 0),
         &[(b"b", b"2")],
     );
-    has_pairs(&rt, scans.scan_back(&d, None, 9, 0), &[(b"e", b"5")]);
 }
 
 #[test]
