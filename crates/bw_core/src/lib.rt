@@ -10,8 +10,6 @@ mod copies;
 pub mod laws;
 mod playing;
 mod state;
-#[cfg(test)]
-mod tests;
 mod world;
 
 pub use book::Book;

@@ -12,8 +12,6 @@ mod laws;
 mod present;
 mod reading;
 mod replay;
-#[cfg(test)]
-mod tests;
 mod writes;
 
 pub use arena::Arena;

@@ -1,5 +1,5 @@
 // The pairs that a replay has now.
-ghost use Rattle.std.specs.Prelude.{◌≡◌, ◌≤◌, ◌++◌, T, drop, filter, length, reverse, take, IfOk, OnOk};
+ghost use Rattle.std.specs.Prelude.{◌≡◌, ◌≤◌, ◌++◌, [], ◌∷◌, T, drop, filter, length, reverse, take, IfOk, OnOk};
 ghost use Rattle.std.specs.Option.{option_copied};
 ghost use Rattle.std.specs.FinMap.{find, is_sorted};
 ghost use Rattle.bw_key.specs.Order.{KeyBytes, key_cmp};
@@ -145,6 +145,14 @@ fn range<'v>(
     values.range(low..end)
 }
 
+// Adds a copy of a pair to a list.
+fn push_copy(read: &mut Vec<(Key, Value), Alloc>, key: &Key, value: &Value) -> Result<(), Memory>
+    ensures { OnOk result (read.new.items ≡ read.old.items ++ (key.now, value.now) ∷ []) }
+{
+    read.push((key.copy()?, value.copy()?))?;
+    Ok(())
+}
+
 // Adds copies of the first pairs of a list, no more than `most` of them.
 fn add_first_pairs(
     pairs: &[(Key, Value)],
@@ -158,7 +166,7 @@ fn add_first_pairs(
         if left == 0 {
             return Ok(());
         }
-        read.push((pair.0.copy()?, pair.1.copy()?))?;
+        push_copy(read, &pair.0, &pair.1)?;
         left -= 1;
     }
     Ok(())
@@ -177,7 +185,7 @@ fn add_last_pairs(
         if left == 0 {
             return Ok(());
         }
-        read.push((pair.0.copy()?, pair.1.copy()?))?;
+        push_copy(read, &pair.0, &pair.1)?;
         left -= 1;
     }
     Ok(())
@@ -196,7 +204,7 @@ fn add_first_entries(
         if left == 0 {
             return Ok(());
         }
-        read.push((key.copy()?, value.copy()?))?;
+        push_copy(read, key, value)?;
         left -= 1;
     }
     Ok(())
@@ -215,7 +223,7 @@ fn add_last_entries(
         if left == 0 {
             return Ok(());
         }
-        read.push((key.copy()?, value.copy()?))?;
+        push_copy(read, key, value)?;
         left -= 1;
     }
     Ok(())

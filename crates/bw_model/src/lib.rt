@@ -9,8 +9,6 @@ mod outcomes;
 mod ranges;
 mod reference;
 mod sorted;
-#[cfg(test)]
-mod tests;
 mod values;
 
 pub use lists::{Pairs, Replies};

@@ -7,8 +7,6 @@ mod inner;
 mod leaf;
 mod pages;
 mod sorted;
-#[cfg(test)]
-mod tests;
 
 pub use inner::Inner;
 pub use leaf::Leaf;

@@ -12,8 +12,6 @@ mod sources;
 mod spelling;
 mod std_ports;
 mod summaries;
-#[cfg(test)]
-mod tests;
 mod words;
 
 pub use faults::{Cause, TraceFault};

@@ -12,8 +12,8 @@ loop-pair-preserved c =
     let rest = drop (at + 1) pairs in
     let read = c.loop-pair.read.items in
     let steps : drop at pairs ≡ pair ∷ rest = rw (add-one, drop-cons pairs at pair c.loop-pair-test.true, ← c.pair-item.is) refl in
-    let added : c.push-in-loop-pair.new.self.items ≡ read ++ (c.in_ok-copy.field-0, c.in_ok-copy-2.field-0) ∷ [] = c.in_ok-push.ensures.items in
+    let added : c.push_copy.new.read.items ≡ read ++ pair ∷ [] = c.in_ok-push_copy.ensures in
     record {
-      taken = ap (λ (l : List Pair). l ++ take (c.loop-pair.left - 1) rest) (added ∙ ap (λ k. read ++ (k, c.in_ok-copy-2.field-0) ∷ []) c.in_ok-copy.ensures.ok ∙ ap (λ v. read ++ (pair.0, v) ∷ []) c.in_ok-copy-2.ensures.ok)
+      taken = ap (λ (l : List Pair). l ++ take (c.loop-pair.left - 1) rest) added
           ∙ one_taken read rest _ c.args.read.now.items pair c.loop-pair.left (omega (arith, c.if-left-eq0.false)) (sym (ap (λ (l : List Pair). read ++ take c.loop-pair.left l) steps) ∙ c.loop-pair.invariant.taken);
     }

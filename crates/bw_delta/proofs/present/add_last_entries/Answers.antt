@@ -10,12 +10,10 @@ loop-key-preserved c =
     let rest = reverse c.next.new.self.iter in
     let read = c.loop-key.read.items in
     let steps : reverse c.loop-key.key-iterator.iter ≡ pair ∷ rest = ap reverse c.in-Some.ensures.steps ∙ reverse-append c.next.new.self.iter (pair ∷ []) in
-    let key_is : c.in_ok-copy.field-0 ≡ c.in-Some.key.now = c.in_ok-copy.ensures.ok in
-    let value_is : c.in_ok-copy-2.field-0 ≡ c.in-Some.value.now = c.in_ok-copy-2.ensures.ok in
-    let added : c.push-in-loop-key.new.self.items ≡ read ++ (c.in_ok-copy.field-0, c.in_ok-copy-2.field-0) ∷ [] = c.in_ok-push.ensures.items in
+    let added : c.push_copy.new.read.items ≡ read ++ pair ∷ [] = c.in_ok-push_copy.ensures in
     record {
       next = tt;
       finite = tt;
-      taken = ap (λ (l : List Pair). l ++ take (c.loop-key.left - 1) rest) (added ∙ ap (λ k. read ++ (k, c.in_ok-copy-2.field-0) ∷ []) key_is ∙ ap (λ v. read ++ (c.in-Some.key.now, v) ∷ []) value_is)
+      taken = ap (λ (l : List Pair). l ++ take (c.loop-key.left - 1) rest) added
           ∙ one_taken read rest _ c.args.read.now.items pair c.loop-key.left (omega (arith, c.if-left-eq0.false)) (sym (ap (λ (l : List Pair). read ++ take c.loop-key.left l) steps) ∙ c.loop-key.invariant.taken);
     }

@@ -1,7 +1,0 @@
-use Rattle.std.specs.List.{IsDistinct}
-use Rattle.bw_delta.proofs.tests.replays.a_leaf_is_read_where_it_stands_up_to_its_first_write.Goals as goal
-
--- one write has a stamp of its own
-pub new-requires : goal.new-requires
-unfolding IsDistinct
-new-requires g c = (tt, tt)

@@ -1,0 +1,147 @@
+// What stamped writes leave, in each order of the slice.
+use super::making::{
+    are, delete, heap, insert, key, leaf_of, pair, pairs_of, two, update, value, value_of, write,
+};
+use bw_delta::{Action, Write, contents_are_history};
+use bw_key::Key;
+use bw_memory::Alloc;
+use bw_model::Value;
+use bw_page::{Leaf, PageId};
+use std::process::Abort;
+
+// What three writes at `a` leave over a 4, as of each stamp: an update at 7, a delete at 2 and an insert at 5.
+const LEFT: [(u64, Option<&'static [u8]>); 6] = [
+    (0, Some(b"4")),
+    (2, Some(b"4")),
+    (5, None),
+    (6, Some(b"9")),
+    (7, Some(b"9")),
+    (8, Some(b"3")),
+];
+
+// Whether a value has these bytes, or there is none.
+fn is(value: Option<&Value>, wanted: Option<&'static [u8]>) -> bool {
+    match (value, wanted) {
+        (Some(value), Some(bytes)) => value.bytes() == bytes,
+        (None, None) => true,
+        _ => false,
+    }
+}
+
+// Compares what the writes leave over a 4, in this order of the slice.
+fn compare<R: Abort>(rt: &R, alloc: Alloc, order: (&Write, &Write, &Write)) {
+    let start = value(rt, alloc, b"4");
+    for (stamp, wanted) in LEFT {
+        let left = value_of(rt, alloc, Some(&start), order, stamp).expect(rt, "memory");
+        assert!(rt; is(left.as_ref(), wanted));
+    }
+}
+
+// Compares what they leave of the leaf with a 4 at `a`.
+fn compare_leaf<R: Abort>(rt: &R, alloc: Alloc, order: (&Write, &Write, &Write)) {
+    let leaf = leaf_of(rt, alloc, b"4");
+    let low = key(rt, alloc, b"");
+    for (stamp, wanted) in LEFT {
+        let pairs = pairs_of(rt, alloc, &[&leaf], (&low, None), order, stamp);
+        let pairs = pairs.expect(rt, "memory");
+        match wanted {
+            Some(value) => assert!(rt; are(&pairs, &[(b"a", value)])),
+            None => assert!(rt; are(&pairs, &[])),
+        }
+    }
+}
+
+// An update at 7, a delete at 2 and an insert at 5, in each of their orders.
+fn ordered<R: Abort>(rt: &R, alloc: Alloc, order: u32) -> (Write, Write, Write) {
+    let update = update(rt, alloc, 7, b"3");
+    let delete = delete(rt, alloc, 2);
+    let insert = insert(rt, alloc, 5, b"a", b"9");
+    match order {
+        0 => (update, delete, insert),
+        1 => (update, insert, delete),
+        2 => (delete, update, insert),
+        3 => (delete, insert, update),
+        4 => (insert, update, delete),
+        _ => (insert, delete, update),
+    }
+}
+
+#[test]
+fn each_order_of_the_writes_leaves_the_same(rt: HostRuntime) {
+    let alloc = heap(&rt, rt.alloc());
+    for order in 0..6 {
+        let (a, b, c) = ordered(&rt, alloc, order);
+        compare(&rt, alloc, (&a, &b, &c));
+        compare_leaf(&rt, alloc, (&a, &b, &c));
+    }
+}
+
+// The leaf below `c`: a 1, b 2.
+fn below_c<R: Abort>(rt: &R, alloc: Alloc) -> Leaf {
+    let (a, b) = (pair(rt, alloc, b"a", b"1"), pair(rt, alloc, b"b", b"2"));
+    let pairs = two(rt, alloc, a, b);
+    let (low, high) = (key(rt, alloc, b""), key(rt, alloc, b"c"));
+    Leaf::from_pairs(low, Some(high), Some(PageId(1)), pairs)
+}
+
+// The leaf from `c` on: c 3, e 5.
+fn from_c<R: Abort>(rt: &R, alloc: Alloc) -> Leaf {
+    let (c, e) = (pair(rt, alloc, b"c", b"3"), pair(rt, alloc, b"e", b"5"));
+    let pairs = two(rt, alloc, c, e);
+    Leaf::from_pairs(key(rt, alloc, b"c"), None, None, pairs)
+}
+
+// A delete of c at 2, an upsert of a at 0 and an insert of d at 1.
+fn three_writes<R: Abort>(rt: &R, alloc: Alloc) -> (Write, Write, Write) {
+    let upsert = Action::Upsert(value(rt, alloc, b"9"));
+    (
+        write(rt, alloc, 2, b"c", Action::Delete),
+        write(rt, alloc, 0, b"a", upsert),
+        insert(rt, alloc, 1, b"d", b"4"),
+    )
+}
+
+// Compares the pairs of a range as of a stamp, under the three writes.
+fn compare_range<R: Abort>(
+    rt: &R,
+    alloc: Alloc,
+    range: (&Key, Option<&Key>),
+    stamp: u64,
+    wanted: &[(&'static [u8], &'static [u8])],
+) {
+    let (first, second) = (below_c(rt, alloc), from_c(rt, alloc));
+    let (c, a, d) = three_writes(rt, alloc);
+    let pairs = pairs_of(rt, alloc, &[&first, &second], range, (&c, &a, &d), stamp);
+    assert!(rt; are(&pairs.expect(rt, "memory"), wanted));
+}
+
+#[test]
+fn pairs_and_writes_outside_the_range_count_for_nothing(rt: HostRuntime) {
+    let alloc = heap(&rt, rt.alloc());
+    let (b, e) = (key(&rt, alloc, b"b"), key(&rt, alloc, b"e"));
+    let wanted = [
+        (b"b".as_slice(), b"2".as_slice()),
+        (b"c", b"3"),
+        (b"d", b"4"),
+    ];
+    compare_range(&rt, alloc, (&b, Some(&e)), 2, &wanted);
+    let wanted = [(b"b".as_slice(), b"2".as_slice()), (b"d", b"4")];
+    compare_range(&rt, alloc, (&b, Some(&e)), 9, &wanted);
+}
+
+#[test]
+fn all_pairs_are_in_the_range_of_all_keys(rt: HostRuntime) {
+    let alloc = heap(&rt, rt.alloc());
+    let wanted = [
+        (b"a".as_slice(), b"9".as_slice()),
+        (b"b", b"2"),
+        (b"d", b"4"),
+        (b"e", b"5"),
+    ];
+    compare_range(&rt, alloc, (&key(&rt, alloc, b""), None), 9, &wanted);
+}
+
+#[test]
+fn the_law_is_called(_rt: HostRuntime) {
+    contents_are_history();
+}

@@ -1,0 +1,72 @@
+// Each growth of memory refused in turn.
+use super::making::{delete, heap, insert, key, leaf_of, long, pairs_of, update, value, value_of};
+use bw_delta::Memory;
+use bw_memory::Alloc;
+use bw_model::{Pairs, Value};
+use std::process::Abort;
+
+/// Whether the growth of this number was refused. From now on none is.
+pub fn was_refused(alloc: Alloc, growth: u64) -> bool {
+    let left = alloc.left();
+    alloc.refuse(0);
+    left == 0 || left > growth
+}
+
+// What a delete and an insert leave of a value, where this growth is refused.
+fn read_value<R: Abort>(rt: &R, alloc: Alloc, growth: u64) -> Result<Option<Value>, Memory> {
+    let start = value(rt, alloc, long());
+    let first = delete(rt, alloc, 1);
+    let insert = insert(rt, alloc, 2, b"a", long());
+    let late = delete(rt, alloc, 9);
+    alloc.refuse(growth);
+    value_of(rt, alloc, Some(&start), (&late, &insert, &first), 9)
+}
+
+#[test]
+fn each_growth_of_a_value_is_refused(rt: HostRuntime) {
+    let alloc = heap(&rt, rt.alloc());
+    for growth in 1..100 {
+        let left = read_value(&rt, alloc, growth);
+        if !was_refused(alloc, growth) {
+            let left = left.expect(&rt, "memory");
+            assert!(rt; left == Some(value(&rt, alloc, long())));
+            assert_eq!(rt; growth, 3);
+            return;
+        }
+        assert!(rt; left.is_err());
+    }
+    panic!(rt; "no run met no refusal")
+}
+
+// What an insert and an update leave of a leaf, where this growth is refused.
+fn read_leaf<R: Abort>(rt: &R, alloc: Alloc, growth: u64) -> Result<Pairs, Memory> {
+    let leaf = leaf_of(rt, alloc, long());
+    let low = key(rt, alloc, b"");
+    let insert = insert(rt, alloc, 2, long(), long());
+    let update = update(rt, alloc, 1, long());
+    let late = delete(rt, alloc, 9);
+    alloc.refuse(growth);
+    pairs_of(
+        rt,
+        alloc,
+        &[&leaf],
+        (&low, None),
+        (&late, &insert, &update),
+        9,
+    )
+}
+
+#[test]
+fn each_growth_of_a_leaf_is_refused(rt: HostRuntime) {
+    let alloc = heap(&rt, rt.alloc());
+    for growth in 1..100 {
+        let left = read_leaf(&rt, alloc, growth);
+        if !was_refused(alloc, growth) {
+            assert_eq!(rt; left.expect(&rt, "memory").as_slice().len(), 2);
+            assert!(rt; growth > 5);
+            return;
+        }
+        assert!(rt; left.is_err());
+    }
+    panic!(rt; "no run met no refusal")
+}

@@ -1,0 +1,190 @@
+// The pairs of a page as of stamps that rise.
+use super::making::{
+    are, are_apart, delete, heap, insert, key, leaf_of, long, pair, two, update, value,
+};
+use super::refused::was_refused;
+use bw_delta::{Memory, Replay, Write};
+use bw_key::Key;
+use bw_memory::Alloc;
+use bw_model::Pairs;
+use bw_page::Leaf;
+use std::process::Abort;
+
+// The first pairs of a replay from a key on.
+fn first(alloc: Alloc, replay: &Replay, low: &Key, most: u64) -> Result<Pairs, Memory> {
+    let mut read = Vec::new(alloc);
+    replay.add_first(low, None, most, &mut read)?;
+    Ok(Pairs::from_vec(read))
+}
+
+// The last pairs of a replay below a key.
+fn last(alloc: Alloc, replay: &Replay, high: &Key, most: u64) -> Result<Pairs, Memory> {
+    let low = Key::new(alloc, b"").map_err(|_| Memory)?;
+    let mut read = Vec::new(alloc);
+    replay.add_last(&low, Some(high), most, &mut read)?;
+    Ok(Pairs::from_vec(read))
+}
+
+// Compares the first pairs of a leaf of all keys with a 1 and b 2.
+fn compare_firsts<R: Abort>(rt: &R, alloc: Alloc, replay: &Replay) {
+    let (a, b) = (key(rt, alloc, b"a"), key(rt, alloc, b"b"));
+    let pairs = first(alloc, replay, &a, 9).expect(rt, "memory");
+    assert!(rt; are(&pairs, &[(b"a", b"1"), (b"b", b"2")]));
+    let pairs = first(alloc, replay, &a, 1).expect(rt, "memory");
+    assert!(rt; are(&pairs, &[(b"a", b"1")]));
+    let pairs = first(alloc, replay, &b, 9).expect(rt, "memory");
+    assert!(rt; are(&pairs, &[(b"b", b"2")]));
+    let pairs = first(alloc, replay, &b, 0).expect(rt, "memory");
+    assert!(rt; are(&pairs, &[]));
+}
+
+// Compares the last pairs of that leaf.
+fn compare_lasts<R: Abort>(rt: &R, alloc: Alloc, replay: &Replay) {
+    let (b, c) = (key(rt, alloc, b"b"), key(rt, alloc, b"c"));
+    let pairs = last(alloc, replay, &c, 9).expect(rt, "memory");
+    assert!(rt; are(&pairs, &[(b"b", b"2"), (b"a", b"1")]));
+    let pairs = last(alloc, replay, &b, 9).expect(rt, "memory");
+    assert!(rt; are(&pairs, &[(b"a", b"1")]));
+    let pairs = last(alloc, replay, &c, 1).expect(rt, "memory");
+    assert!(rt; are(&pairs, &[(b"b", b"2")]));
+}
+
+// The leaf of all keys: a 1, b 2.
+fn a_and_b<R: Abort>(rt: &R, alloc: Alloc) -> Leaf {
+    let (a, b) = (pair(rt, alloc, b"a", b"1"), pair(rt, alloc, b"b", b"2"));
+    let pairs = two(rt, alloc, a, b);
+    Leaf::from_pairs(key(rt, alloc, b""), None, None, pairs)
+}
+
+#[test]
+fn a_leaf_is_read_from_both_ends(rt: HostRuntime) {
+    let alloc = heap(&rt, rt.alloc());
+    let leaf = a_and_b(&rt, alloc);
+    let replay = Replay::new(alloc, &[&leaf], None, &[]).expect(&rt, "memory");
+    compare_firsts(&rt, alloc, &replay);
+    compare_lasts(&rt, alloc, &replay);
+}
+
+#[test]
+fn a_leaf_under_a_write_is_read_from_both_ends(rt: HostRuntime) {
+    let alloc = heap(&rt, rt.alloc());
+    let leaf = leaf_of(&rt, alloc, b"1");
+    let insert = insert(&rt, alloc, 0, b"b", b"2");
+    let mut replay = Replay::new(alloc, &[&leaf], None, &[&insert]).expect(&rt, "memory");
+    replay.advance(1).expect(&rt, "memory");
+    compare_firsts(&rt, alloc, &replay);
+    compare_lasts(&rt, alloc, &replay);
+}
+
+#[test]
+fn a_leaf_without_writes_is_read_where_it_stands(rt: HostRuntime) {
+    let alloc = heap(&rt, rt.alloc());
+    let leaf = a_and_b(&rt, alloc);
+    alloc.refuse(1);
+    let mut replay = Replay::new(alloc, &[&leaf], None, &[]).expect(&rt, "memory");
+    replay.advance(9).expect(&rt, "memory");
+    assert_eq!(rt; alloc.left(), 1);
+}
+
+#[test]
+fn a_leaf_is_read_where_it_stands_up_to_its_first_write(rt: HostRuntime) {
+    let alloc = heap(&rt, rt.alloc());
+    let leaf = leaf_of(&rt, alloc, b"1");
+    let delete = delete(&rt, alloc, 5);
+    let mut replay = Replay::new(alloc, &[&leaf], None, &[&delete]).expect(&rt, "memory");
+    alloc.refuse(1);
+    replay.advance(5).expect(&rt, "memory");
+    assert_eq!(rt; alloc.left(), 1);
+}
+
+#[test]
+fn of_two_parts_the_first_has_the_value(rt: HostRuntime) {
+    let alloc = heap(&rt, rt.alloc());
+    let (above, below) = (leaf_of(&rt, alloc, b"9"), a_and_b(&rt, alloc));
+    let replay = Replay::new(alloc, &[&above, &below], None, &[]).expect(&rt, "memory");
+    let pairs = first(alloc, &replay, &key(&rt, alloc, b""), 9).expect(&rt, "memory");
+    assert!(rt; are(&pairs, &[(b"a", b"9"), (b"b", b"2")]));
+}
+
+// What an update to 3 at 7, a delete at 2 and an insert of 9 at 5 leave of a 4 at `a`, as of stamps that rise.
+const LEFT: [(u64, Option<&'static [u8]>); 5] = [
+    (2, Some(b"4")),
+    (3, None),
+    (5, None),
+    (6, Some(b"9")),
+    (8, Some(b"3")),
+];
+
+// Compares a replay of the three writes as of each stamp.
+fn compare<'a, R: Abort>(
+    rt: &R,
+    alloc: Alloc,
+    leaf: &Leaf,
+    (a, b, c): (&'a Write, &'a Write, &'a Write),
+) {
+    assert!(rt; are_apart(a, b, c));
+    let least = key(rt, alloc, b"");
+    let mut replay = Replay::new(alloc, &[leaf], None, &[a, b, c]).expect(rt, "memory");
+    for (stamp, wanted) in LEFT {
+        assert!(rt; replay.stamp() <= stamp);
+        replay.advance(stamp).expect(rt, "memory");
+        assert_eq!(rt; replay.stamp(), stamp);
+        let pairs = first(alloc, &replay, &least, 9).expect(rt, "memory");
+        match wanted {
+            Some(value) => assert!(rt; are(&pairs, &[(b"a", value)])),
+            None => assert!(rt; are(&pairs, &[])),
+        }
+    }
+}
+
+#[test]
+fn a_replay_goes_on_from_stamp_to_stamp(rt: HostRuntime) {
+    let alloc = heap(&rt, rt.alloc());
+    let leaf = leaf_of(&rt, alloc, b"4");
+    let update = update(&rt, alloc, 7, b"3");
+    let delete = delete(&rt, alloc, 2);
+    let insert = insert(&rt, alloc, 5, b"a", b"9");
+    compare(&rt, alloc, &leaf, (&update, &delete, &insert));
+    compare(&rt, alloc, &leaf, (&insert, &update, &delete));
+}
+
+// The pairs as of a stamp, read at once.
+fn read_at<'a, R: Abort>(
+    rt: &R,
+    alloc: Alloc,
+    leaf: &Leaf,
+    least: &Key,
+    (a, b, c): (&'a Write, &'a Write, &'a Write),
+) -> Result<Pairs, Memory> {
+    assert!(rt; are_apart(a, b, c));
+    let mut replay = Replay::new(alloc, &[leaf], None, &[a, b, c])?;
+    replay.advance(9)?;
+    first(alloc, &replay, least, 9)
+}
+
+// What an insert and an update leave of a leaf, where this growth is refused.
+fn read_leaf<R: Abort>(rt: &R, alloc: Alloc, growth: u64) -> Result<Pairs, Memory> {
+    let leaf = leaf_of(rt, alloc, long());
+    let least = key(rt, alloc, b"");
+    let insert = insert(rt, alloc, 2, long(), long());
+    let update = update(rt, alloc, 1, long());
+    let late = delete(rt, alloc, 9);
+    alloc.refuse(growth);
+    read_at(rt, alloc, &leaf, &least, (&late, &insert, &update))
+}
+
+#[test]
+fn each_growth_of_a_replay_is_refused(rt: HostRuntime) {
+    let alloc = heap(&rt, rt.alloc());
+    for growth in 1..100 {
+        let left = read_leaf(&rt, alloc, growth);
+        if !was_refused(alloc, growth) {
+            let pairs = left.expect(&rt, "memory");
+            assert!(rt; are(&pairs, &[(b"a", long()), (long(), long())]));
+            assert!(rt; growth > 5);
+            return;
+        }
+        assert!(rt; left.is_err());
+    }
+    panic!(rt; "no run met no refusal")
+}

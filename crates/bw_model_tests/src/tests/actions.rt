@@ -1,0 +1,62 @@
+// What each write answers and leaves.
+use super::making::Maker;
+use bw_model::{Action, Reply, Value};
+use std::process::Abort;
+
+// Compares what a write answers and leaves at a key that had this value.
+fn compare<R: Abort>(
+    rt: &R,
+    make: &Maker<R>,
+    (action, before): (Action, Option<&'static str>),
+    (reply, after): (Reply, Option<&'static str>),
+) {
+    let before = make.value_or_none(before);
+    let answer = action.answer(before.as_ref()).expect(rt, "memory");
+    assert!(rt; answer == reply);
+    assert!(rt; is(action.effect(before.as_ref()), after));
+}
+
+// Whether a value is that of a text, or there is none.
+fn is(value: Option<&Value>, text: Option<&'static str>) -> bool {
+    match (value, text) {
+        (Some(value), Some(text)) => value.bytes() == text.as_bytes(),
+        (None, None) => true,
+        _ => false,
+    }
+}
+
+#[test]
+fn each_write_over_a_value(rt: HostRuntime) {
+    let make = Maker::new(&rt, rt.alloc());
+    let insert = Action::Insert(make.value("2"));
+    compare(&rt, &make, (insert, Some("1")), (make.held("1"), Some("1")));
+    let upsert = Action::Upsert(make.value("2"));
+    compare(&rt, &make, (upsert, Some("1")), (make.was("1"), Some("2")));
+    let update = Action::Update(make.value("2"));
+    compare(&rt, &make, (update, Some("1")), (make.was("1"), Some("2")));
+    let delete = Action::Delete;
+    compare(&rt, &make, (delete, Some("1")), (make.was("1"), None));
+    let swap_if = Action::SwapIf(make.value("1"), make.value("2"));
+    compare(&rt, &make, (swap_if, Some("1")), (make.was("1"), Some("2")));
+    let swap_if = Action::SwapIf(make.value("3"), make.value("2"));
+    compare(
+        &rt,
+        &make,
+        (swap_if, Some("1")),
+        (make.held("1"), Some("1")),
+    );
+}
+
+#[test]
+fn each_write_where_there_is_no_value(rt: HostRuntime) {
+    let make = Maker::new(&rt, rt.alloc());
+    let insert = Action::Insert(make.value("2"));
+    compare(&rt, &make, (insert, None), (Reply::Inserted, Some("2")));
+    let upsert = Action::Upsert(make.value("2"));
+    compare(&rt, &make, (upsert, None), (Reply::New, Some("2")));
+    let update = Action::Update(make.value("2"));
+    compare(&rt, &make, (update, None), (Reply::Absent, None));
+    compare(&rt, &make, (Action::Delete, None), (Reply::Absent, None));
+    let swap_if = Action::SwapIf(make.value("1"), make.value("2"));
+    compare(&rt, &make, (swap_if, None), (Reply::Absent, None));
+}

@@ -1,0 +1,199 @@
+// The plain program: each operation over present and absent keys, and ranges.
+use super::making::{LONG, Maker, Pair, same};
+use bw_model::{Action, Op, Pairs, ReferenceMap, Replies, Reply};
+use std::process::Abort;
+
+// Puts a value at a key.
+fn put<R: Abort>(rt: &R, make: &Maker<R>, map: &mut ReferenceMap, key: &str, value: &str) {
+    let op = make.upsert(key, value);
+    map.apply(&op).expect(rt, "memory");
+}
+
+// A map of these pairs.
+fn map_of<R: Abort>(rt: &R, make: &Maker<R>, pairs: &[Pair]) -> ReferenceMap {
+    let mut map = ReferenceMap::new(make.alloc);
+    for (key, value) in pairs {
+        put(rt, make, &mut map, key, value);
+    }
+    map
+}
+
+// Compares the reply to an operation, and the pairs afterwards.
+fn compare<R: Abort>(
+    rt: &R,
+    make: &Maker<R>,
+    before: &[Pair],
+    op: Op,
+    reply: Reply,
+    after: &[Pair],
+) {
+    let mut map = map_of(rt, make, before);
+    let answer = map.apply(&op).expect(rt, "memory");
+    assert!(rt; answer == reply);
+    let entries = map.entries().expect(rt, "memory");
+    assert!(rt; entries == make.pairs(after));
+}
+
+#[test]
+fn a_new_map_is_empty(rt: HostRuntime) {
+    let make = Maker::new(&rt, rt.alloc());
+    make.alloc.refuse(1);
+    let map = ReferenceMap::new(make.alloc);
+    assert!(rt; map.get(&make.key("")).is_none());
+    assert_eq!(rt; make.alloc.left(), 1);
+    make.alloc.refuse(0);
+    assert!(rt; map.entries().expect(&rt, "memory") == make.pairs(&[]));
+}
+
+#[test]
+fn each_operation_over_a_key_that_is_there(rt: HostRuntime) {
+    let make = Maker::new(&rt, rt.alloc());
+    let two = &[("a", "1"), ("b", "2"), ("c", "3")];
+    let nine = &[("a", "1"), ("b", "9"), ("c", "3")];
+    let none = &[("a", "1"), ("c", "3")];
+    compare(&rt, &make, two, make.get("b"), make.found("2"), two);
+    compare(&rt, &make, two, make.insert("b", "9"), make.held("2"), two);
+    compare(&rt, &make, two, make.upsert("b", "9"), make.was("2"), nine);
+    compare(&rt, &make, two, make.update("b", "9"), make.was("2"), nine);
+    compare(&rt, &make, two, make.delete("b"), make.was("2"), none);
+    let swap_if = make.swap_if("b", "2", "9");
+    compare(&rt, &make, two, swap_if, make.was("2"), nine);
+    let swap_if = make.swap_if("b", "1", "9");
+    compare(&rt, &make, two, swap_if, make.held("2"), two);
+}
+
+#[test]
+fn each_operation_over_a_key_that_is_not_there(rt: HostRuntime) {
+    let make = Maker::new(&rt, rt.alloc());
+    let nine = &[("a", "1"), ("b", "9"), ("c", "3")];
+    let none = &[("a", "1"), ("c", "3")];
+    compare(&rt, &make, none, make.get("b"), Reply::Absent, none);
+    compare(
+        &rt,
+        &make,
+        none,
+        make.insert("b", "9"),
+        Reply::Inserted,
+        nine,
+    );
+    compare(&rt, &make, none, make.upsert("b", "9"), Reply::New, nine);
+    compare(&rt, &make, none, make.update("b", "9"), Reply::Absent, none);
+    compare(&rt, &make, none, make.delete("b"), Reply::Absent, none);
+    let swap_if = make.swap_if("b", "1", "9");
+    compare(&rt, &make, none, swap_if, Reply::Absent, none);
+}
+
+#[test]
+fn a_write_is_answered_and_then_read(rt: HostRuntime) {
+    let make = Maker::new(&rt, rt.alloc());
+    let mut map = map_of(&rt, &make, &[("a", "1")]);
+    let action = Action::SwapIf(make.value("1"), make.value(LONG));
+    let reply = map.write(&make.key("a"), &action).expect(&rt, "memory");
+    assert!(rt; reply == make.was("1"));
+    assert!(rt; map.get(&make.key("a")) == Some(&make.value(LONG)));
+    assert!(rt; map.get(&make.key("A")).is_none());
+}
+
+#[test]
+fn a_range_has_its_lower_end_and_not_its_upper_one(rt: HostRuntime) {
+    let make = Maker::new(&rt, rt.alloc());
+    let map = map_of(&rt, &make, &[("", "0"), ("a", "1"), ("b", "2"), ("c", "3")]);
+    let (none, a, b, c) = (("", "0"), ("a", "1"), ("b", "2"), ("c", "3"));
+    let rows: [(&str, Option<&'static str>, &[Pair]); 8] = [
+        ("", None, &[none, a, b, c]),
+        ("a", None, &[a, b, c]),
+        ("a", Some("c"), &[a, b]),
+        ("a\0", Some("c\0"), &[b, c]),
+        ("b", Some("b"), &[]),
+        ("c", Some("a"), &[]),
+        ("d", None, &[]),
+        ("", Some("a"), &[none]),
+    ];
+    for (from, to, pairs) in rows {
+        let from = make.key(from);
+        let to = make.end(to);
+        for most in [0, 1, 2, 3, 4, 9, u64::MAX] {
+            let count = pairs.len().min(most as usize);
+            let scanned = map.scan(&from, to.as_ref(), most).expect(&rt, "memory");
+            assert!(rt; scanned == make.pairs(&pairs[..count]));
+
+            let mut falling = Vec::new(make.alloc);
+            for pair in pairs.iter().rev().take(count) {
+                falling.push(*pair).expect(&rt, "memory");
+            }
+            let scanned = map.rscan(&from, to.as_ref(), most).expect(&rt, "memory");
+            assert!(rt; scanned == make.pairs(&falling));
+        }
+    }
+}
+
+#[test]
+fn a_batch_runs_in_its_order(rt: HostRuntime) {
+    let make = Maker::new(&rt, rt.alloc());
+    let ops = [
+        make.get("a"),
+        make.upsert("a", "1"),
+        make.scan("", None, 9),
+        make.upsert("b", "2"),
+        make.get("a"),
+        make.rscan("", None, 9),
+        make.delete("a"),
+        make.get("a"),
+    ];
+    let replies = [
+        Reply::Absent,
+        Reply::New,
+        make.scanned(&[("a", "1")]),
+        Reply::New,
+        make.found("1"),
+        make.scanned(&[("b", "2"), ("a", "1")]),
+        make.was("1"),
+        Reply::Absent,
+    ];
+    let mut map = ReferenceMap::new(make.alloc);
+    let answered = map.run(&ops).expect(&rt, "memory");
+    same(&rt, answered.as_slice(), &replies);
+    let entries = map.entries().expect(&rt, "memory");
+    assert!(rt; entries == make.pairs(&[("b", "2")]));
+    assert_eq!(rt; map.run(&[]).expect(&rt, "memory").as_slice().len(), 0);
+    let entries = map.entries().expect(&rt, "memory");
+    assert!(rt; entries == make.pairs(&[("b", "2")]));
+}
+
+#[test]
+fn a_copy_is_a_map_of_its_own(rt: HostRuntime) {
+    let make = Maker::new(&rt, rt.alloc());
+    let mut map = map_of(&rt, &make, &[("a", "1"), (LONG, LONG)]);
+    let copy = map.copy().expect(&rt, "memory");
+    map.apply(&make.delete("a")).expect(&rt, "memory");
+    map.apply(&make.upsert(LONG, "2")).expect(&rt, "memory");
+    let pairs = copy.entries().expect(&rt, "memory");
+    assert!(rt; pairs == make.pairs(&[("a", "1"), (LONG, LONG)]));
+}
+
+#[test]
+fn lists_give_back_what_they_were_made_of(rt: HostRuntime) {
+    let make = Maker::new(&rt, rt.alloc());
+    let pairs = make.pairs(&[("a", "1"), ("b", "2")]);
+    assert!(rt; pairs == make.pairs(&[("a", "1"), ("b", "2")]));
+    assert!(rt; pairs != make.pairs(&[("a", "1"), ("b", "3")]));
+    assert!(rt; pairs != make.pairs(&[("a", "1"), ("c", "2")]));
+    assert!(rt; pairs != make.pairs(&[("a", "1")]));
+    assert_eq!(rt; pairs.as_slice().len(), 2);
+    assert!(rt; pairs.as_slice()[1].0 == make.key("b"));
+    assert!(rt; pairs.as_slice()[1].1 == make.value("2"));
+    let pairs = Pairs::from_vec(pairs.into_vec());
+    assert!(rt; pairs == make.pairs(&[("a", "1"), ("b", "2")]));
+}
+
+#[test]
+fn replies_give_back_what_they_were_made_of(rt: HostRuntime) {
+    let make = Maker::new(&rt, rt.alloc());
+    let expected = [Reply::New, make.was("1")];
+    let mut replies = Vec::new(make.alloc);
+    replies.push(Reply::New).expect(&rt, "memory");
+    replies.push(make.was("1")).expect(&rt, "memory");
+    let replies = Replies::from_vec(replies);
+    same(&rt, replies.as_slice(), &expected);
+    same(&rt, &replies.into_vec(), &expected);
+}

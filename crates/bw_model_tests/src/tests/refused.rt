@@ -1,0 +1,103 @@
+// Each growth of memory refused in turn.
+use super::making::{LONG, Maker, Pair};
+use bw_key::Key;
+use bw_memory::Alloc;
+use bw_model::{Action, Op, ReferenceMap};
+use std::process::Abort;
+
+// The pairs that a piece of work starts from.
+const BEFORE: &[Pair] = &[("a", "1"), (LONG, LONG)];
+
+// What a map is asked for.
+#[derive(Drop)]
+enum Work {
+    Copy,
+    Entries,
+    Write(Key, Action),
+    Apply(Op),
+    Run(Vec<Op, Alloc>),
+}
+
+fn lacks_copy(map: &ReferenceMap) -> bool {
+    map.copy().is_err()
+}
+
+fn lacks_entries(map: &ReferenceMap) -> bool {
+    map.entries().is_err()
+}
+
+fn lacks_write(map: &mut ReferenceMap, key: &Key, action: &Action) -> bool {
+    map.write(key, action).is_err()
+}
+
+fn lacks_apply(map: &mut ReferenceMap, op: &Op) -> bool {
+    map.apply(op).is_err()
+}
+
+fn lacks_run(map: &mut ReferenceMap, ops: &[Op]) -> bool {
+    map.run(ops).is_err()
+}
+
+// Whether there was no memory for the work.
+fn lacks_memory(map: &mut ReferenceMap, work: &Work) -> bool {
+    match work {
+        Work::Copy => lacks_copy(map),
+        Work::Entries => lacks_entries(map),
+        Work::Write(key, action) => lacks_write(map, key, action),
+        Work::Apply(op) => lacks_apply(map, op),
+        Work::Run(ops) => lacks_run(map, ops),
+    }
+}
+
+// Does the work with growth 1 refused, then with growth 2, until it meets no refusal, each time over a fresh map.
+// Answers how many were refused. After each refusal the map is as before.
+fn refusals<R: Abort>(rt: &R, make: &Maker<R>, work: &Work) -> u64 {
+    for growth in 1..1000 {
+        let mut map = ReferenceMap::new(make.alloc);
+        for (key, value) in BEFORE {
+            map.apply(&make.upsert(key, value)).expect(rt, "memory");
+        }
+        make.alloc.refuse(growth);
+        let lacked = lacks_memory(&mut map, work);
+        let was_refused = make.alloc.left() == 0 || make.alloc.left() > growth;
+        make.alloc.refuse(0);
+
+        assert!(rt; lacked == was_refused);
+        if !was_refused {
+            return growth - 1;
+        }
+        let pairs = map.entries().expect(rt, "memory");
+        assert!(rt; pairs == make.pairs(BEFORE));
+    }
+    panic!(rt; "no run met no refusal")
+}
+
+#[test]
+fn each_piece_of_work_meets_each_refusal(rt: HostRuntime) {
+    let make = Maker::new(&rt, rt.alloc());
+    let batch = vec![in make.alloc;
+        make.upsert("c", LONG),
+        make.delete("a"),
+        make.scan("", None, 9),
+        make.swap_if(LONG, LONG, "2"),
+    ];
+    let works = [
+        Work::Copy,
+        Work::Entries,
+        Work::Write(make.key(LONG), Action::Upsert(make.value(LONG))),
+        Work::Apply(make.get(LONG)),
+        Work::Apply(make.insert(LONG, "2")),
+        Work::Apply(make.upsert(LONG, "2")),
+        Work::Apply(make.update(LONG, "2")),
+        Work::Apply(make.delete(LONG)),
+        Work::Apply(make.swap_if(LONG, LONG, "2")),
+        Work::Apply(make.scan("", None, 9)),
+        Work::Apply(make.rscan("", None, 9)),
+        Work::Run(batch.expect(&rt, "memory")),
+        Work::Run(Vec::new(make.alloc)),
+    ];
+    for work in &works {
+        assert!(rt; refusals(&rt, &make, work) > 0);
+    }
+    assert!(rt; refusals(&rt, &make, &Work::Apply(make.get("a"))) == 0);
+}

@@ -1,0 +1,76 @@
+// Values and their faults.
+use super::making::Maker;
+use bw_model::{Memory, Refusal, Value, ValueFault};
+
+#[test]
+fn a_value_has_up_to_1024_bytes(rt: HostRuntime) {
+    let make = Maker::new(&rt, rt.alloc());
+    let bytes = [b'v'; 1025];
+    for length in [0, 1, 24, 25, 1023, 1024] {
+        let value = Value::new(make.alloc, &bytes[..length]).expect(&rt, "a value");
+        assert!(rt; value.bytes() == &bytes[..length]);
+        let copy = value.copy().expect(&rt, "a copy");
+        assert!(rt; copy == value);
+        assert!(rt; copy.bytes() == &bytes[..length]);
+    }
+    let too_long = Value::new(make.alloc, &bytes);
+    assert!(rt; too_long == Err(ValueFault::TooLong(1025)));
+}
+
+#[test]
+fn values_are_equal_where_their_bytes_are(rt: HostRuntime) {
+    let make = Maker::new(&rt, rt.alloc());
+    for (left, right) in [("", "0"), ("a", "a\0"), ("ab", "ba"), ("a", "b")] {
+        assert!(rt; make.value(left) != make.value(right));
+        assert!(rt; make.value(left) == make.value(left));
+    }
+}
+
+#[test]
+fn a_value_is_48_bytes_and_a_short_one_takes_no_others(rt: HostRuntime) {
+    assert!(rt; size_of::<Value>() == 48);
+
+    let make = Maker::new(&rt, rt.alloc());
+    let bytes = [b'v'; 25];
+    make.alloc.refuse(1);
+    let short = Value::new(make.alloc, &bytes[..24]).expect(&rt, "a value of 24 bytes");
+    let copy = short.copy().expect(&rt, "a copy of 24 bytes");
+    assert_eq!(rt; make.alloc.left(), 1);
+    assert!(rt; copy == short);
+
+    assert!(rt; Value::new(make.alloc, &bytes) == Err(ValueFault::Memory));
+    assert_eq!(rt; make.alloc.left(), 0);
+
+    let long = Value::new(make.alloc, &bytes).expect(&rt, "a value of 25 bytes");
+    make.alloc.refuse(1);
+    assert!(rt; long.copy() == Err(Memory));
+    assert!(rt; long.copy().expect(&rt, "a copy of 25 bytes") == long);
+}
+
+#[test]
+fn a_length_is_judged_before_memory(rt: HostRuntime) {
+    let make = Maker::new(&rt, rt.alloc());
+    make.alloc.refuse(1);
+    let too_long = Value::new(make.alloc, &[0; 2000]);
+    assert!(rt; too_long == Err(ValueFault::TooLong(2000)));
+    assert_eq!(rt; make.alloc.left(), 1);
+}
+
+#[test]
+fn faults_have_texts(rt: HostRuntime) {
+    let alloc = rt.alloc();
+    let too_long = ValueFault::TooLong(1025);
+    let text = format!(in alloc; "{too_long}").expect(&rt, "a text");
+    assert!(rt; text.as_str() == "value longer than 1024 bytes");
+    let memory = ValueFault::Memory;
+    let text = format!(in alloc; "{memory}").expect(&rt, "a text");
+    assert!(rt; text.as_str() == "out of memory");
+
+    let long_batch = Refusal::TooLong { ops: 4, most: 3 };
+    let text = format!(in alloc; "{long_batch}").expect(&rt, "a text");
+    assert!(rt; text.as_str() == "a batch of 4 operations, of which there may be 3");
+    let memory = Refusal::from(Memory);
+    assert!(rt; memory == Refusal::Memory);
+    let text = format!(in alloc; "{memory}").expect(&rt, "a text");
+    assert!(rt; text.as_str() == "out of memory");
+}

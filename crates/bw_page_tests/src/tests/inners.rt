@@ -1,0 +1,129 @@
+// Inner pages.
+use super::making::{c_with, from_c, from_start, from_start_and_c, heap, key};
+use bw_memory::Alloc;
+use bw_page::{Inner, Page, PageId};
+use std::process::Abort;
+
+// Compares a page's separators and children with the wanted ones.
+fn has_children<R: Abort>(rt: &R, inner: &Inner, wanted: &[(&'static [u8], u32)]) {
+    assert_eq!(rt; inner.children().len(), wanted.len());
+    for (child, (sep, page)) in inner.children().iter().zip(wanted) {
+        assert!(rt; child.0.bytes() == *sep);
+        assert_eq!(rt; child.1.0, *page);
+    }
+}
+
+// Whether a page over leaves begins at a key and is the last one.
+fn is_last_from<R: Abort>(rt: &R, inner: &Inner, low: &[u8]) {
+    assert_eq!(rt; inner.level(), 1);
+    assert!(rt; inner.low().bytes() == low);
+    assert!(rt; inner.high().is_none());
+    assert!(rt; inner.side().is_none());
+}
+
+// The child that a page has for a key of its range.
+fn child_for<R: Abort>(rt: &R, alloc: Alloc, inner: &Inner, bytes: &[u8]) -> u32 {
+    let key = key(rt, alloc, bytes);
+    assert!(rt; key >= *inner.low());
+    alloc.refuse(1);
+    let child = inner.child_for(&key);
+    assert_eq!(rt; alloc.left(), 1);
+    alloc.refuse(0);
+    child.0
+}
+
+#[test]
+fn an_inner_page_has_its_bounds_and_children(rt: HostRuntime) {
+    let alloc = heap(&rt, rt.alloc());
+    let inner = from_start(&rt, alloc);
+    assert_eq!(rt; inner.level(), 1);
+    assert!(rt; inner.low().bytes() == b"".as_slice());
+    assert!(rt; inner.high().map(|high| high.bytes()) == Some(b"c".as_slice()));
+    assert!(rt; inner.side() == Some(PageId(9)));
+    has_children(&rt, &inner, &[(b"", 0)]);
+}
+
+#[test]
+fn two_inner_pages_join(rt: HostRuntime) {
+    let alloc = heap(&rt, rt.alloc());
+    let inner = from_start_and_c(&rt, alloc);
+    is_last_from(&rt, &inner, b"");
+    has_children(&rt, &inner, &[(b"", 0), (b"c", 1)]);
+}
+
+#[test]
+fn a_child_is_put_between_two_others(rt: HostRuntime) {
+    let alloc = heap(&rt, rt.alloc());
+    let inner = from_start_and_c(&rt, alloc);
+    let more = inner
+        .with_child(&key(&rt, alloc, b"b"), PageId(5))
+        .expect(&rt, "memory");
+    is_last_from(&rt, &more, b"");
+    has_children(&rt, &more, &[(b"", 0), (b"b", 5), (b"c", 1)]);
+}
+
+#[test]
+fn a_child_is_put_in_place_of_another(rt: HostRuntime) {
+    let alloc = heap(&rt, rt.alloc());
+    let inner = from_start_and_c(&rt, alloc);
+    let other = inner
+        .with_child(&key(&rt, alloc, b"c"), PageId(6))
+        .expect(&rt, "memory");
+    is_last_from(&rt, &other, b"");
+    has_children(&rt, &other, &[(b"", 0), (b"c", 6)]);
+}
+
+#[test]
+fn a_child_is_taken_out(rt: HostRuntime) {
+    let alloc = heap(&rt, rt.alloc());
+    let inner = from_start_and_c(&rt, alloc);
+    let less = inner
+        .without_child(&key(&rt, alloc, b"c"))
+        .expect(&rt, "memory");
+    is_last_from(&rt, &less, b"");
+    has_children(&rt, &less, &[(b"", 0)]);
+}
+
+#[test]
+fn the_upper_half_begins_with_the_first_child_that_moves(rt: HostRuntime) {
+    let alloc = heap(&rt, rt.alloc());
+    let inner = from_start_and_c(&rt, alloc);
+    let half = inner.upper_half(1).expect(&rt, "memory");
+    is_last_from(&rt, &half, b"c");
+    has_children(&rt, &half, &[(b"c", 1)]);
+}
+
+#[test]
+fn a_key_belongs_to_the_last_separator_up_to_it(rt: HostRuntime) {
+    let alloc = heap(&rt, rt.alloc());
+    let inner = from_start_and_c(&rt, alloc);
+    let wanted = [
+        (b"".as_slice(), 0),
+        (b"a", 0),
+        (b"bz", 0),
+        (b"c", 1),
+        (b"c%", 1),
+        (b"z", 1),
+    ];
+    for (bytes, child) in wanted {
+        assert!(rt; child_for(&rt, alloc, &inner, bytes) == child);
+    }
+    assert!(rt; child_for(&rt, alloc, &from_c(&rt, alloc), b"c") == 1);
+}
+
+// The level of a page, or the page that took a removed one's range over.
+fn told(page: &Page) -> u32 {
+    match page {
+        Page::Leaf(_) => 0,
+        Page::Inner(inner) => inner.level(),
+        Page::Gone(left) => left.0,
+    }
+}
+
+#[test]
+fn a_page_is_of_one_kind(rt: HostRuntime) {
+    let alloc = heap(&rt, rt.alloc());
+    assert!(rt; told(&Page::Leaf(c_with(&rt, alloc, b"3"))) == 0);
+    assert!(rt; told(&Page::Inner(from_c(&rt, alloc))) == 1);
+    assert!(rt; told(&Page::Gone(PageId(4))) == 4);
+}

@@ -1,0 +1,141 @@
+// Leaves.
+ghost use Rattle.std.specs.Prelude.{◌≡◌, [], ◌∷◌};
+
+use super::making::{a_and_b, c_with, heap, key, pair};
+use bw_key::Key;
+use bw_memory::Alloc;
+use bw_model::Pairs;
+use bw_page::{Leaf, PageId, Value};
+use std::process::Abort;
+
+// A list of four pairs.
+fn four<R: Abort>(
+    rt: &R,
+    alloc: Alloc,
+    a: (Key, Value),
+    b: (Key, Value),
+    c: (Key, Value),
+    d: (Key, Value),
+) -> Pairs
+    ensures { result ≡ a ∷ b ∷ c ∷ d ∷ [] }
+{
+    Pairs::from_vec(vec![in alloc; a, b, c, d].expect(rt, "the pairs"))
+}
+
+// The leaf of the keys from `c` on and below `h`, with page 7 at its right.
+fn c_to_h<R: Abort>(rt: &R, alloc: Alloc) -> Leaf {
+    let (c, d) = (pair(rt, alloc, b"c", b"3"), pair(rt, alloc, b"d", b"4"));
+    let (dd, f) = (pair(rt, alloc, b"dd", b""), pair(rt, alloc, b"f", b"6"));
+    let pairs = four(rt, alloc, c, d, dd, f);
+    let (low, high) = (key(rt, alloc, b"c"), key(rt, alloc, b"h"));
+    Leaf::from_pairs(low, Some(high), Some(PageId(7)), pairs)
+}
+
+// Compares a leaf's pairs with the bytes of the wanted ones.
+fn has_pairs<R: Abort>(rt: &R, leaf: &Leaf, wanted: &[(&'static [u8], &'static [u8])]) {
+    assert_eq!(rt; leaf.pairs().len(), wanted.len());
+    for (pair, (key, value)) in leaf.pairs().iter().zip(wanted) {
+        assert!(rt; pair.0.bytes() == *key);
+        assert!(rt; pair.1.bytes() == *value);
+    }
+}
+
+// Whether a leaf begins at a key and is the last one.
+fn is_last_from<R: Abort>(rt: &R, leaf: &Leaf, low: &[u8]) {
+    assert!(rt; leaf.low().bytes() == low);
+    assert!(rt; leaf.high().is_none());
+    assert!(rt; leaf.side().is_none());
+}
+
+#[test]
+fn an_empty_leaf_has_all_keys_and_no_pair(rt: HostRuntime) {
+    let alloc = heap(&rt, rt.alloc());
+    alloc.refuse(1);
+    let leaf = Leaf::empty(alloc);
+    assert_eq!(rt; alloc.left(), 1);
+    is_last_from(&rt, &leaf, b"");
+    has_pairs(&rt, &leaf, &[]);
+    assert!(rt; leaf.find(&key(&rt, alloc, b"")).is_none());
+}
+
+#[test]
+fn a_leaf_has_its_bounds_and_pairs(rt: HostRuntime) {
+    let alloc = heap(&rt, rt.alloc());
+    let leaf = c_to_h(&rt, alloc);
+    assert!(rt; leaf.low().bytes() == b"c".as_slice());
+    assert!(rt; leaf.high().map(|high| high.bytes()) == Some(b"h".as_slice()));
+    assert!(rt; leaf.side() == Some(PageId(7)));
+    has_pairs(
+        &rt,
+        &leaf,
+        &[(b"c", b"3"), (b"d", b"4"), (b"dd", b""), (b"f", b"6")],
+    );
+}
+
+#[test]
+fn a_key_is_found_among_the_pairs_alone(rt: HostRuntime) {
+    let alloc = heap(&rt, rt.alloc());
+    let leaf = c_to_h(&rt, alloc);
+    let found = [
+        (b"c".as_slice(), b"3".as_slice()),
+        (b"d", b"4"),
+        (b"dd", b""),
+        (b"f", b"6"),
+    ];
+    for (bytes, wanted) in found {
+        let key = key(&rt, alloc, bytes);
+        alloc.refuse(1);
+        assert!(rt; leaf.find(&key).map(|value| value.bytes()) == Some(wanted));
+        assert_eq!(rt; alloc.left(), 1);
+    }
+    for bytes in [b"".as_slice(), b"b", b"cc", b"e", b"g", b"h", b"z"] {
+        assert!(rt; leaf.find(&key(&rt, alloc, bytes)).is_none());
+    }
+}
+
+#[test]
+fn a_range_has_its_pairs_and_takes_no_memory(rt: HostRuntime) {
+    let alloc = heap(&rt, rt.alloc());
+    let leaf = c_to_h(&rt, alloc);
+    let (d, e, f) = (
+        key(&rt, alloc, b"d"),
+        key(&rt, alloc, b"e"),
+        key(&rt, alloc, b"f"),
+    );
+    alloc.refuse(1);
+    let pairs = leaf.between(&d, Some(&f));
+    assert_eq!(rt; pairs.len(), 2);
+    assert!(rt; pairs[0].0.bytes() == b"d".as_slice());
+    assert!(rt; pairs[1].0.bytes() == b"dd".as_slice());
+    assert_eq!(rt; leaf.between(&e, None).len(), 1);
+    assert!(rt; leaf.between(&f, Some(&d)).is_empty());
+    assert_eq!(rt; alloc.left(), 1);
+}
+
+#[test]
+fn two_leaves_join(rt: HostRuntime) {
+    let alloc = heap(&rt, rt.alloc());
+    let leaf = a_and_b(&rt, alloc)
+        .joined(&c_with(&rt, alloc, b"3"))
+        .expect(&rt, "memory");
+    is_last_from(&rt, &leaf, b"");
+    has_pairs(&rt, &leaf, &[(b"a", b"1"), (b"b", b"2"), (b"c", b"3")]);
+}
+
+#[test]
+fn the_upper_half_begins_with_the_first_pair_that_moves(rt: HostRuntime) {
+    let alloc = heap(&rt, rt.alloc());
+    let leaf = a_and_b(&rt, alloc)
+        .joined(&c_with(&rt, alloc, b"3"))
+        .expect(&rt, "memory");
+    let half = leaf.upper_half(1).expect(&rt, "memory");
+    is_last_from(&rt, &half, b"b");
+    has_pairs(&rt, &half, &[(b"b", b"2"), (b"c", b"3")]);
+}
+
+#[test]
+fn page_names_are_their_numbers(rt: HostRuntime) {
+    assert_eq!(rt; PageId(3), PageId(3));
+    assert_ne!(rt; PageId(3), PageId(4));
+    assert!(rt; PageId(u32::MAX).0 == 4294967295);
+}

@@ -1,0 +1,88 @@
+// Each growth of memory refused in turn. A refused call asks for no further one.
+use super::making::{LONG, a_and_b, c_with, from_c, from_start, from_start_and_c, heap, key};
+use bw_page::PageId;
+
+#[test]
+fn the_half_of_a_leaf_takes_one_growth(rt: HostRuntime) {
+    let alloc = heap(&rt, rt.alloc());
+    let leaf = a_and_b(&rt, alloc);
+    alloc.refuse(1);
+    assert!(rt; leaf.upper_half(1).is_err());
+    assert_eq!(rt; alloc.left(), 0);
+    alloc.refuse(2);
+    assert!(rt; leaf.upper_half(1).is_ok());
+    assert_eq!(rt; alloc.left(), 1);
+}
+
+#[test]
+fn two_leaves_take_one_growth_and_one_for_a_long_value(rt: HostRuntime) {
+    let alloc = heap(&rt, rt.alloc());
+    let left = a_and_b(&rt, alloc);
+    let right = c_with(&rt, alloc, LONG);
+    for growth in 1..=2 {
+        alloc.refuse(growth);
+        assert!(rt; left.joined(&right).is_err());
+        assert_eq!(rt; alloc.left(), 0);
+    }
+    alloc.refuse(3);
+    assert!(rt; left.joined(&right).is_ok());
+    assert_eq!(rt; alloc.left(), 1);
+}
+
+#[test]
+fn two_inner_pages_take_one_growth(rt: HostRuntime) {
+    let alloc = heap(&rt, rt.alloc());
+    let left = from_start(&rt, alloc);
+    let right = from_c(&rt, alloc);
+    alloc.refuse(1);
+    assert!(rt; left.joined(&right).is_err());
+    assert_eq!(rt; alloc.left(), 0);
+    alloc.refuse(2);
+    assert!(rt; left.joined(&right).is_ok());
+    assert_eq!(rt; alloc.left(), 1);
+}
+
+#[test]
+fn another_child_takes_one_growth_and_one_for_a_long_separator(rt: HostRuntime) {
+    let alloc = heap(&rt, rt.alloc());
+    let inner = from_start_and_c(&rt, alloc);
+    let sep = key(&rt, alloc, LONG);
+    for growth in 1..=2 {
+        alloc.refuse(growth);
+        assert!(rt; inner.with_child(&sep, PageId(5)).is_err());
+        assert_eq!(rt; alloc.left(), 0);
+    }
+    alloc.refuse(3);
+    assert!(rt; inner.with_child(&sep, PageId(5)).is_ok());
+    assert_eq!(rt; alloc.left(), 1);
+}
+
+#[test]
+fn one_child_less_takes_one_growth(rt: HostRuntime) {
+    let alloc = heap(&rt, rt.alloc());
+    let inner = from_start_and_c(&rt, alloc);
+    let sep = key(&rt, alloc, b"c");
+    alloc.refuse(1);
+    assert!(rt; inner.without_child(&sep).is_err());
+    assert_eq!(rt; alloc.left(), 0);
+    alloc.refuse(2);
+    assert!(rt; inner.without_child(&sep).is_ok());
+    assert_eq!(rt; alloc.left(), 1);
+}
+
+#[test]
+fn the_half_of_an_inner_page_takes_one_growth_and_two_for_a_long_low_key(rt: HostRuntime) {
+    let alloc = heap(&rt, rt.alloc());
+    let inner = from_start_and_c(&rt, alloc)
+        .with_child(&key(&rt, alloc, LONG), PageId(5))
+        .expect(&rt, "memory");
+    assert!(rt; inner.children().len() == 3);
+    for growth in 1..=3 {
+        alloc.refuse(growth);
+        assert!(rt; inner.upper_half(1).is_err());
+        assert_eq!(rt; alloc.left(), 0);
+    }
+    alloc.refuse(4);
+    assert!(rt; inner.upper_half(1).is_ok());
+    assert_eq!(rt; alloc.left(), 1);
+}
