@@ -1,34 +1,50 @@
 // The limits of a key, its order, and what takes memory.
 use crate::{Key, KeyFault, Memory};
 use bw_memory::{Alloc, Heap};
+use std::alloc::Global;
 use std::cmp::Ordering;
 use std::mem::size_of;
+use std::process::Abort;
 use std::test::Fail;
 
 const BYTES: [u8; 65] = [107; 65];
 
-fn heap(rt: &HostRuntime) -> Result<Alloc, Fail> {
-    Ok(Heap::counted(rt.alloc()).leak(rt.alloc())?)
+fn heap<R: Abort>(rt: &R, global: Global) -> Alloc {
+    Heap::counted(global).leak(global).expect(rt, "a heap")
+}
+
+fn key<R: Abort>(rt: &R, alloc: Alloc, bytes: &[u8]) -> Key {
+    Key::new(alloc, bytes).expect(rt, "a key")
+}
+
+// Compares a key and its copy with the bytes that it was made of.
+fn has_bytes<R: Abort>(rt: &R, key: &Key, bytes: &[u8]) {
+    assert!(rt; key.bytes() == bytes);
+    let copy = key.copy().expect(rt, "memory");
+    assert!(rt; copy.bytes() == bytes);
+    assert!(rt; copy == *key);
 }
 
 #[test]
-fn keys_have_at_most_64_bytes(rt: HostRuntime) -> Result<(), Fail> {
-    let alloc = heap(&rt)?;
+fn keys_have_at_most_64_bytes(rt: HostRuntime) {
+    let alloc = heap(&rt, rt.alloc());
     for len in [0, 1, 24, 25, 63, 64] {
         let bytes = &BYTES[..len];
-        let key = Key::new(alloc, bytes)?;
-        assert!(rt; key.bytes() == bytes);
-        let copy = key.copy()?;
-        assert!(rt; copy.bytes() == bytes);
-        assert!(rt; copy == key);
+        has_bytes(&rt, &key(&rt, alloc, bytes), bytes);
     }
     assert!(rt; Key::new(alloc, &BYTES).err() == Some(KeyFault::TooLong(65)));
-    Ok(())
+}
+
+// Compares two keys by each way to do so.
+fn stand<R: Abort>(rt: &R, left: &Key, right: &Key, order: Ordering) {
+    assert!(rt; left.cmp(right) == order);
+    assert!(rt; left.partial_cmp(right) == Some(order));
+    assert!(rt; (left == right) == (order == Ordering::Equal));
 }
 
 #[test]
-fn keys_are_ordered_byte_by_byte(rt: HostRuntime) -> Result<(), Fail> {
-    let alloc = heap(&rt)?;
+fn keys_are_ordered_byte_by_byte(rt: HostRuntime) {
+    let alloc = heap(&rt, rt.alloc());
     let rising: [&[u8]; 11] = [
         b"",
         b"\x00",
@@ -43,44 +59,36 @@ fn keys_are_ordered_byte_by_byte(rt: HostRuntime) -> Result<(), Fail> {
         b"\xff",
     ];
     for (i, lower) in rising.iter().enumerate() {
-        let lower = Key::new(alloc, lower)?;
+        let lower = key(&rt, alloc, lower);
         for (j, upper) in rising.iter().enumerate() {
-            let upper = Key::new(alloc, upper)?;
-            assert!(rt; lower.cmp(&upper) == i.cmp(&j));
-            assert!(rt; lower.partial_cmp(&upper) == Some(i.cmp(&j)));
-            assert!(rt; (lower == upper) == (i == j));
+            stand(&rt, &lower, &key(&rt, alloc, upper), i.cmp(&j));
         }
     }
-    Ok(())
 }
 
 #[test]
-fn long_keys_are_ordered_as_short_ones(rt: HostRuntime) -> Result<(), Fail> {
-    let alloc = heap(&rt)?;
-    let short = Key::new(alloc, b"kl")?;
-    let long = Key::new(alloc, &BYTES[..64])?;
-    let prefix = Key::new(alloc, &BYTES[..24])?;
-    assert!(rt; long.cmp(&short) == Ordering::Less);
-    assert!(rt; long.cmp(&prefix) == Ordering::Greater);
-    assert!(rt; long != prefix);
-    Ok(())
+fn long_keys_are_ordered_as_short_ones(rt: HostRuntime) {
+    let alloc = heap(&rt, rt.alloc());
+    let long = key(&rt, alloc, &BYTES[..64]);
+    stand(&rt, &long, &key(&rt, alloc, b"kl"), Ordering::Less);
+    let prefix = key(&rt, alloc, &BYTES[..24]);
+    stand(&rt, &long, &prefix, Ordering::Greater);
 }
 
 #[test]
-fn short_keys_take_no_memory(rt: HostRuntime) -> Result<(), Fail> {
-    let alloc = heap(&rt)?;
+fn short_keys_take_no_memory(rt: HostRuntime) {
+    let alloc = heap(&rt, rt.alloc());
     alloc.refuse(1);
     for len in [0, 1, 23, 24] {
-        let key = Key::new(alloc, &BYTES[..len])?;
-        assert!(rt; key.copy()? == key);
+        let bytes = &BYTES[..len];
+        has_bytes(&rt, &key(&rt, alloc, bytes), bytes);
     }
     assert_eq!(rt; alloc.left(), 1);
-    Ok(())
 }
 
 #[test]
-fn long_keys_want_one_growth(rt: HostRuntime) -> Result<(), Fail> {
-    let alloc = heap(&rt)?;
+fn long_keys_want_one_growth(rt: HostRuntime) {
+    let alloc = heap(&rt, rt.alloc());
     for len in [25, 64] {
         let bytes = &BYTES[..len];
         alloc.refuse(1);
@@ -88,27 +96,30 @@ fn long_keys_want_one_growth(rt: HostRuntime) -> Result<(), Fail> {
         assert_eq!(rt; alloc.left(), 0);
 
         alloc.refuse(2);
-        let key = Key::new(alloc, bytes)?;
+        let key = key(&rt, alloc, bytes);
         assert!(rt; key.copy().is_err());
         assert_eq!(rt; alloc.left(), 0);
-        assert!(rt; key.bytes() == bytes);
-        assert!(rt; key.copy()? == key);
+        has_bytes(&rt, &key, bytes);
     }
     alloc.refuse(1);
     assert!(rt; Key::new(alloc, &BYTES).err() == Some(KeyFault::TooLong(65)));
     assert_eq!(rt; alloc.left(), 1);
-    Ok(())
+}
+
+// Copies a key of 25 bytes once, and has no room for more.
+fn has_room_for_a_copy<R: Abort>(rt: &R, alloc: Alloc, key: &Key) {
+    let _copy = key.copy().expect(rt, "memory");
+    assert_eq!(rt; alloc.used(), 50);
+    assert!(rt; key.copy().is_err());
 }
 
 #[test]
 fn a_long_key_has_as_many_bytes_of_memory(rt: HostRuntime) -> Result<(), Fail> {
     let alloc = Heap::within(rt.alloc(), 64).leak(rt.alloc())?;
     {
-        let key = Key::new(alloc, &BYTES[..25])?;
+        let key = key(&rt, alloc, &BYTES[..25]);
         assert_eq!(rt; alloc.used(), 25);
-        let _copy = key.copy()?;
-        assert_eq!(rt; alloc.used(), 50);
-        assert!(rt; key.copy().is_err());
+        has_room_for_a_copy(&rt, alloc, &key);
     }
     assert_eq!(rt; alloc.used(), 0);
     assert!(rt; size_of::<Key>() == 48);
@@ -123,7 +134,7 @@ fn one_byte(alloc: Alloc) -> Result<Vec<u8, Alloc>, Memory> {
 
 #[test]
 fn a_refused_push_is_want_of_memory(rt: HostRuntime) -> Result<(), Fail> {
-    let alloc = heap(&rt)?;
+    let alloc = heap(&rt, rt.alloc());
     alloc.refuse(1);
     assert!(rt; one_byte(alloc).is_err());
     assert!(rt; one_byte(alloc)?.as_slice() == [7].as_slice());

@@ -9,8 +9,6 @@ mod chains;
 mod making;
 mod scans;
 mod staging;
-#[cfg(test)]
-mod tests;
 mod tree;
 
 pub use scans::Scans;

@@ -23,9 +23,6 @@ use bw_page::PageId;
 use std::collections::BTreeMap;
 use std::marker::Model;
 
-#[cfg(test)]
-mod kept;
-
 /// Scans of a tree, one after another, each as of a stamp of its own.
 ///
 /// Each leaf that was read is kept, and a later scan goes on from the stamp of the one before it. A leaf is read where it

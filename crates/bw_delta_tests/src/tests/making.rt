@@ -104,6 +104,14 @@ pub fn are(pairs: &Pairs, wanted: &[(&'static [u8], &'static [u8])]) -> bool {
     true
 }
 
+/// Whether `a` alone is left, with the wanted value, or nothing where none is wanted.
+pub fn is_left(pairs: &Pairs, wanted: Option<&'static [u8]>) -> bool {
+    match wanted {
+        Some(value) => are(pairs, &[(b"a", value)]),
+        None => are(pairs, &[]),
+    }
+}
+
 /// Whether each of three writes has a stamp of its own.
 #[tactic(auto, using(bw_delta::proofs::Orders::distinct_three))]
 pub fn are_apart(a: &Write, b: &Write, c: &Write) -> bool

@@ -1,6 +1,7 @@
 // What stamped writes leave, in each order of the slice.
 use super::making::{
-    are, delete, heap, insert, key, leaf_of, pair, pairs_of, two, update, value, value_of, write,
+    are, delete, heap, insert, is_left, key, leaf_of, pair, pairs_of, two, update, value, value_of,
+    write,
 };
 use bw_delta::{Action, Write, contents_are_history};
 use bw_key::Key;
@@ -44,10 +45,7 @@ fn compare_leaf<R: Abort>(rt: &R, alloc: Alloc, order: (&Write, &Write, &Write))
     for (stamp, wanted) in LEFT {
         let pairs = pairs_of(rt, alloc, &[&leaf], (&low, None), order, stamp);
         let pairs = pairs.expect(rt, "memory");
-        match wanted {
-            Some(value) => assert!(rt; are(&pairs, &[(b"a", value)])),
-            None => assert!(rt; are(&pairs, &[])),
-        }
+        assert!(rt; is_left(&pairs, wanted));
     }
 }
 

@@ -1,6 +1,8 @@
 // The pairs of a page as of stamps that rise.
+ghost use Rattle.std.specs.Prelude.{◌≡◌, IfOk};
+
 use super::making::{
-    are, are_apart, delete, heap, insert, key, leaf_of, long, pair, two, update, value,
+    are, are_apart, delete, heap, insert, is_left, key, leaf_of, long, pair, two, update, value,
 };
 use super::refused::was_refused;
 use bw_delta::{Memory, Replay, Write};
@@ -115,25 +117,40 @@ const LEFT: [(u64, Option<&'static [u8]>); 5] = [
     (8, Some(b"3")),
 ];
 
+// A replay of three writes over a leaf.
+fn replay_of<'a, R: Abort>(
+    rt: &R,
+    alloc: Alloc,
+    leaf: &'a Leaf,
+    writes: (&'a Write, &'a Write, &'a Write),
+) -> Result<Replay<'a>, Memory>
+    ensures { IfOk result (λ replay. replay.stamp ≡ 0) }
+{
+    let (a, b, c) = writes;
+    assert!(rt; are_apart(a, b, c));
+    Replay::new(alloc, &[leaf], None, &[a, b, c])
+}
+
+// Takes a replay on to a stamp.
+fn advance<R: Abort>(rt: &R, replay: &mut Replay, stamp: u64) {
+    assert!(rt; replay.stamp() <= stamp);
+    replay.advance(stamp).expect(rt, "memory");
+    assert_eq!(rt; replay.stamp(), stamp);
+}
+
 // Compares a replay of the three writes as of each stamp.
 fn compare<'a, R: Abort>(
     rt: &R,
     alloc: Alloc,
-    leaf: &Leaf,
-    (a, b, c): (&'a Write, &'a Write, &'a Write),
+    leaf: &'a Leaf,
+    writes: (&'a Write, &'a Write, &'a Write),
 ) {
-    assert!(rt; are_apart(a, b, c));
     let least = key(rt, alloc, b"");
-    let mut replay = Replay::new(alloc, &[leaf], None, &[a, b, c]).expect(rt, "memory");
+    let mut replay = replay_of(rt, alloc, leaf, writes).expect(rt, "memory");
     for (stamp, wanted) in LEFT {
-        assert!(rt; replay.stamp() <= stamp);
-        replay.advance(stamp).expect(rt, "memory");
-        assert_eq!(rt; replay.stamp(), stamp);
+        advance(rt, &mut replay, stamp);
         let pairs = first(alloc, &replay, &least, 9).expect(rt, "memory");
-        match wanted {
-            Some(value) => assert!(rt; are(&pairs, &[(b"a", value)])),
-            None => assert!(rt; are(&pairs, &[])),
-        }
+        assert!(rt; is_left(&pairs, wanted));
     }
 }
 
@@ -152,12 +169,11 @@ fn a_replay_goes_on_from_stamp_to_stamp(rt: HostRuntime) {
 fn read_at<'a, R: Abort>(
     rt: &R,
     alloc: Alloc,
-    leaf: &Leaf,
+    leaf: &'a Leaf,
     least: &Key,
-    (a, b, c): (&'a Write, &'a Write, &'a Write),
+    writes: (&'a Write, &'a Write, &'a Write),
 ) -> Result<Pairs, Memory> {
-    assert!(rt; are_apart(a, b, c));
-    let mut replay = Replay::new(alloc, &[leaf], None, &[a, b, c])?;
+    let mut replay = replay_of(rt, alloc, leaf, writes)?;
     replay.advance(9)?;
     first(alloc, &replay, least, 9)
 }

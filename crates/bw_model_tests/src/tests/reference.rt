@@ -1,21 +1,34 @@
 // The plain program: each operation over present and absent keys, and ranges.
 use super::making::{LONG, Maker, Pair, same};
+use bw_key::Key;
+use bw_memory::Alloc;
 use bw_model::{Action, Op, Pairs, ReferenceMap, Replies, Reply};
 use std::process::Abort;
 
-// Puts a value at a key.
-fn put<R: Abort>(rt: &R, make: &Maker<R>, map: &mut ReferenceMap, key: &str, value: &str) {
-    let op = make.upsert(key, value);
-    map.apply(&op).expect(rt, "memory");
+// Runs an operation, whatever its reply is.
+fn run<R: Abort>(rt: &R, map: &mut ReferenceMap, op: &Op) {
+    map.apply(op).expect(rt, "memory");
 }
 
 // A map of these pairs.
 fn map_of<R: Abort>(rt: &R, make: &Maker<R>, pairs: &[Pair]) -> ReferenceMap {
     let mut map = ReferenceMap::new(make.alloc);
     for (key, value) in pairs {
-        put(rt, make, &mut map, key, value);
+        run(rt, &mut map, &make.upsert(key, value));
     }
     map
+}
+
+// Compares the reply to an operation.
+fn answers<R: Abort>(rt: &R, map: &mut ReferenceMap, op: &Op, reply: &Reply) {
+    let answer = map.apply(op).expect(rt, "memory");
+    assert!(rt; answer == *reply);
+}
+
+// Compares the pairs of a map.
+fn holds<R: Abort>(rt: &R, map: &ReferenceMap, pairs: &Pairs) {
+    let entries = map.entries().expect(rt, "memory");
+    assert!(rt; entries == *pairs);
 }
 
 // Compares the reply to an operation, and the pairs afterwards.
@@ -28,10 +41,8 @@ fn compare<R: Abort>(
     after: &[Pair],
 ) {
     let mut map = map_of(rt, make, before);
-    let answer = map.apply(&op).expect(rt, "memory");
-    assert!(rt; answer == reply);
-    let entries = map.entries().expect(rt, "memory");
-    assert!(rt; entries == make.pairs(after));
+    answers(rt, &mut map, &op, &reply);
+    holds(rt, &map, &make.pairs(after));
 }
 
 #[test]
@@ -83,15 +94,56 @@ fn each_operation_over_a_key_that_is_not_there(rt: HostRuntime) {
     compare(&rt, &make, none, swap_if, Reply::Absent, none);
 }
 
+// Compares the reply to a write.
+fn writes<R: Abort>(rt: &R, map: &mut ReferenceMap, key: &Key, action: &Action, reply: &Reply) {
+    let answer = map.write(key, action).expect(rt, "memory");
+    assert!(rt; answer == *reply);
+}
+
 #[test]
 fn a_write_is_answered_and_then_read(rt: HostRuntime) {
     let make = Maker::new(&rt, rt.alloc());
     let mut map = map_of(&rt, &make, &[("a", "1")]);
+    let key = make.key("a");
     let action = Action::SwapIf(make.value("1"), make.value(LONG));
-    let reply = map.write(&make.key("a"), &action).expect(&rt, "memory");
-    assert!(rt; reply == make.was("1"));
-    assert!(rt; map.get(&make.key("a")) == Some(&make.value(LONG)));
+    writes(&rt, &mut map, &key, &action, &make.was("1"));
+    assert!(rt; map.get(&key) == Some(&make.value(LONG)));
     assert!(rt; map.get(&make.key("A")).is_none());
+}
+
+// The last pairs of a list, so many of them, the last one first.
+fn turned<R: Abort>(rt: &R, alloc: Alloc, pairs: &[Pair], count: usize) -> Vec<Pair, Alloc> {
+    let mut falling = Vec::new(alloc);
+    for pair in pairs.iter().rev().take(count) {
+        falling.push(*pair).expect(rt, "memory");
+    }
+    falling
+}
+
+// Compares the first pairs of a range.
+fn scans<R: Abort>(
+    rt: &R,
+    map: &ReferenceMap,
+    from: &Key,
+    to: Option<&Key>,
+    most: u64,
+    pairs: &Pairs,
+) {
+    let scanned = map.scan(from, to, most).expect(rt, "memory");
+    assert!(rt; scanned == *pairs);
+}
+
+// And the last ones, the last one first.
+fn scans_back<R: Abort>(
+    rt: &R,
+    map: &ReferenceMap,
+    from: &Key,
+    to: Option<&Key>,
+    most: u64,
+    pairs: &Pairs,
+) {
+    let scanned = map.rscan(from, to, most).expect(rt, "memory");
+    assert!(rt; scanned == *pairs);
 }
 
 #[test]
@@ -114,17 +166,18 @@ fn a_range_has_its_lower_end_and_not_its_upper_one(rt: HostRuntime) {
         let to = make.end(to);
         for most in [0, 1, 2, 3, 4, 9, u64::MAX] {
             let count = pairs.len().min(most as usize);
-            let scanned = map.scan(&from, to.as_ref(), most).expect(&rt, "memory");
-            assert!(rt; scanned == make.pairs(&pairs[..count]));
-
-            let mut falling = Vec::new(make.alloc);
-            for pair in pairs.iter().rev().take(count) {
-                falling.push(*pair).expect(&rt, "memory");
-            }
-            let scanned = map.rscan(&from, to.as_ref(), most).expect(&rt, "memory");
-            assert!(rt; scanned == make.pairs(&falling));
+            let rising = make.pairs(&pairs[..count]);
+            scans(&rt, &map, &from, to.as_ref(), most, &rising);
+            let falling = make.pairs(&turned(&rt, make.alloc, pairs, count));
+            scans_back(&rt, &map, &from, to.as_ref(), most, &falling);
         }
     }
+}
+
+// Compares the replies to a batch.
+fn are_answered<R: Abort>(rt: &R, map: &mut ReferenceMap, ops: &[Op], replies: &[Reply]) {
+    let answered = map.run(ops).expect(rt, "memory");
+    same(rt, answered.as_slice(), replies);
 }
 
 #[test]
@@ -151,13 +204,10 @@ fn a_batch_runs_in_its_order(rt: HostRuntime) {
         Reply::Absent,
     ];
     let mut map = ReferenceMap::new(make.alloc);
-    let answered = map.run(&ops).expect(&rt, "memory");
-    same(&rt, answered.as_slice(), &replies);
-    let entries = map.entries().expect(&rt, "memory");
-    assert!(rt; entries == make.pairs(&[("b", "2")]));
+    are_answered(&rt, &mut map, &ops, &replies);
+    holds(&rt, &map, &make.pairs(&[("b", "2")]));
     assert_eq!(rt; map.run(&[]).expect(&rt, "memory").as_slice().len(), 0);
-    let entries = map.entries().expect(&rt, "memory");
-    assert!(rt; entries == make.pairs(&[("b", "2")]));
+    holds(&rt, &map, &make.pairs(&[("b", "2")]));
 }
 
 #[test]
@@ -165,10 +215,9 @@ fn a_copy_is_a_map_of_its_own(rt: HostRuntime) {
     let make = Maker::new(&rt, rt.alloc());
     let mut map = map_of(&rt, &make, &[("a", "1"), (LONG, LONG)]);
     let copy = map.copy().expect(&rt, "memory");
-    map.apply(&make.delete("a")).expect(&rt, "memory");
-    map.apply(&make.upsert(LONG, "2")).expect(&rt, "memory");
-    let pairs = copy.entries().expect(&rt, "memory");
-    assert!(rt; pairs == make.pairs(&[("a", "1"), (LONG, LONG)]));
+    run(&rt, &mut map, &make.delete("a"));
+    run(&rt, &mut map, &make.upsert(LONG, "2"));
+    holds(&rt, &copy, &make.pairs(&[("a", "1"), (LONG, LONG)]));
 }
 
 #[test]

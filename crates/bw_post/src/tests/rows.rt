@@ -1,11 +1,15 @@
 // Worked batches.
 ghost use Rattle.std.specs.Prelude.{◌≡◌, true};
+ghost use Rattle.std.specs.List.{Contains};
+ghost use Rattle.bw_tree.specs.Levels.{row};
 ghost use Rattle.bw_tree.specs.Stages.{is_adopted};
 
 use super::making::{batch, has, heap, holds, key, post, stands, three, upsert};
 use crate::{OpenGate, Tree, post_all};
 use bw_answer::Grouping;
+use bw_key::Memory;
 use bw_memory::Alloc;
+use bw_page::PageId;
 use bw_tree::Scans;
 use std::process::Abort;
 use std::thread::Threads;
@@ -101,6 +105,28 @@ fn writes_of_one_key_stand_in_one_chain(rt: HostRuntime) {
     has(&rt, alloc, &tree, 2, &[(b"a", Some(b"2"))]);
 }
 
+// The page of the leaf whose range has a key.
+fn leaf_at<R: Abort>(rt: &R, alloc: Alloc, tree: &Tree, bytes: &[u8]) -> PageId
+    ensures { Contains (row tree.now.levels 0) result }
+{
+    tree.route(&key(rt, alloc, bytes))
+}
+
+#[test]
+fn the_list_of_a_leafs_writes_takes_one_growth(rt: HostRuntime) {
+    let alloc = heap(&rt, rt.alloc());
+    let tree = adopted(&rt, alloc);
+    let page = leaf_at(&rt, alloc, &tree, b"d");
+    alloc.refuse(1);
+    assert!(rt; tree.writes(alloc, page).err() == Some(Memory));
+    assert_eq!(rt; alloc.left(), 0);
+    alloc.refuse(2);
+    let writes = tree.writes(alloc, page).expect(&rt, "memory");
+    assert_eq!(rt; alloc.left(), 1);
+    assert_eq!(rt; writes.len(), 1);
+    assert_eq!(rt; writes[0].stamp, 0);
+}
+
 // How many growths a scan of all pairs behind the batch takes.
 fn growths<R: Abort>(rt: &R, alloc: Alloc, scans: &mut Scans) -> u64 {
     let from = key(rt, alloc, b"");
@@ -112,15 +138,34 @@ fn growths<R: Abort>(rt: &R, alloc: Alloc, scans: &mut Scans) -> u64 {
     1000u64.saturating_sub(left)
 }
 
+// And a scan back.
+fn growths_back<R: Abort>(rt: &R, alloc: Alloc, scans: &mut Scans) -> u64 {
+    let from = key(rt, alloc, b"");
+    alloc.refuse(1000);
+    let pairs = scans.scan_back(&from, None, 9, 2);
+    let left = alloc.left();
+    alloc.refuse(0);
+    assert_eq!(rt; pairs.expect(rt, "memory").as_slice().len(), 3);
+    1000u64.saturating_sub(left)
+}
+
 #[test]
 fn a_leaf_with_writes_is_put_in_a_map_once(rt: HostRuntime) {
     let alloc = heap(&rt, rt.alloc());
     let tree = adopted(&rt, alloc);
     let mut scans = Scans::new(alloc, &tree);
-    let first = growths(&rt, alloc, &mut scans);
-    let second = growths(&rt, alloc, &mut scans);
-    assert!(rt; first > 4);
-    assert_eq!(rt; second, 1);
+    assert!(rt; growths(&rt, alloc, &mut scans) > 4);
+    assert_eq!(rt; growths(&rt, alloc, &mut scans), 1);
+    assert_eq!(rt; growths_back(&rt, alloc, &mut scans), 1);
+}
+
+#[test]
+fn so_is_one_that_is_scanned_back(rt: HostRuntime) {
+    let alloc = heap(&rt, rt.alloc());
+    let tree = adopted(&rt, alloc);
+    let mut scans = Scans::new(alloc, &tree);
+    assert!(rt; growths_back(&rt, alloc, &mut scans) > 4);
+    assert_eq!(rt; growths_back(&rt, alloc, &mut scans), 1);
 }
 
 // Stages and posts a batch by so many workers where this growth is refused while posting. Whether it was.

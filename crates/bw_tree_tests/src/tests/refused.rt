@@ -1,8 +1,8 @@
 // Each growth of memory refused in turn.
 use super::making::{LONG, has, heap, key, leaves, stands, three_leaves, three_with, value};
-use crate::{Memory, Tree};
 use bw_memory::Alloc;
 use bw_model::Op;
+use bw_tree::{Memory, Tree};
 use std::process::Abort;
 
 /// Whether the growth of this number was refused. From now on none is.

@@ -3,8 +3,8 @@ ghost use Rattle.std.specs.List.{Contains};
 ghost use Rattle.bw_tree.specs.Levels.{row};
 
 use super::making::{are, heap, key, three_leaves};
-use crate::{Leaf, PageId, Tree};
 use bw_memory::Alloc;
+use bw_tree::{Leaf, PageId, Tree};
 use std::process::Abort;
 
 // The leaf whose range has a key.

@@ -2,10 +2,10 @@
 ghost use Rattle.std.specs.Prelude.{◌≡◌, [], ◌∷◌, None, Some};
 ghost use Rattle.bw_tree.specs.Making.{AreAbutting};
 
-use crate::{Leaf, PageId, Tree};
 use bw_key::Key;
 use bw_memory::{Alloc, Heap};
 use bw_model::{Pairs, Value};
+use bw_tree::{Leaf, PageId, Tree};
 use std::alloc::Global;
 use std::process::Abort;
 

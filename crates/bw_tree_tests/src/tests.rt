@@ -1,8 +1,7 @@
 // Worked examples of what the contracts say, and what no contract says: that calls succeed, and each growth of memory
 // refused in turn.
-mod chains;
 mod folding;
-pub(crate) mod making;
+mod making;
 mod pages;
 mod refused;
 mod scans;

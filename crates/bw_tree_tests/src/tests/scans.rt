@@ -1,9 +1,9 @@
 // Scans over three leaves.
 use super::making::{are, heap, key, three_leaves};
 use super::refused::was_refused;
-use crate::{Memory, Scans, Tree};
 use bw_memory::Alloc;
 use bw_model::Pairs;
+use bw_tree::{Memory, Scans, Tree};
 use std::process::Abort;
 
 // Compares the pairs that a scan answered with the wanted ones.

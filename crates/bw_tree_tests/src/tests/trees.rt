@@ -1,9 +1,9 @@
 // Trees of one leaf and of three, and a batch that is staged and undone.
 use super::making::{has, heap, key, leaves, one_leaf, stands, three_leaves, value};
-use crate::{PageId, Staged, Tree};
 use bw_delta::{Action, Write};
 use bw_memory::Alloc;
 use bw_model::Op;
+use bw_tree::{PageId, Staged, Tree};
 use std::process::Abort;
 
 // What the three leaves hold, and two keys that are in none.

@@ -1,8 +1,8 @@
 // Trees without writes, folded.
 use super::making::{LONG, has, heap, one_leaf, stands, three_leaves, three_with};
 use super::refused::was_refused;
-use crate::{Memory, Tree};
 use bw_memory::Alloc;
+use bw_tree::{Memory, Tree};
 use std::process::Abort;
 
 #[test]
