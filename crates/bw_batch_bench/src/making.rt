@@ -27,10 +27,15 @@ impl Random {
         requires { 0 < limit }
         ensures { result < limit }
     {
-        let state = self.state.wrapping_mul(6364136223846793005);
-        self.state = state.wrapping_add(1442695040888963407);
+        self.state = next_state(self.state);
         (self.state >> 33) % limit
     }
+}
+
+fn next_state(state: u64) -> u64 {
+    state
+        .wrapping_mul(6364136223846793005)
+        .wrapping_add(1442695040888963407)
 }
 
 // Keys of 8 bytes, in the order of their numbers.
@@ -141,6 +146,11 @@ fn read(key: Key, kind: Kind) -> Op {
     }
 }
 
+fn push_copy(pairs: &mut Vec<(Key, Value), Alloc>, key: &Key, value: &Value) -> Result<()> {
+    pairs.push((key.copy()?, value.copy()?))?;
+    Ok(())
+}
+
 // The first pairs of a map from a key on.
 fn scanned(
     alloc: Alloc,
@@ -153,7 +163,7 @@ fn scanned(
         if pairs.len() as u64 >= most {
             break;
         }
-        pairs.push((key.copy()?, value.copy()?))?;
+        push_copy(&mut pairs, key, value)?;
     }
     Ok(Pairs::from_vec(pairs))
 }
