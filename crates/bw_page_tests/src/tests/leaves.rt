@@ -93,6 +93,21 @@ fn a_key_is_found_among_the_pairs_alone(rt: HostRuntime) {
     }
 }
 
+// Compares the keys of a leaf's range.
+fn has_between<R: Abort>(
+    rt: &R,
+    leaf: &Leaf,
+    low: &Key,
+    high: Option<&Key>,
+    wanted: &[&'static [u8]],
+) {
+    let pairs = leaf.between(low, high);
+    assert_eq!(rt; pairs.len(), wanted.len());
+    for (pair, key) in pairs.iter().zip(wanted) {
+        assert!(rt; pair.0.bytes() == *key);
+    }
+}
+
 #[test]
 fn a_range_has_its_pairs_and_takes_no_memory(rt: HostRuntime) {
     let alloc = heap(&rt, rt.alloc());
@@ -103,12 +118,9 @@ fn a_range_has_its_pairs_and_takes_no_memory(rt: HostRuntime) {
         key(&rt, alloc, b"f"),
     );
     alloc.refuse(1);
-    let pairs = leaf.between(&d, Some(&f));
-    assert_eq!(rt; pairs.len(), 2);
-    assert!(rt; pairs[0].0.bytes() == b"d".as_slice());
-    assert!(rt; pairs[1].0.bytes() == b"dd".as_slice());
-    assert_eq!(rt; leaf.between(&e, None).len(), 1);
-    assert!(rt; leaf.between(&f, Some(&d)).is_empty());
+    has_between(&rt, &leaf, &d, Some(&f), &[b"d", b"dd"]);
+    has_between(&rt, &leaf, &e, None, &[b"f"]);
+    has_between(&rt, &leaf, &f, Some(&d), &[]);
     assert_eq!(rt; alloc.left(), 1);
 }
 
