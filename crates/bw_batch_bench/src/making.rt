@@ -49,12 +49,18 @@ fn upsert(alloc: Alloc, number: u64, value: u64) -> Result<Op> {
     Ok(Op::Upsert(key(alloc, number)?, value))
 }
 
+fn least_key(alloc: Alloc) -> Result<Key>
+    ensures { IfOk result (λ key. key ≡ []) }
+{
+    Ok(Key::new(alloc, &[])?)
+}
+
 // Where the leaf at a place begins, the first one at the least key.
 fn low_of(alloc: Alloc, place: u32) -> Result<Key>
     ensures { IfOk result (λ key. place ≡ 0 → key ≡ []) }
 {
     if place == 0 {
-        return Ok(Key::new(alloc, &[])?);
+        return least_key(alloc);
     }
     key(alloc, place as u64 * LEAF)
 }
