@@ -1,4 +1,4 @@
-use Rattle.std.proofs.Common.{List, drop, sym, ap, ◌∙◌, ◌≡◌}
+use Rattle.std.proofs.Common.{List, sym, ap, ◌∙◌}
 use Rattle.std.proofs.lemmas.List.{drop_all}
 use Rattle.std.specs.FinMap.{find}
 use Rattle.bw_key.specs.Order.{key_cmp}
