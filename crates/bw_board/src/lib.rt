@@ -15,8 +15,6 @@ mod plays;
 mod posting;
 mod steps;
 mod table;
-#[cfg(test)]
-mod tests;
 
 pub use board::{Board, Posted, Replaced, Seat};
 pub use closing::Closed;

@@ -12,6 +12,3 @@ pub use posting::{Posting, post_all};
 /// The tree whose batch is posted, and the words that posting leaves for it to adopt.
 pub use bw_board::Closed;
 pub use bw_tree::Tree;
-
-#[cfg(test)]
-mod tests;

@@ -2,7 +2,7 @@
 ghost use Rattle.std.specs.Prelude.{◌≡◌, IfOk};
 
 use super::making::{
-    are, are_apart, delete, heap, insert, is_left, key, leaf_of, long, pair, two, update, value,
+    are, are_apart, delete, heap, insert, is_left, key, leaf_of, long, pair, two, update,
 };
 use super::refused::was_refused;
 use bw_delta::{Memory, Replay, Write};

@@ -13,7 +13,7 @@ fn has_children<R: Abort>(rt: &R, inner: &Inner, wanted: &[(&'static [u8], u32)]
     }
 }
 
-// Whether a page over leaves begins at a key and is the last one.
+// Compares the low key of a page over leaves, which is the last one.
 fn is_last_from<R: Abort>(rt: &R, inner: &Inner, low: &[u8]) {
     assert_eq!(rt; inner.level(), 1);
     assert!(rt; inner.low().bytes() == low);

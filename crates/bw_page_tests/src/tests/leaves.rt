@@ -40,7 +40,7 @@ fn has_pairs<R: Abort>(rt: &R, leaf: &Leaf, wanted: &[(&'static [u8], &'static [
     }
 }
 
-// Whether a leaf begins at a key and is the last one.
+// Compares the low key of a leaf, which is the last one.
 fn is_last_from<R: Abort>(rt: &R, leaf: &Leaf, low: &[u8]) {
     assert!(rt; leaf.low().bytes() == low);
     assert!(rt; leaf.high().is_none());

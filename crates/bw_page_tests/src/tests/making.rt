@@ -40,8 +40,8 @@ pub fn one<R: Abort>(rt: &R, alloc: Alloc, pair: (Key, Value)) -> Pairs
     Pairs::from_vec(vec![in alloc; pair].expect(rt, "the pair"))
 }
 
-/// A list of two pairs.
-pub fn two<R: Abort>(rt: &R, alloc: Alloc, first: (Key, Value), second: (Key, Value)) -> Pairs
+// A list of two pairs.
+fn two<R: Abort>(rt: &R, alloc: Alloc, first: (Key, Value), second: (Key, Value)) -> Pairs
     ensures { result ≡ first ∷ second ∷ [] }
 {
     Pairs::from_vec(vec![in alloc; first, second].expect(rt, "the pairs"))

@@ -108,7 +108,7 @@ fn read<'a, R: Abort>(rt: &R, alloc: Alloc, tree: &'a Tree) -> Scans<'a> {
 }
 
 #[test]
-fn leaves_that_were_read_are_found_again(rt: HostRuntime) {
+fn leaves_that_were_read_are_scanned_again(rt: HostRuntime) {
     let alloc = heap(&rt, rt.alloc());
     let tree = three_leaves(&rt, alloc);
     let mut scans = read(&rt, alloc, &tree);
@@ -123,7 +123,7 @@ fn leaves_that_were_read_are_found_again(rt: HostRuntime) {
 }
 
 #[test]
-fn leaves_that_were_read_are_found_again_below_an_end(rt: HostRuntime) {
+fn leaves_that_were_read_are_scanned_again_below_an_end(rt: HostRuntime) {
     let alloc = heap(&rt, rt.alloc());
     let tree = three_leaves(&rt, alloc);
     let mut scans = read(&rt, alloc, &tree);
@@ -143,7 +143,7 @@ fn leaves_that_were_read_are_found_again_below_an_end(rt: HostRuntime) {
 }
 
 #[test]
-fn a_leaf_is_found_below_one_that_was_read(rt: HostRuntime) {
+fn a_leaf_below_one_that_was_read_is_scanned_back(rt: HostRuntime) {
     let alloc = heap(&rt, rt.alloc());
     let tree = three_leaves(&rt, alloc);
     let mut scans = read(&rt, alloc, &tree);
@@ -174,7 +174,7 @@ fn a_scan_of_leaves_without_writes_takes_memory_for_its_answer_alone(rt: HostRun
 }
 
 #[test]
-fn so_does_a_scan_back(rt: HostRuntime) {
+fn a_scan_back_of_leaves_without_writes_takes_memory_for_its_answer_alone(rt: HostRuntime) {
     let alloc = heap(&rt, rt.alloc());
     let tree = three_leaves(&rt, alloc);
     let from = key(&rt, alloc, b"b");

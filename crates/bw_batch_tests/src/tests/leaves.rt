@@ -1,0 +1,229 @@
+// Batches over many leaves, compared with the plain program.
+ghost use Rattle.std.specs.Prelude.{◌≡◌, ◌<◌, ◌≤◌, [], ◌∷◌, None, is_some, T};
+ghost use Rattle.bw_model.specs.Contents.{is_below_end};
+ghost use Rattle.bw_tree.specs.Making.{AreAbutting};
+
+use super::making::{LONG, Maker, WORKERS, same};
+use super::randomly::Random;
+use bw_batch::{Index, Key, Leaf, Op, OpenGate, Options, PageId, Pairs, Tree, Value};
+use bw_memory::Alloc;
+use bw_model::ReferenceMap;
+use std::process::Abort;
+use std::thread::Threads;
+
+const VALUES: [&str; 3] = ["", "1", LONG];
+
+// A list of one pair.
+fn one<R: Abort>(rt: &R, make: &Maker<R>, pair: (Key, Value)) -> Pairs
+    ensures { result ≡ pair ∷ [] }
+{
+    Pairs::from_vec(vec![in make.alloc; pair].expect(rt, "the pair"))
+}
+
+// A leaf with one pair: its low key and the value 1.
+fn leaf_of<R: Abort>(
+    rt: &R,
+    make: &Maker<R>,
+    low: Key,
+    high: Option<Key>,
+    side: Option<PageId>,
+) -> Leaf
+    requires wide { T (is_below_end high low) }
+    requires linked { is_some side ≡ is_some high }
+    ensures low { result.low ≡ low }
+    ensures high { result.high ≡ high }
+    ensures side { result.side ≡ side }
+{
+    let first = low.copy().expect(rt, "a key");
+    let pairs = one(rt, make, (first, make.value("1")));
+    Leaf::from_pairs(low, high, side, pairs)
+}
+
+// Of so many leaves the one at this place, which begins at the low key, and all behind it. The leaf at place i begins at
+// the key of the byte i * step, and the first one at the least key.
+fn leaves_from<R: Abort>(
+    rt: &R,
+    make: &Maker<R>,
+    low: Key,
+    place: u32,
+    count: u32,
+    step: u8,
+) -> Vec<Leaf, Alloc>
+    requires place { place < count }
+    requires few { count ≤ 256 }
+    ensures { AreAbutting place low result.items }
+{
+    let next = place + 1;
+    if next == count {
+        let last = leaf_of(rt, make, low, None, None);
+        return vec![in make.alloc; last].expect(rt, "a leaf");
+    }
+    let high = key(rt, make, &[(next as u8).wrapping_mul(step)]);
+    assert!(rt; low < high);
+    let begins = high.copy().expect(rt, "a key");
+    let leaf = leaf_of(rt, make, low, Some(high), Some(PageId(next)));
+    let mut leaves = leaves_from(rt, make, begins, next, count, step);
+    leaves.insert(0, leaf).expect(rt, "a leaf");
+    leaves
+}
+
+/// A tree over so many leaves of one pair, with a root.
+pub fn tree_of<R: Abort>(rt: &R, make: &Maker<R>, count: u32, step: u8) -> Tree
+    requires some { 0 < count }
+    requires few { count ≤ 256 }
+    ensures { result.staged ≡ None }
+{
+    let leaves = leaves_from(rt, make, key(rt, make, &[]), 0, count, step);
+    let tree = Tree::from_level(make.alloc, leaves).expect(rt, "a tree");
+    assert!(rt; tree.heads().len() == count as usize + 1);
+    tree
+}
+
+// The plain program's map of the pairs of such a tree.
+fn map_of<R: Abort>(rt: &R, make: &Maker<R>, count: u32, step: u8) -> ReferenceMap {
+    let mut map = ReferenceMap::new(make.alloc);
+    let first = Op::Upsert(key(rt, make, &[]), make.value("1"));
+    map.apply(&first).expect(rt, "memory");
+    for place in 1..count {
+        let low = key(rt, make, &[(place as u8).wrapping_mul(step)]);
+        let op = Op::Upsert(low, make.value("1"));
+        map.apply(&op).expect(rt, "memory");
+    }
+    map
+}
+
+// An index, and the plain program's map of the same pairs.
+#[derive(Drop)]
+struct Compared {
+    index: Index,
+    map: ReferenceMap,
+}
+
+// Both over so many leaves.
+fn over_leaves<R: Abort>(
+    rt: &R,
+    make: &Maker<R>,
+    count: u32,
+    step: u8,
+    options: Options,
+) -> Compared
+    requires some { 0 < count }
+    requires few { count ≤ 256 }
+{
+    let tree = tree_of(rt, make, count, step);
+    Compared {
+        index: Index::from_tree(make.alloc, options, tree),
+        map: map_of(rt, make, count, step),
+    }
+}
+
+fn key<R: Abort>(rt: &R, make: &Maker<R>, bytes: &[u8]) -> Key
+    ensures { result ≡ bytes.now }
+{
+    Key::new(make.alloc, bytes).expect(rt, "a key")
+}
+
+// A key of one byte or two.
+fn draw_key<R: Abort>(rt: &R, make: &Maker<R>, random: &mut Random) -> Key {
+    let byte = random.below(256) as u8;
+    match random.below(2) {
+        0 => key(rt, make, &[byte]),
+        _ => key(rt, make, &[byte, 0]),
+    }
+}
+
+// An operation that is drawn.
+fn draw<R: Abort>(rt: &R, make: &Maker<R>, random: &mut Random) -> Op {
+    let key = draw_key(rt, make, random);
+    let value = make.value(VALUES[random.below(3)]);
+    let most = random.below(40) as u64;
+    match random.below(10) {
+        0 => Op::Get(key),
+        1 => Op::Insert(key, value),
+        2 => Op::Upsert(key, value),
+        3 => Op::Update(key, value),
+        4 => Op::Delete(key),
+        5 => Op::SwapIf(key, make.value("1"), value),
+        6 => Op::Scan {
+            from: key,
+            to: None,
+            most,
+        },
+        7 => Op::Scan {
+            from: key,
+            to: Some(draw_key(rt, make, random)),
+            most,
+        },
+        8 => Op::Rscan {
+            from: key,
+            to: None,
+            most,
+        },
+        _ => Op::Rscan {
+            from: key,
+            to: Some(draw_key(rt, make, random)),
+            most,
+        },
+    }
+}
+
+// A batch of so many operations.
+fn batch<R: Abort>(rt: &R, make: &Maker<R>, random: &mut Random, len: usize) -> Vec<Op, Alloc> {
+    let mut ops = Vec::new(make.alloc);
+    for _ in 0..len {
+        ops.push(draw(rt, make, random)).expect(rt, "memory");
+    }
+    ops
+}
+
+// Runs a batch by both, and compares the replies and the pairs after it.
+fn run_both<R: Abort + Threads + Sync>(rt: &R, both: &mut Compared, ops: &[Op]) {
+    let done = both.index.run(rt, ops, &OpenGate).expect(rt, "memory");
+    let expected = both.map.run(ops).expect(rt, "memory");
+    same(rt, done.replies.as_slice(), expected.as_slice());
+    let contents = both.index.contents().expect(rt, "memory");
+    let expected = both.map.entries().expect(rt, "memory");
+    assert!(rt; contents == expected);
+}
+
+// Runs batches of so many operations, drawn from a seed.
+fn compare<R: Abort + Threads + Sync>(
+    rt: &R,
+    make: &Maker<R>,
+    seed: u64,
+    mut both: Compared,
+    batches: u64,
+    len: usize,
+) {
+    let mut random = Random { state: seed };
+    run_both(rt, &mut both, &[]);
+    for _ in 0..batches {
+        let ops = batch(rt, make, &mut random, len);
+        run_both(rt, &mut both, &ops);
+    }
+}
+
+#[test]
+fn batches_over_many_leaves_are_answered_as_by_the_plain_program(rt: HostRuntime) {
+    let make = Maker::new(&rt, rt.alloc());
+    let both = over_leaves(&rt, &make, 64, 4, make.working(4, 64));
+    compare(&rt, &make, 20130408, both, 40, 80);
+}
+
+#[test]
+fn batches_over_250_leaves_are_answered_as_by_the_plain_program(rt: HostRuntime) {
+    let make = Maker::new(&rt, rt.alloc());
+    let both = over_leaves(&rt, &make, 250, 1, make.working(4, 64));
+    compare(&rt, &make, 20180610, both, 10, 200);
+}
+
+#[test]
+fn long_batches_are_answered_alike_by_any_number_of_workers(rt: HostRuntime) {
+    let make = Maker::new(&rt, rt.alloc());
+    for workers in WORKERS {
+        for piece in [1u64, 64, 4096] {
+            let both = over_leaves(&rt, &make, 64, 4, make.working(workers, piece));
+            compare(&rt, &make, workers + piece, both, 3, 1000);
+        }
+    }
+}

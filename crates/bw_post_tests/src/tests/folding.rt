@@ -1,0 +1,84 @@
+// Trees whose writes are folded.
+ghost use Rattle.std.specs.Prelude.{◌≡◌, None};
+
+use super::making::{batch, heap, holds, key, post, stands, three, upsert};
+use bw_memory::Alloc;
+use bw_page::PageId;
+use bw_post::Tree;
+use std::process::Abort;
+use std::thread::Threads;
+
+// The word of the first record.
+const FLOOR: u64 = 4294967296;
+
+// What the batch leaves of the three leaves.
+const AFTER: [(&[u8], &[u8]); 3] = [(b"a", b"1"), (b"b", b"2"), (b"c", b"9")];
+
+// The tree over three leaves, two of which have the batch's writes over them.
+fn written<R: Abort + Threads + Sync>(rt: &R, alloc: Alloc) -> Tree
+    ensures next { result.next ≡ 3 }
+    ensures staged { result.staged ≡ None }
+{
+    let mut tree = three(rt, alloc);
+    let closed = post(rt, alloc, &mut tree, &batch(rt, alloc), 64);
+    tree.adopt(closed);
+    tree.accept();
+    tree
+}
+
+#[test]
+fn the_writes_are_folded(rt: HostRuntime) {
+    let alloc = heap(&rt, rt.alloc());
+    let mut tree = written(&rt, alloc);
+    stands(&rt, &tree, &[0, FLOOR, FLOOR + 1, 3], 2, 3);
+    assert!(rt; tree.fold() == Ok(3));
+    stands(&rt, &tree, &[0, 1, 2, 3], 0, 3);
+    assert_eq!(rt; tree.root(), PageId(3));
+    assert!(rt; tree.route(&key(&rt, alloc, b"e")) == PageId(2));
+    holds(&rt, alloc, &tree, 3, &AFTER);
+}
+
+#[test]
+fn a_batch_is_posted_over_folded_leaves(rt: HostRuntime) {
+    let alloc = heap(&rt, rt.alloc());
+    let mut tree = written(&rt, alloc);
+    tree.fold().expect(&rt, "memory");
+    let ops = [upsert(&rt, alloc, b"e", b"7")];
+    let closed = post(&rt, alloc, &mut tree, &ops, 64);
+    tree.adopt(closed);
+    tree.accept();
+    stands(&rt, &tree, &[0, 1, FLOOR, 3], 1, 4);
+    holds(&rt, alloc, &tree, 3, &AFTER);
+    holds(
+        &rt,
+        alloc,
+        &tree,
+        4,
+        &[(b"a", b"1"), (b"b", b"2"), (b"c", b"9"), (b"e", b"7")],
+    );
+}
+
+// Folds a tree where this growth is refused, and compares it after that. Whether it was.
+fn fold_refused<R: Abort + Threads + Sync>(rt: &R, alloc: Alloc, growth: u64) -> bool {
+    let mut tree = written(rt, alloc);
+    alloc.refuse(growth);
+    let folded = tree.fold();
+    alloc.refuse(0);
+    if folded.is_err() {
+        stands(rt, &tree, &[0, FLOOR, FLOOR + 1, 3], 2, 3);
+    }
+    holds(rt, alloc, &tree, 3, &AFTER);
+    folded.is_err()
+}
+
+#[test]
+fn each_growth_of_a_fold_is_refused(rt: HostRuntime) {
+    let alloc = heap(&rt, rt.alloc());
+    for growth in 1..100 {
+        if !fold_refused(&rt, alloc, growth) {
+            assert!(rt; growth > 4);
+            return;
+        }
+    }
+    panic!(rt; "no run met no refusal")
+}

@@ -1,0 +1,238 @@
+// Worked batches.
+ghost use Rattle.std.specs.Prelude.{◌≡◌, true};
+ghost use Rattle.std.specs.List.{Contains};
+ghost use Rattle.bw_tree.specs.Levels.{row};
+ghost use Rattle.bw_tree.specs.Stages.{is_adopted};
+
+use super::making::{batch, has, heap, holds, key, post, stands, three, upsert, value};
+use bw_answer::Grouping;
+use bw_key::Memory;
+use bw_memory::Alloc;
+use bw_page::PageId;
+use bw_post::{OpenGate, Tree, post_all};
+use bw_tree::Scans;
+use std::process::Abort;
+use std::thread::Threads;
+
+// The word of the first record.
+const FLOOR: u64 = 4294967296;
+
+// The tree over three leaves with the batch staged, posted and adopted.
+fn adopted<R: Abort + Threads + Sync>(rt: &R, alloc: Alloc) -> Tree
+    ensures { is_adopted result.staged ≡ true }
+{
+    let mut tree = three(rt, alloc);
+    let closed = post(rt, alloc, &mut tree, &batch(rt, alloc), 1);
+    assert!(rt; closed.heads() == [0, FLOOR, FLOOR + 1, 3].as_slice());
+    assert!(rt; closed.links() == [1, 2].as_slice());
+    tree.adopt(closed);
+    stands(rt, &tree, &[0, FLOOR, FLOOR + 1, 3], 2, 0);
+    tree
+}
+
+#[test]
+fn each_stamp_sees_the_map_before_its_operation(rt: HostRuntime) {
+    let alloc = heap(&rt, rt.alloc());
+    let tree = adopted(&rt, alloc);
+    has(
+        &rt,
+        alloc,
+        &tree,
+        0,
+        &[(b"c", Some(b"3")), (b"e", Some(b"5"))],
+    );
+    has(
+        &rt,
+        alloc,
+        &tree,
+        1,
+        &[(b"c", Some(b"9")), (b"e", Some(b"5"))],
+    );
+    has(&rt, alloc, &tree, 2, &[(b"e", None)]);
+    holds(
+        &rt,
+        alloc,
+        &tree,
+        2,
+        &[(b"a", b"1"), (b"b", b"2"), (b"c", b"9")],
+    );
+}
+
+#[test]
+fn an_adopted_batch_is_undone(rt: HostRuntime) {
+    let alloc = heap(&rt, rt.alloc());
+    let mut tree = adopted(&rt, alloc);
+    tree.undo();
+    stands(&rt, &tree, &[0, 1, 2, 3], 0, 0);
+    holds(
+        &rt,
+        alloc,
+        &tree,
+        0,
+        &[(b"a", b"1"), (b"b", b"2"), (b"c", b"3"), (b"e", b"5")],
+    );
+}
+
+#[test]
+fn an_adopted_batch_is_accepted(rt: HostRuntime) {
+    let alloc = heap(&rt, rt.alloc());
+    let mut tree = adopted(&rt, alloc);
+    tree.accept();
+    stands(&rt, &tree, &[0, FLOOR, FLOOR + 1, 3], 2, 3);
+    holds(
+        &rt,
+        alloc,
+        &tree,
+        3,
+        &[(b"a", b"1"), (b"b", b"2"), (b"c", b"9")],
+    );
+}
+
+// A tree of one leaf, in whose chain two writes of one key stand.
+fn written_twice<R: Abort + Threads + Sync>(rt: &R, alloc: Alloc) -> Tree
+    ensures { is_adopted result.staged ≡ true }
+{
+    let mut tree = Tree::new(alloc).expect(rt, "memory");
+    let ops = [upsert(rt, alloc, b"a", b"1"), upsert(rt, alloc, b"a", b"2")];
+    let closed = post(rt, alloc, &mut tree, &ops, 1);
+    assert!(rt; closed.heads() == [FLOOR + 1].as_slice());
+    assert!(rt; closed.links() == [0, FLOOR].as_slice());
+    tree.adopt(closed);
+    tree
+}
+
+#[test]
+fn the_records_of_a_second_batch_stand_behind_those_of_the_first(rt: HostRuntime) {
+    let alloc = heap(&rt, rt.alloc());
+    let mut tree = adopted(&rt, alloc);
+    tree.accept();
+    assert_eq!(rt; tree.next_stamp(), 3);
+    let staged = tree.stage(&batch(&rt, alloc)).expect(&rt, "memory");
+    assert!(rt; (staged.base, staged.floor, staged.records) == (3, FLOOR + 2, 2));
+}
+
+#[test]
+fn writes_of_one_key_stand_in_one_chain(rt: HostRuntime) {
+    let alloc = heap(&rt, rt.alloc());
+    let tree = written_twice(&rt, alloc);
+    has(&rt, alloc, &tree, 0, &[(b"a", None)]);
+    has(&rt, alloc, &tree, 1, &[(b"a", Some(b"1"))]);
+    has(&rt, alloc, &tree, 2, &[(b"a", Some(b"2"))]);
+}
+
+// The page of the leaf whose range has a key.
+fn leaf_at<R: Abort>(rt: &R, alloc: Alloc, tree: &Tree, bytes: &[u8]) -> PageId
+    ensures { Contains (row tree.now.levels 0) result }
+{
+    tree.route(&key(rt, alloc, bytes))
+}
+
+#[test]
+fn the_list_of_a_leafs_writes_takes_one_growth(rt: HostRuntime) {
+    let alloc = heap(&rt, rt.alloc());
+    let tree = written_twice(&rt, alloc);
+    let page = leaf_at(&rt, alloc, &tree, b"a");
+    alloc.refuse(1);
+    assert!(rt; tree.writes(alloc, page).err() == Some(Memory));
+    assert_eq!(rt; alloc.left(), 0);
+    alloc.refuse(2);
+    let writes = tree.writes(alloc, page).expect(&rt, "memory");
+    assert_eq!(rt; alloc.left(), 1);
+    assert_eq!(rt; writes.len(), 2);
+    assert_eq!(rt; writes[0].stamp, 1);
+    assert_eq!(rt; writes[1].stamp, 0);
+}
+
+// The writes of its key are listed, and sorted in a second list.
+#[test]
+fn a_value_behind_writes_takes_two_growths(rt: HostRuntime) {
+    let alloc = heap(&rt, rt.alloc());
+    let tree = written_twice(&rt, alloc);
+    let at = key(&rt, alloc, b"a");
+    for growth in [1u64, 2] {
+        alloc.refuse(growth);
+        assert!(rt; tree.value_at(&at, 2).err() == Some(Memory));
+        assert_eq!(rt; alloc.left(), 0);
+    }
+    alloc.refuse(3);
+    let found = tree.value_at(&at, 2).expect(&rt, "memory");
+    assert_eq!(rt; alloc.left(), 1);
+    assert!(rt; found == Some(value(&rt, alloc, b"2")));
+}
+
+// How many growths a scan of all pairs behind the batch takes.
+fn growths<R: Abort>(rt: &R, alloc: Alloc, scans: &mut Scans) -> u64 {
+    let from = key(rt, alloc, b"");
+    alloc.refuse(1000);
+    let pairs = scans.scan(&from, None, 9, 2);
+    let left = alloc.left();
+    alloc.refuse(0);
+    assert_eq!(rt; pairs.expect(rt, "memory").as_slice().len(), 3);
+    1000u64.saturating_sub(left)
+}
+
+// And a scan back.
+fn growths_back<R: Abort>(rt: &R, alloc: Alloc, scans: &mut Scans) -> u64 {
+    let from = key(rt, alloc, b"");
+    alloc.refuse(1000);
+    let pairs = scans.scan_back(&from, None, 9, 2);
+    let left = alloc.left();
+    alloc.refuse(0);
+    assert_eq!(rt; pairs.expect(rt, "memory").as_slice().len(), 3);
+    1000u64.saturating_sub(left)
+}
+
+#[test]
+fn a_leaf_with_writes_is_put_in_a_map_once(rt: HostRuntime) {
+    let alloc = heap(&rt, rt.alloc());
+    let tree = adopted(&rt, alloc);
+    let mut scans = Scans::new(alloc, &tree);
+    assert!(rt; growths(&rt, alloc, &mut scans) > 4);
+    assert_eq!(rt; growths(&rt, alloc, &mut scans), 1);
+    assert_eq!(rt; growths_back(&rt, alloc, &mut scans), 1);
+}
+
+#[test]
+fn a_leaf_with_writes_that_is_scanned_back_is_put_in_a_map_once(rt: HostRuntime) {
+    let alloc = heap(&rt, rt.alloc());
+    let tree = adopted(&rt, alloc);
+    let mut scans = Scans::new(alloc, &tree);
+    assert!(rt; growths_back(&rt, alloc, &mut scans) > 4);
+    assert_eq!(rt; growths_back(&rt, alloc, &mut scans), 1);
+}
+
+// Stages and posts a batch by so many workers where this growth is refused while posting. Whether it was.
+fn posting_refused<R: Abort + Threads + Sync>(
+    rt: &R,
+    alloc: Alloc,
+    workers: u64,
+    growth: u64,
+) -> bool {
+    let mut tree = three(rt, alloc);
+    let ops = batch(rt, alloc);
+    tree.stage(&ops).expect(rt, "memory");
+    let grouping = Grouping::new(alloc, &ops).expect(rt, "memory");
+    alloc.refuse(growth);
+    let posting = post_all(rt, alloc, &tree, &grouping, 1, workers, &OpenGate);
+    alloc.refuse(0);
+    stands(rt, &tree, &[0, 1, 2, 3], 2, 0);
+    posting.is_err()
+}
+
+// Refuses each growth of a posting by so many workers in turn.
+fn each_growth_refused<R: Abort + Threads + Sync>(rt: &R, alloc: Alloc, workers: u64) {
+    for growth in 1..100 {
+        if !posting_refused(rt, alloc, workers, growth) {
+            assert!(rt; growth > 4);
+            return;
+        }
+    }
+    panic!(rt; "no run met no refusal")
+}
+
+#[test]
+fn each_growth_of_posting_is_refused(rt: HostRuntime) {
+    let alloc = heap(&rt, rt.alloc());
+    each_growth_refused(&rt, alloc, 1);
+    each_growth_refused(&rt, alloc, 4);
+}
