@@ -4,14 +4,33 @@ use bw_batch::{Index, Key, Op, OpenGate, Reply, Value};
 use bw_memory::Alloc;
 use std::process::Abort;
 
-// A batch of so many upserts, of this key or each of its own, whose values are their places.
+// A key for each number.
+fn key<R: Abort>(rt: &R, make: &Maker<R>, number: u32) -> Key {
+    Key::new(make.alloc, &number.to_be_bytes()).expect(rt, "a key")
+}
+
+// An upsert whose value is its place.
+fn upsert<R: Abort>(rt: &R, make: &Maker<R>, number: u32, place: u32) -> Op {
+    let value = Value::new(make.alloc, &place.to_be_bytes()).expect(rt, "a value");
+    Op::Upsert(key(rt, make, number), value)
+}
+
+// A scan for the pair at a key.
+fn scan<R: Abort>(rt: &R, make: &Maker<R>, number: u32) -> Op {
+    Op::Scan {
+        from: key(rt, make, number),
+        to: None,
+        most: 1,
+    }
+}
+
+// A batch of so many upserts, of one key or each of its own, whose values are their places.
 fn upserts<R: Abort>(rt: &R, make: &Maker<R>, count: u32, is_one_key: bool) -> Vec<Op, Alloc> {
     let mut ops = Vec::new(make.alloc);
     for place in 0..count {
         let scattered = if is_one_key { 0 } else { place.reverse_bits() };
-        let key = Key::new(make.alloc, &scattered.to_be_bytes()).expect(rt, "a key");
-        let value = Value::new(make.alloc, &place.to_be_bytes()).expect(rt, "a value");
-        ops.push(Op::Upsert(key, value)).expect(rt, "memory");
+        ops.push(upsert(rt, make, scattered, place))
+            .expect(rt, "memory");
     }
     ops
 }
@@ -68,17 +87,11 @@ fn each_of_65536_keys_is_written(rt: HostRuntime) {
 // So many upserts, each of a key of its own with its place as its value, and behind each a scan of its key.
 fn upserts_and_scans<R: Abort>(rt: &R, make: &Maker<R>, count: u32) -> Vec<Op, Alloc> {
     let mut ops = Vec::new(make.alloc);
-    for op in upserts(rt, make, count, false) {
-        let scan = match &op {
-            Op::Upsert(key, _) => Op::Scan {
-                from: key.copy().expect(rt, "memory"),
-                to: None,
-                most: 1,
-            },
-            _ => panic!(rt; "an upsert"),
-        };
-        ops.push(op).expect(rt, "memory");
-        ops.push(scan).expect(rt, "memory");
+    for place in 0..count {
+        let scattered = place.reverse_bits();
+        ops.push(upsert(rt, make, scattered, place))
+            .expect(rt, "memory");
+        ops.push(scan(rt, make, scattered)).expect(rt, "memory");
     }
     ops
 }

@@ -3,7 +3,7 @@ ghost use Rattle.std.specs.Prelude.{◌≡◌, ◌<◌, ◌≤◌, [], ◌∷◌
 ghost use Rattle.bw_model.specs.Contents.{is_below_end};
 ghost use Rattle.bw_tree.specs.Making.{AreAbutting};
 
-use super::making::{LONG, Maker, WORKERS, same};
+use super::making::{LONG, Maker, WORKERS, put, same};
 use super::randomly::Random;
 use bw_batch::{Index, Key, Leaf, Op, OpenGate, Options, PageId, Pairs, Tree, Value};
 use bw_memory::Alloc;
@@ -35,6 +35,7 @@ fn leaf_of<R: Abort>(
     ensures side { result.side ≡ side }
 {
     let first = low.copy().expect(rt, "a key");
+    assert!(rt; first >= low);
     let pairs = one(rt, make, (first, make.value("1")));
     Leaf::from_pairs(low, high, side, pairs)
 }
@@ -80,14 +81,14 @@ pub fn tree_of<R: Abort>(rt: &R, make: &Maker<R>, count: u32, step: u8) -> Tree
 }
 
 // The plain program's map of the pairs of such a tree.
-fn map_of<R: Abort>(rt: &R, make: &Maker<R>, count: u32, step: u8) -> ReferenceMap {
+fn map_of<R: Abort>(rt: &R, make: &Maker<R>, count: u32, step: u8) -> ReferenceMap
+    requires few { count ≤ 256 }
+{
     let mut map = ReferenceMap::new(make.alloc);
-    let first = Op::Upsert(key(rt, make, &[]), make.value("1"));
-    map.apply(&first).expect(rt, "memory");
+    put(rt, &mut map, key(rt, make, &[]), make.value("1"));
     for place in 1..count {
         let low = key(rt, make, &[(place as u8).wrapping_mul(step)]);
-        let op = Op::Upsert(low, make.value("1"));
-        map.apply(&op).expect(rt, "memory");
+        put(rt, &mut map, low, make.value("1"));
     }
     map
 }
@@ -223,7 +224,7 @@ fn long_batches_are_answered_alike_by_any_number_of_workers(rt: HostRuntime) {
     for workers in WORKERS {
         for piece in [1u64, 64, 4096] {
             let both = over_leaves(&rt, &make, 64, 4, make.working(workers, piece));
-            compare(&rt, &make, workers + piece, both, 3, 1000);
+            compare(&rt, &make, workers + piece, both, 2, 1000);
         }
     }
 }

@@ -1,6 +1,7 @@
 // Operations, replies and indexes from text.
 use bw_batch::{Index, Key, Op, Options, Pairs, Reply, Value};
 use bw_memory::{Alloc, Heap};
+use bw_model::ReferenceMap;
 use std::alloc::Global;
 use std::process::Abort;
 
@@ -19,6 +20,17 @@ pub fn same<R: Abort>(rt: &R, left: &[Reply], right: &[Reply]) {
     for (left, right) in left.iter().zip(right) {
         assert!(rt; *left == *right);
     }
+}
+
+// Applies an operation to the plain program's map.
+fn apply<R: Abort>(rt: &R, map: &mut ReferenceMap, op: &Op) {
+    map.apply(op).expect(rt, "memory");
+}
+
+/// Puts a value at a key of the plain program's map.
+pub fn put<R: Abort>(rt: &R, map: &mut ReferenceMap, key: Key, value: Value) {
+    let op = Op::Upsert(key, value);
+    apply(rt, map, &op);
 }
 
 /// Makes them on one heap, and ends the test where there is no memory.

@@ -1,15 +1,9 @@
 // Batches that are refused for their length.
 use super::making::{Maker, same};
 use super::tracing::compare_done;
-use bw_batch::{Done, Op, OpenGate, Refusal, Reply};
+use bw_batch::{Op, OpenGate, Refusal, Reply};
+use bw_memory::Alloc;
 use std::process::Abort;
-
-fn refusal_of(outcome: &Result<Done, Refusal>) -> Option<Refusal> {
-    match outcome {
-        Ok(_) => None,
-        Err(refusal) => Some(*refusal),
-    }
-}
 
 // A batch of four operations that would change what stands there.
 fn four<R: Abort>(make: &Maker<R>) -> [Op; 4] {
@@ -53,17 +47,22 @@ fn a_batch_that_is_too_long_changes_nothing(rt: HostRuntime) {
     assert!(rt; index.contents().expect(&rt, "memory") == after);
 }
 
+// A batch that puts a value, and of the value 2 one with a delete behind the put.
+fn put<R: Abort>(rt: &R, make: &Maker<R>, value: &str) -> Vec<Op, Alloc> {
+    let mut ops = Vec::new(make.alloc);
+    ops.push(make.upsert("a", value)).expect(rt, "memory");
+    if value == "2" {
+        ops.push(make.delete("a")).expect(rt, "memory");
+    }
+    ops
+}
+
 #[test]
 fn batches_go_on_after_one_that_is_too_long(rt: HostRuntime) {
     let make = Maker::new(&rt, rt.alloc());
     let mut batches = Vec::new(make.alloc);
     for value in ["1", "2", "3"] {
-        let mut ops = Vec::new(make.alloc);
-        ops.push(make.upsert("a", value)).expect(&rt, "memory");
-        if value == "2" {
-            ops.push(make.delete("a")).expect(&rt, "memory");
-        }
-        batches.push(ops).expect(&rt, "memory");
+        batches.push(put(&rt, &make, value)).expect(&rt, "memory");
     }
     let mut index = make.index(1);
     let outcomes = index
@@ -72,7 +71,7 @@ fn batches_go_on_after_one_that_is_too_long(rt: HostRuntime) {
     assert_eq!(rt; outcomes.len(), 3);
     compare_done(&rt, &outcomes[0], &[Reply::New]);
     let expected = Refusal::TooLong { ops: 2, most: 1 };
-    assert!(rt; refusal_of(&outcomes[1]) == Some(expected));
+    assert!(rt; outcomes[1].as_ref().err() == Some(&expected));
     compare_done(&rt, &outcomes[2], &[make.was("1")]);
     let after = make.pairs(&[("a", "3")]);
     assert!(rt; index.contents().expect(&rt, "memory") == after);

@@ -1,6 +1,6 @@
 // Each growth of memory refused in turn.
 use super::leaves::tree_of;
-use super::making::{LONG, Maker, Pair, same};
+use super::making::{LONG, Maker, Pair, put, same};
 use bw_batch::{Done, Index, Memory, Op, OpenGate, Pairs, Refusal, Reply};
 use bw_memory::Alloc;
 use bw_model::ReferenceMap;
@@ -54,16 +54,21 @@ fn batch<R: Abort>(rt: &R, make: &Maker<R>) -> Vec<Op, Alloc> {
     ops
 }
 
+// A batch that puts a value at a key which may have another.
+fn swaps<R: Abort>(rt: &R, make: &Maker<R>, value: &str) -> Vec<Op, Alloc> {
+    let mut ops = Vec::new(make.alloc);
+    ops.push(make.upsert("c", LONG)).expect(rt, "memory");
+    ops.push(make.swap_if(LONG, LONG, value))
+        .expect(rt, "memory");
+    ops.push(make.delete("a")).expect(rt, "memory");
+    ops.push(make.rscan("", None, 9)).expect(rt, "memory");
+    ops
+}
+
 fn batches<R: Abort>(rt: &R, make: &Maker<R>) -> Vec<Vec<Op, Alloc>, Alloc> {
     let mut batches = Vec::new(make.alloc);
     for value in ["2", "3"] {
-        let mut ops = Vec::new(make.alloc);
-        ops.push(make.upsert("c", LONG)).expect(rt, "memory");
-        ops.push(make.swap_if(LONG, LONG, value))
-            .expect(rt, "memory");
-        ops.push(make.delete("a")).expect(rt, "memory");
-        ops.push(make.rscan("", None, 9)).expect(rt, "memory");
-        batches.push(ops).expect(rt, "memory");
+        batches.push(swaps(rt, make, value)).expect(rt, "memory");
     }
     batches
 }
@@ -182,6 +187,23 @@ fn a_batch_over_leaves_meets_each_refusal(rt: HostRuntime) {
     refuse_in_turn_over_leaves(&rt, &make, 4);
 }
 
+// Has the plain program run a batch that was accepted, and compares the replies. Whether it was.
+fn was_accepted<R: Abort>(
+    rt: &R,
+    map: &mut ReferenceMap,
+    ops: &[Op],
+    outcome: &Result<Done, Refusal>,
+) -> bool {
+    match outcome {
+        Ok(done) => {
+            let replies = map.run(ops).expect(rt, "memory");
+            same(rt, done.replies.as_slice(), replies.as_slice());
+        }
+        Err(refusal) => assert!(rt; *refusal == Refusal::Memory),
+    }
+    outcome.is_ok()
+}
+
 // Compares the replies and the pairs in the end with those of the plain program, which runs the accepted batches.
 // Answers how many were refused.
 fn follow<R: Abort>(
@@ -193,20 +215,13 @@ fn follow<R: Abort>(
 ) -> u64 {
     let mut map = ReferenceMap::new(make.alloc);
     for (key, value) in BEFORE {
-        map.apply(&make.upsert(key, value)).expect(rt, "memory");
+        put(rt, &mut map, make.key(key), make.value(value));
     }
     let mut refused = 0u64;
     assert_eq!(rt; outcomes.len(), batches.len());
     for (ops, outcome) in batches.iter().zip(outcomes) {
-        match outcome {
-            Ok(done) => {
-                let replies = map.run(ops).expect(rt, "memory");
-                same(rt, done.replies.as_slice(), replies.as_slice());
-            }
-            Err(refusal) => {
-                assert!(rt; *refusal == Refusal::Memory);
-                refused = refused.saturating_add(1);
-            }
+        if !was_accepted(rt, &mut map, ops, outcome) {
+            refused = refused.saturating_add(1);
         }
     }
     assert!(rt; map.entries().expect(rt, "memory") == *after);

@@ -111,13 +111,11 @@ fn a_batch_is_staged_until_it_is_undone(rt: HostRuntime) {
     assert!(rt; tree.staged().is_none());
 }
 
-// Compares a staged write, by its place. One that isn't staged is a fault.
-fn has_staged<R: Abort>(rt: &R, tree: &Tree, place: u64, wanted: &Write) {
+// A staged write, by its place. One that isn't staged is a fault.
+fn staged_write<'a, R: Abort>(rt: &R, tree: &'a Tree, place: u64) -> &'a Write {
     let staged = tree.staged().expect(rt, "a batch");
-    if place >= staged.records {
-        panic!(rt; "{place} is past the staged writes");
-    }
-    assert!(rt; *tree.staged_write(place) == *wanted);
+    assert!(rt; place < staged.records);
+    tree.staged_write(place)
 }
 
 #[test]
@@ -135,13 +133,13 @@ fn each_staged_write_has_the_stamp_of_its_operation(rt: HostRuntime) {
         key: key(&rt, alloc, b"c"),
         action: Action::Upsert(value(&rt, alloc, b"9")),
     };
-    has_staged(&rt, &tree, 0, &upsert);
+    assert!(rt; *staged_write(&rt, &tree, 0) == upsert);
     let delete = Write {
         stamp: 2,
         key: key(&rt, alloc, b"e"),
         action: Action::Delete,
     };
-    has_staged(&rt, &tree, 1, &delete);
+    assert!(rt; *staged_write(&rt, &tree, 1) == delete);
 }
 
 #[test]
