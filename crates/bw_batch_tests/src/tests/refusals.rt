@@ -48,7 +48,7 @@ fn a_batch_that_is_too_long_changes_nothing(rt: HostRuntime) {
 }
 
 // A batch that puts a value, and of the value 2 one with a delete behind the put.
-fn put<R: Abort>(rt: &R, make: &Maker<R>, value: &str) -> Vec<Op, Alloc> {
+fn batch_of<R: Abort>(rt: &R, make: &Maker<R>, value: &str) -> Vec<Op, Alloc> {
     let mut ops = Vec::new(make.alloc);
     ops.push(make.upsert("a", value)).expect(rt, "memory");
     if value == "2" {
@@ -62,7 +62,9 @@ fn batches_go_on_after_one_that_is_too_long(rt: HostRuntime) {
     let make = Maker::new(&rt, rt.alloc());
     let mut batches = Vec::new(make.alloc);
     for value in ["1", "2", "3"] {
-        batches.push(put(&rt, &make, value)).expect(&rt, "memory");
+        batches
+            .push(batch_of(&rt, &make, value))
+            .expect(&rt, "memory");
     }
     let mut index = make.index(1);
     let outcomes = index

@@ -1,15 +1,12 @@
 // Trees whose writes are folded.
 ghost use Rattle.std.specs.Prelude.{◌≡◌, None};
 
-use super::making::{batch, heap, holds, key, post, stands, three, upsert};
+use super::making::{FLOOR, batch, heap, holds, key, post, stands, three, upsert};
 use bw_memory::Alloc;
 use bw_page::PageId;
 use bw_post::Tree;
 use std::process::Abort;
 use std::thread::Threads;
-
-// The word of the first record.
-const FLOOR: u64 = 4294967296;
 
 // What the batch leaves of the three leaves.
 const AFTER: [(&[u8], &[u8]); 3] = [(b"a", b"1"), (b"b", b"2"), (b"c", b"9")];

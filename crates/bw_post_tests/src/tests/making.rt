@@ -13,6 +13,9 @@ use std::alloc::Global;
 use std::process::Abort;
 use std::thread::Threads;
 
+/// The word of the first record.
+pub const FLOOR: u64 = 4294967296;
+
 /// A heap of its own, which is never freed.
 pub fn heap<R: Abort>(rt: &R, global: Global) -> Alloc {
     Heap::counted(global).leak(global).expect(rt, "a heap")

@@ -4,7 +4,7 @@ ghost use Rattle.std.specs.List.{Contains};
 ghost use Rattle.bw_tree.specs.Levels.{row};
 ghost use Rattle.bw_tree.specs.Stages.{is_adopted};
 
-use super::making::{batch, has, heap, holds, key, post, stands, three, upsert, value};
+use super::making::{FLOOR, batch, has, heap, holds, key, post, stands, three, upsert, value};
 use bw_answer::Grouping;
 use bw_key::Memory;
 use bw_memory::Alloc;
@@ -13,9 +13,6 @@ use bw_post::{OpenGate, Tree, post_all};
 use bw_tree::Scans;
 use std::process::Abort;
 use std::thread::Threads;
-
-// The word of the first record.
-const FLOOR: u64 = 4294967296;
 
 // The tree over three leaves with the batch staged, posted and adopted.
 fn adopted<R: Abort + Threads + Sync>(rt: &R, alloc: Alloc) -> Tree

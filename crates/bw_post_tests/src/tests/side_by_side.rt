@@ -1,7 +1,7 @@
 // Posting by many workers.
 ghost use Rattle.std.specs.Prelude.{◌<◌, ◌≤◌};
 
-use super::making::{has, heap, key, upsert};
+use super::making::{FLOOR, has, heap, key, upsert};
 use bw_answer::Grouping;
 use bw_memory::Alloc;
 use bw_model::Op;
@@ -9,9 +9,6 @@ use bw_post::{Gate, OpenGate, Posting, Tree, post_all};
 use std::process::Abort;
 use std::sync::atomic::{AtomicU64, Ordering};
 use std::thread::Threads;
-
-// The word of the first record.
-const FLOOR: u64 = 4294967296;
 
 // More turns than a thread takes to start.
 const TURNS: u64 = 200000000;

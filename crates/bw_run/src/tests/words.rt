@@ -2,7 +2,6 @@
 use super::ports::Runner;
 use crate::asking::arguments;
 use crate::messages::{no_memory, no_words};
-use std::alloc::Global;
 use std::env::{Env, FillError};
 use std::io::ErrorKind;
 
