@@ -3,7 +3,7 @@ ghost use Rattle.std.specs.Prelude.{◌≡◌, IfOk, OnOk, OnErr};
 ghost use Rattle.std.specs.Option.{option_copied};
 ghost use Rattle.std.specs.FinMap as map;
 ghost use Rattle.bw_model.specs.Contents.{set_at, first_of_range, last_of_range};
-ghost use Rattle.bw_model.specs.Model.{answer_at, written_at, reply_of, after, replies_of, contents_after};
+ghost use Rattle.bw_model.specs.Model.{answer_at, written_at, found, reply_of, after, replies_of, contents_after};
 
 use crate::lists::{Pairs, Replies};
 use crate::operations::{Action, Op, Reply};
@@ -116,6 +116,25 @@ impl ReferenceMap {
         Ok(reply)
     }
 
+    // Answers a write that was made for it.
+    fn write_made(&mut self, key: &Key, action: Action) -> Result<Reply, Memory>
+        ensures reply { IfOk result (λ reply. reply ≡ answer_at self.old key.now action) }
+        ensures ok { OnOk result (self.new ≡ written_at self.old key.now action) }
+        ensures err { OnErr result (self.new ≡ self.old) }
+    {
+        self.write(key, &action)
+    }
+
+    // Answers a get.
+    fn read(&self, key: &Key) -> Result<Reply, Memory>
+        ensures { IfOk result (λ reply. reply ≡ found (map.get self.now key.now)) }
+    {
+        match self.get(key) {
+            Some(value) => Ok(Reply::Found(value.copy()?)),
+            None => Ok(Reply::Absent),
+        }
+    }
+
     /// Answers an operation. After `Memory` nothing is changed.
     pub fn apply(&mut self, op: &Op) -> Result<Reply, Memory>
         ensures reply { IfOk result (λ reply. reply ≡ reply_of op.now self.old) }
@@ -123,15 +142,14 @@ impl ReferenceMap {
         ensures err { OnErr result (self.new ≡ self.old) }
     {
         match op {
-            Op::Get(key) => Ok(match self.get(key) {
-                Some(value) => Reply::Found(value.copy()?),
-                None => Reply::Absent,
-            }),
-            Op::Insert(key, value) => self.write(key, &Action::Insert(value.copy()?)),
-            Op::Upsert(key, value) => self.write(key, &Action::Upsert(value.copy()?)),
-            Op::Update(key, value) => self.write(key, &Action::Update(value.copy()?)),
-            Op::Delete(key) => self.write(key, &Action::Delete),
-            Op::SwapIf(key, old, new) => self.write(key, &Action::SwapIf(old.copy()?, new.copy()?)),
+            Op::Get(key) => self.read(key),
+            Op::Insert(key, value) => self.write_made(key, Action::Insert(value.copy()?)),
+            Op::Upsert(key, value) => self.write_made(key, Action::Upsert(value.copy()?)),
+            Op::Update(key, value) => self.write_made(key, Action::Update(value.copy()?)),
+            Op::Delete(key) => self.write_made(key, Action::Delete),
+            Op::SwapIf(key, old, new) => {
+                self.write_made(key, Action::SwapIf(old.copy()?, new.copy()?))
+            }
             Op::Scan { from, to, most } => Ok(Reply::Pairs(self.scan(from, to.as_ref(), *most)?)),
             Op::Rscan { from, to, most } => Ok(Reply::Pairs(self.rscan(from, to.as_ref(), *most)?)),
         }

@@ -81,13 +81,21 @@ fn append_op(arena: &mut Arena, op: &Op, stamp: u64) -> Result<(), Memory>
     ensures few { length arena.new.records ≤ 2 ^ 32 }
 {
     if let Some(write) = Write::from_op(op, stamp)? {
-        if arena.len() as u64 >= FLOOR {
-            return Err(Memory);
-        }
-        arena.reserve(1)?;
+        make_room(arena)?;
         arena.append(Delta::Put(write), 0);
     }
     Ok(())
+}
+
+// Makes room for one more record, where there may be one.
+fn make_room(arena: &mut Arena) -> Result<(), Memory>
+    ensures records { arena.new.records ≡ arena.old.records }
+    ensures ok { OnOk result ((0 < arena.new.room) × (length arena.new.records < 2 ^ 32)) }
+{
+    if arena.len() as u64 >= FLOOR {
+        return Err(Memory);
+    }
+    arena.reserve(1)
 }
 
 // How many of the operations write.

@@ -1,5 +1,5 @@
 // Folding the writes of the chains into base pages.
-ghost use Rattle.std.specs.Prelude.{◌≡◌, ◌-◌, ◌^◌, length, min, is_some, None, IfOk, OnOk, OnErr};
+ghost use Rattle.std.specs.Prelude.{◌≡◌, ◌-◌, ◌^◌, [], length, min, is_some, None, IfOk, OnOk, OnErr};
 ghost use Rattle.std.specs.List.{Contains};
 ghost use Rattle.std.specs.Option.{option_copied};
 ghost use Rattle.std.specs.FinMap.{entries};
@@ -12,7 +12,7 @@ use bw_page::{Leaf, PageId};
 
 impl Tree {
     ghost use Rattle.bw_tree.specs.Folding.{IsFolded, folded_from, folded_leaf};
-    ghost use Rattle.bw_tree.specs.Levels.{row};
+    ghost use Rattle.bw_tree.specs.Levels.{IsHome, row};
     ghost use Rattle.bw_tree.specs.Slots.{side_of};
     ghost use Rattle.bw_tree.specs.View.{contents_at};
 
@@ -42,8 +42,7 @@ impl Tree {
     {
         let alloc = *self.heads.allocator();
         let mut leaves = Vec::new(alloc);
-        let least = Key::new(alloc, &[]).unwrap();
-        let mut page = self.route(&least);
+        let mut page = self.first_leaf();
         loop {
             let Some(next) = self.leaf_after(page, None) else {
                 leaves.push(self.folded_leaf(page, None)?)?;
@@ -53,6 +52,14 @@ impl Tree {
             leaves.push(self.folded_leaf(page, Some(side))?)?;
             page = next;
         }
+    }
+
+    // The leaf that has the least key.
+    fn first_leaf(&self) -> PageId
+        ensures { IsHome self.now.slots self.now.levels [] result }
+    {
+        let least = Key::new(*self.heads.allocator(), &[]).unwrap();
+        self.route(&least)
     }
 
     // A leaf's range with what the leaf holds as of the next stamp, and this right neighbour.

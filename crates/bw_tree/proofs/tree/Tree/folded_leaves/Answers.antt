@@ -1,9 +1,7 @@
-use Rattle.std.proofs.Common.{◌≡◌, ◌∙◌, ◌+◌, [], Some, is_some, length, ap, sym, subst, arith, rules}
+use Rattle.std.proofs.Common.{◌≡◌, ◌∙◌, ◌+◌, Some, is_some, length, ap, sym, arith}
 use Rattle.std.proofs.lemmas.List.{length-map}
-use Rattle.bw_key.specs.Order.{KeyBytes}
 use Rattle.bw_tree.specs.Chains.{slot_of_word}
 use Rattle.bw_tree.specs.Folding.{folded_leaf}
-use Rattle.bw_tree.specs.Levels.{IsHome}
 use Rattle.bw_tree.specs.View.{TreeView}
 use Rattle.bw_tree.proofs.LeafScanLemmas.{lawful_here}
 use Rattle.bw_tree.proofs.FoldLemmas.{all_folded, begins_folding, ends_alone, folding_has, folds_on, leaves_fit, next_place}
@@ -11,9 +9,8 @@ use Rattle.bw_tree.proofs.tree.Tree.folded_leaves.Goals as goal
 
 pub loop-next-init : goal.loop-next-init
 loop-next-init c =
-    let least : c.unwrap-least.result ≡ [] = search rules in
     begins_folding c.args.self.now c.self.inside.root (lawful_here c.self.inside.heads.items c.self.inside.chains.bases c.self.inside.chains.records c.self.inside.root c.self.inside.next _ c.self.inside.staged _ c.self.view_is c.self.invariant.now)
-    c.new-leaves.result.items c.route-page.result c.new-leaves.ensures.items (subst (λ (k : KeyBytes). IsHome c.args.self.now.slots c.args.self.now.levels k c.route-page.result) least c.route-page.ensures.home)
+    c.new-leaves.result.items c.first_leaf-page.result c.new-leaves.ensures.items c.first_leaf-page.ensures
 
 pub folded_leaf-requires-clause-linked : goal.folded_leaf-requires-clause-linked
 folded_leaf-requires-clause-linked c =
