@@ -35,11 +35,11 @@ fn a_value_is_48_bytes_and_a_short_one_takes_no_others(rt: HostRuntime) {
     make.alloc.refuse(1);
     let short = Value::new(make.alloc, &bytes[..24]).expect(&rt, "a value of 24 bytes");
     let copy = short.copy().expect(&rt, "a copy of 24 bytes");
-    assert_eq!(rt; make.alloc.left(), 1);
+    assert!(rt; make.alloc.left() == 1);
     assert!(rt; copy == short);
 
     assert!(rt; Value::new(make.alloc, &bytes) == Err(ValueFault::Memory));
-    assert_eq!(rt; make.alloc.left(), 0);
+    assert!(rt; make.alloc.left() == 0);
 
     let long = Value::new(make.alloc, &bytes).expect(&rt, "a value of 25 bytes");
     make.alloc.refuse(1);
@@ -53,7 +53,7 @@ fn a_length_is_judged_before_memory(rt: HostRuntime) {
     make.alloc.refuse(1);
     let too_long = Value::new(make.alloc, &[0; 2000]);
     assert!(rt; too_long == Err(ValueFault::TooLong(2000)));
-    assert_eq!(rt; make.alloc.left(), 1);
+    assert!(rt; make.alloc.left() == 1);
 }
 
 #[test]
