@@ -72,8 +72,41 @@ fn refusals<R: Abort>(rt: &R, make: &Maker<R>, work: &Work) -> u64 {
     panic!(rt; "no run met no refusal")
 }
 
+// Work that takes memory.
+fn is_refused<R: Abort>(rt: &R, make: &Maker<R>, work: Work) {
+    assert!(rt; refusals(rt, make, &work) > 0);
+}
+
+// An operation that takes memory.
+fn is_op_refused<R: Abort>(rt: &R, make: &Maker<R>, op: Op) {
+    is_refused(rt, make, Work::Apply(op));
+}
+
 #[test]
 fn each_piece_of_work_meets_each_refusal(rt: HostRuntime) {
+    let make = Maker::new(&rt, rt.alloc());
+    is_refused(&rt, &make, Work::Copy);
+    is_refused(&rt, &make, Work::Entries);
+    let action = Action::Upsert(make.value(LONG));
+    is_refused(&rt, &make, Work::Write(make.key(LONG), action));
+    is_refused(&rt, &make, Work::Run(Vec::new(make.alloc)));
+}
+
+#[test]
+fn each_operation_meets_each_refusal(rt: HostRuntime) {
+    let make = Maker::new(&rt, rt.alloc());
+    is_op_refused(&rt, &make, make.get(LONG));
+    is_op_refused(&rt, &make, make.insert(LONG, "2"));
+    is_op_refused(&rt, &make, make.upsert(LONG, "2"));
+    is_op_refused(&rt, &make, make.update(LONG, "2"));
+    is_op_refused(&rt, &make, make.delete(LONG));
+    is_op_refused(&rt, &make, make.swap_if(LONG, LONG, "2"));
+    is_op_refused(&rt, &make, make.scan("", None, 9));
+    is_op_refused(&rt, &make, make.rscan("", None, 9));
+}
+
+#[test]
+fn a_batch_meets_each_refusal(rt: HostRuntime) {
     let make = Maker::new(&rt, rt.alloc());
     let batch = vec![in make.alloc;
         make.upsert("c", LONG),
@@ -81,23 +114,12 @@ fn each_piece_of_work_meets_each_refusal(rt: HostRuntime) {
         make.scan("", None, 9),
         make.swap_if(LONG, LONG, "2"),
     ];
-    let works = [
-        Work::Copy,
-        Work::Entries,
-        Work::Write(make.key(LONG), Action::Upsert(make.value(LONG))),
-        Work::Apply(make.get(LONG)),
-        Work::Apply(make.insert(LONG, "2")),
-        Work::Apply(make.upsert(LONG, "2")),
-        Work::Apply(make.update(LONG, "2")),
-        Work::Apply(make.delete(LONG)),
-        Work::Apply(make.swap_if(LONG, LONG, "2")),
-        Work::Apply(make.scan("", None, 9)),
-        Work::Apply(make.rscan("", None, 9)),
-        Work::Run(batch.expect(&rt, "memory")),
-        Work::Run(Vec::new(make.alloc)),
-    ];
-    for work in &works {
-        assert!(rt; refusals(&rt, &make, work) > 0);
-    }
-    assert!(rt; refusals(&rt, &make, &Work::Apply(make.get("a"))) == 0);
+    is_refused(&rt, &make, Work::Run(batch.expect(&rt, "memory")));
+}
+
+#[test]
+fn a_get_of_a_short_value_takes_no_memory(rt: HostRuntime) {
+    let make = Maker::new(&rt, rt.alloc());
+    let work = Work::Apply(make.get("a"));
+    assert!(rt; refusals(&rt, &make, &work) == 0);
 }

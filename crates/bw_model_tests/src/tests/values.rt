@@ -27,24 +27,36 @@ fn values_are_equal_where_their_bytes_are(rt: HostRuntime) {
 }
 
 #[test]
-fn a_value_is_48_bytes_and_a_short_one_takes_no_others(rt: HostRuntime) {
+fn a_value_is_48_bytes(rt: HostRuntime) {
     assert!(rt; size_of::<Value>() == 48);
+}
 
+#[test]
+fn a_value_of_24_bytes_takes_no_others(rt: HostRuntime) {
     let make = Maker::new(&rt, rt.alloc());
-    let bytes = [b'v'; 25];
     make.alloc.refuse(1);
-    let short = Value::new(make.alloc, &bytes[..24]).expect(&rt, "a value of 24 bytes");
-    let copy = short.copy().expect(&rt, "a copy of 24 bytes");
+    let short = Value::new(make.alloc, &[b'v'; 24]).expect(&rt, "a value");
+    let copy = short.copy().expect(&rt, "a copy");
     assert!(rt; make.alloc.left() == 1);
     assert!(rt; copy == short);
+}
 
-    assert!(rt; Value::new(make.alloc, &bytes) == Err(ValueFault::Memory));
-    assert!(rt; make.alloc.left() == 0);
-
-    let long = Value::new(make.alloc, &bytes).expect(&rt, "a value of 25 bytes");
+#[test]
+fn a_longer_value_is_refused_for_want_of_memory(rt: HostRuntime) {
+    let make = Maker::new(&rt, rt.alloc());
     make.alloc.refuse(1);
-    assert!(rt; long.copy() == Err(Memory));
-    assert!(rt; long.copy().expect(&rt, "a copy of 25 bytes") == long);
+    let refused = Value::new(make.alloc, &[b'v'; 25]);
+    assert!(rt; refused == Err(ValueFault::Memory));
+    assert!(rt; make.alloc.left() == 0);
+}
+
+#[test]
+fn a_copy_of_a_longer_value_is_refused_for_want_of_memory(rt: HostRuntime) {
+    let make = Maker::new(&rt, rt.alloc());
+    let long = Value::new(make.alloc, &[b'v'; 25]).expect(&rt, "a value");
+    make.alloc.refuse(1);
+    assert!(rt; long.copy().is_err());
+    assert!(rt; long.copy().expect(&rt, "a copy") == long);
 }
 
 #[test]
