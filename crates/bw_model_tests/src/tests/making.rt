@@ -13,7 +13,7 @@ pub type Pair = (&'static str, &'static str);
 
 /// Compares replies.
 pub fn same<R: Abort>(rt: &R, left: &[Reply], right: &[Reply]) {
-    assert!(rt; left.len() == right.len());
+    assert_eq!(rt; left.len(), right.len());
     for (left, right) in left.iter().zip(right) {
         assert!(rt; left == right);
     }

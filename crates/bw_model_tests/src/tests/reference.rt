@@ -51,7 +51,7 @@ fn a_new_map_is_empty(rt: HostRuntime) {
     make.alloc.refuse(1);
     let map = ReferenceMap::new(make.alloc);
     assert!(rt; map.get(&make.key("")).is_none());
-    assert!(rt; make.alloc.left() == 1);
+    assert_eq!(rt; make.alloc.left(), 1);
     make.alloc.refuse(0);
     assert!(rt; map.entries().expect(&rt, "memory") == make.pairs(&[]));
 }
@@ -206,7 +206,7 @@ fn a_batch_runs_in_its_order(rt: HostRuntime) {
     let mut map = ReferenceMap::new(make.alloc);
     are_answered(&rt, &mut map, &ops, &replies);
     holds(&rt, &map, &make.pairs(&[("b", "2")]));
-    assert!(rt; map.run(&[]).expect(&rt, "memory").as_slice().len() == 0);
+    assert_eq!(rt; map.run(&[]).expect(&rt, "memory").as_slice().len(), 0);
     holds(&rt, &map, &make.pairs(&[("b", "2")]));
 }
 
@@ -234,7 +234,7 @@ fn lists_give_back_what_they_were_made_of(rt: HostRuntime) {
     assert!(rt; pairs != make.pairs(&[("a", "1"), ("b", "3")]));
     assert!(rt; pairs != make.pairs(&[("a", "1"), ("c", "2")]));
     assert!(rt; pairs != make.pairs(&[("a", "1")]));
-    assert!(rt; pairs.as_slice().len() == 2);
+    assert_eq!(rt; pairs.as_slice().len(), 2);
     assert!(rt; pairs.as_slice()[1].0 == make.key("b"));
     assert!(rt; pairs.as_slice()[1].1 == make.value("2"));
     let pairs = Pairs::from_vec(pairs.into_vec());

@@ -37,7 +37,7 @@ fn a_value_of_24_bytes_takes_no_others(rt: HostRuntime) {
     make.alloc.refuse(1);
     let short = Value::new(make.alloc, &[b'v'; 24]).expect(&rt, "a value");
     let copy = short.copy().expect(&rt, "a copy");
-    assert!(rt; make.alloc.left() == 1);
+    assert_eq!(rt; make.alloc.left(), 1);
     assert!(rt; copy == short);
 }
 
@@ -47,7 +47,7 @@ fn a_longer_value_is_refused_for_want_of_memory(rt: HostRuntime) {
     make.alloc.refuse(1);
     let refused = Value::new(make.alloc, &[b'v'; 25]);
     assert!(rt; refused == Err(ValueFault::Memory));
-    assert!(rt; make.alloc.left() == 0);
+    assert_eq!(rt; make.alloc.left(), 0);
 }
 
 #[test]
@@ -65,7 +65,7 @@ fn a_length_is_judged_before_memory(rt: HostRuntime) {
     make.alloc.refuse(1);
     let too_long = Value::new(make.alloc, &[0; 2000]);
     assert!(rt; too_long == Err(ValueFault::TooLong(2000)));
-    assert!(rt; make.alloc.left() == 1);
+    assert_eq!(rt; make.alloc.left(), 1);
 }
 
 #[test]
