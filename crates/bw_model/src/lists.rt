@@ -6,9 +6,16 @@ use bw_memory::Alloc;
 use std::marker::Model;
 
 /// Keys and their values, as a scan answers them. Contracts see them as a list.
-#[derive(Debug, Drop)]
+#[derive(Debug)]
 pub struct Pairs {
     items: Vec<(Key, Value), Alloc>,
+}
+
+// Not derived, as a value's isn't.
+impl Drop for Pairs {
+    fn drop(self) {
+        let Pairs { items: _items } = self;
+    }
 }
 
 impl Model for Pairs {
@@ -42,7 +49,8 @@ impl Pairs {
     pub fn into_vec(self) -> Vec<(Key, Value), Alloc>
         ensures { result.items ≡ self }
     {
-        self.items
+        let Pairs { items } = self;
+        items
     }
 }
 
@@ -65,9 +73,16 @@ impl Eq for Pairs {
 }
 
 /// The replies to a batch, in its order. Contracts see them as a list.
-#[derive(Debug, Drop)]
+#[derive(Debug)]
 pub struct Replies {
     items: Vec<Reply, Alloc>,
+}
+
+// Not derived, as a value's isn't.
+impl Drop for Replies {
+    fn drop(self) {
+        let Replies { items: _items } = self;
+    }
 }
 
 impl Model for Replies {
@@ -100,6 +115,7 @@ impl Replies {
     pub fn into_vec(self) -> Vec<Reply, Alloc>
         ensures { result.items ≡ self }
     {
-        self.items
+        let Replies { items } = self;
+        items
     }
 }

@@ -1,7 +1,8 @@
 // Some thousand operations drawn from a seed, compared with a table of optional values.
 ghost use Rattle.std.specs.Prelude.{◌<◌};
 
-use super::making::{LONG, Maker, Pair, same};
+use super::making::{LONG, Maker, Pair};
+use super::reference::{are_answered, holds};
 use bw_memory::Alloc;
 use bw_model::{Op, ReferenceMap, Reply};
 use std::process::Abort;
@@ -109,25 +110,36 @@ fn step<R: Abort>(rt: &R, make: &Maker<R>, table: &mut Table, random: &mut Rando
     }
 }
 
+// Runs a batch of drawn operations, and compares its replies and the pairs afterwards.
+fn run_batch<R: Abort>(
+    rt: &R,
+    make: &Maker<R>,
+    map: &mut ReferenceMap,
+    table: &mut Table,
+    random: &mut Random,
+) {
+    let mut ops = Vec::new(make.alloc);
+    let mut replies = Vec::new(make.alloc);
+    for _ in 0..random.below(17) {
+        let (op, reply) = step(rt, make, table, random);
+        ops.push(op).expect(rt, "memory");
+        replies.push(reply).expect(rt, "memory");
+    }
+    are_answered(rt, map, &ops, &replies);
+    holds(
+        rt,
+        map,
+        &make.pairs(&pairs_between(rt, make, table, (0, 6))),
+    );
+}
+
 #[test]
 fn batches_are_answered_as_by_a_table(rt: HostRuntime) {
     let make = Maker::new(&rt, rt.alloc());
     let mut random = Random { state: 20130408 };
     let mut table: Table = [None; 6];
     let mut map = ReferenceMap::new(make.alloc);
-    for batch in 0..400u64 {
-        let mut ops = Vec::new(make.alloc);
-        let mut replies = Vec::new(make.alloc);
-        for _ in 0..random.below(17) {
-            let (op, reply) = step(&rt, &make, &mut table, &mut random);
-            ops.push(op).expect(&rt, "memory");
-            replies.push(reply).expect(&rt, "memory");
-        }
-        let answered = map.run(&ops).expect(&rt, "memory");
-        same(&rt, answered.as_slice(), &replies);
-
-        let pairs = pairs_between(&rt, &make, &table, (0, 6));
-        let entries = map.entries().expect(&rt, "memory");
-        assert!(rt; entries == make.pairs(&pairs), "batch {batch}");
+    for _ in 0..400u64 {
+        run_batch(&rt, &make, &mut map, &mut table, &mut random);
     }
 }

@@ -10,8 +10,8 @@ fn run<R: Abort>(rt: &R, map: &mut ReferenceMap, op: &Op) {
     map.apply(op).expect(rt, "memory");
 }
 
-// A map of these pairs.
-fn map_of<R: Abort>(rt: &R, make: &Maker<R>, pairs: &[Pair]) -> ReferenceMap {
+/// A map of these pairs.
+pub fn map_of<R: Abort>(rt: &R, make: &Maker<R>, pairs: &[Pair]) -> ReferenceMap {
     let mut map = ReferenceMap::new(make.alloc);
     for (key, value) in pairs {
         run(rt, &mut map, &make.upsert(key, value));
@@ -25,8 +25,8 @@ fn answers<R: Abort>(rt: &R, map: &mut ReferenceMap, op: &Op, reply: &Reply) {
     assert!(rt; answer == *reply);
 }
 
-// Compares the pairs of a map.
-fn holds<R: Abort>(rt: &R, map: &ReferenceMap, pairs: &Pairs) {
+/// Compares the pairs of a map.
+pub fn holds<R: Abort>(rt: &R, map: &ReferenceMap, pairs: &Pairs) {
     let entries = map.entries().expect(rt, "memory");
     assert!(rt; entries == *pairs);
 }
@@ -174,8 +174,8 @@ fn a_range_has_its_lower_end_and_not_its_upper_one(rt: HostRuntime) {
     }
 }
 
-// Compares the replies to a batch.
-fn are_answered<R: Abort>(rt: &R, map: &mut ReferenceMap, ops: &[Op], replies: &[Reply]) {
+/// Compares the replies to a batch.
+pub fn are_answered<R: Abort>(rt: &R, map: &mut ReferenceMap, ops: &[Op], replies: &[Reply]) {
     let answered = map.run(ops).expect(rt, "memory");
     same(rt, answered.as_slice(), replies);
 }

@@ -1,5 +1,6 @@
 // Each growth of memory refused in turn.
 use super::making::{LONG, Maker, Pair};
+use super::reference::{holds, map_of};
 use bw_key::Key;
 use bw_memory::Alloc;
 use bw_model::{Action, Op, ReferenceMap};
@@ -49,32 +50,35 @@ fn lacks_memory(map: &mut ReferenceMap, work: &Work) -> bool {
     }
 }
 
-// Does the work with growth 1 refused, then with growth 2, until it meets no refusal, each time over a fresh map.
-// Answers how many were refused. After each refusal the map is as before.
-fn refusals<R: Abort>(rt: &R, make: &Maker<R>, work: &Work) -> u64 {
-    for growth in 1..1000 {
-        let mut map = ReferenceMap::new(make.alloc);
-        for (key, value) in BEFORE {
-            map.apply(&make.upsert(key, value)).expect(rt, "memory");
-        }
-        make.alloc.refuse(growth);
-        let lacked = lacks_memory(&mut map, work);
-        let was_refused = make.alloc.left() == 0 || make.alloc.left() > growth;
-        make.alloc.refuse(0);
+// Does the work over a fresh map with this growth refused, and answers whether it met that refusal. If it did, the map
+// is as before.
+fn meets_refusal<R: Abort>(rt: &R, make: &Maker<R>, work: &Work, growth: u64) -> bool {
+    let mut map = map_of(rt, make, BEFORE);
+    make.alloc.refuse(growth);
+    let lacked = lacks_memory(&mut map, work);
+    let was_refused = make.alloc.left() == 0 || make.alloc.left() > growth;
+    make.alloc.refuse(0);
 
-        assert!(rt; lacked == was_refused);
-        if !was_refused {
+    assert!(rt; lacked == was_refused);
+    if was_refused {
+        holds(rt, &map, &make.pairs(BEFORE));
+    }
+    was_refused
+}
+
+// Does the work with growth 1 refused, then with growth 2, until it meets no refusal. Answers how many were refused.
+fn refusals<R: Abort>(rt: &R, make: &Maker<R>, work: Work) -> u64 {
+    for growth in 1..1000 {
+        if !meets_refusal(rt, make, &work, growth) {
             return growth - 1;
         }
-        let pairs = map.entries().expect(rt, "memory");
-        assert!(rt; pairs == make.pairs(BEFORE));
     }
     panic!(rt; "no run met no refusal")
 }
 
 // Work that takes memory.
 fn is_refused<R: Abort>(rt: &R, make: &Maker<R>, work: Work) {
-    assert!(rt; refusals(rt, make, &work) > 0);
+    assert!(rt; refusals(rt, make, work) > 0);
 }
 
 // An operation that takes memory.
@@ -120,6 +124,5 @@ fn a_batch_meets_each_refusal(rt: HostRuntime) {
 #[test]
 fn a_get_of_a_short_value_takes_no_memory(rt: HostRuntime) {
     let make = Maker::new(&rt, rt.alloc());
-    let work = Work::Apply(make.get("a"));
-    assert!(rt; refusals(&rt, &make, &work) == 0);
+    assert_eq!(rt; refusals(&rt, &make, Work::Apply(make.get("a"))), 0);
 }

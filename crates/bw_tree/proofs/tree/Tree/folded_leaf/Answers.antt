@@ -58,8 +58,8 @@ pub returns : goal.returns
 returns c =
     let at = leaf_at c.self.inside.heads.items c.self.inside.chains.bases c.self.inside.chains.records c.self.inside.root c.self.inside.next _ c.self.inside.staged _ c.self.view_is c.self.invariant.now c.args.page c.index-head.result.now c.requires.leaf
     (c.index-head.ensures ∙ ap (λ n. get_or c.self.inside.heads.items n c.index-head.result.now) c.page.view_is) in
-    is_folded_leaf c.args.self.now c.args.page c.args.side c.from_pairs-2.result c.in_ok-copy.field-0 c.in_ok-copy_end.field-0 c.in_ok-pairs.pairs
+    is_folded_leaf c.args.self.now c.args.page c.args.side c.from_pairs.result c.in_ok-copy.field-0 c.in_ok-copy_end.field-0 c.in_ok-pairs.pairs
     (folded_parts c.args.self.now c.self.inside.root (lawful_here c.self.inside.heads.items c.self.inside.chains.bases c.self.inside.chains.records c.self.inside.root c.self.inside.next _ c.self.inside.staged _ c.self.view_is c.self.invariant.now) (distinct_here c.self.inside.heads.items c.self.inside.chains.bases c.self.inside.chains.records c.self.inside.root c.self.inside.next _ c.self.inside.staged _ c.self.view_is c.self.invariant.now)
     c.args.page c.self.inside.next _ c.low-low.result.now (option_copied c.end.result.0) c.in_ok-copy.field-0 c.in_ok-copy_end.field-0 c.in_ok-pairs.pairs c.requires.leaf
     (ap (λ (v : TreeView). v.next) c.self.view_is) at.slot c.low-low.ensures c.end.ensures.high c.in_ok-copy.ensures.ok c.in_ok-copy_end.ensures c.in_ok-pairs.ensures)
-    c.from_pairs-2.ensures.low c.from_pairs-2.ensures.high c.from_pairs-2.ensures.side c.from_pairs-2.ensures.pairs
+    c.from_pairs.ensures.low c.from_pairs.ensures.high c.from_pairs.ensures.side c.from_pairs.ensures.pairs
