@@ -1,6 +1,9 @@
 // Values and their faults.
 use super::making::Maker;
-use bw_model::{Memory, Refusal, Value, ValueFault};
+use bw_memory::{Alloc, Heap};
+use bw_model::{Memory, Pairs, Refusal, Replies, Reply, Value, ValueFault};
+use std::process::Abort;
+use std::test::Fail;
 
 #[test]
 fn a_value_has_up_to_1024_bytes(rt: HostRuntime) {
@@ -66,6 +69,33 @@ fn a_length_is_judged_before_memory(rt: HostRuntime) {
     let too_long = Value::new(make.alloc, &[0; 2000]);
     assert!(rt; too_long == Err(ValueFault::TooLong(2000)));
     assert_eq!(rt; make.alloc.left(), 1);
+}
+
+// Makes a value of 100 bytes, and drops it.
+fn drop_value<R: Abort>(rt: &R, alloc: Alloc) {
+    let value = Value::new(alloc, &[b'v'; 100]).expect(rt, "a value");
+    assert_eq!(rt; alloc.used(), 100);
+    drop(value);
+}
+
+// Makes lists, and drops them.
+fn drop_lists<R: Abort>(rt: &R, alloc: Alloc) {
+    let pairs = Pairs::from_vec(Vec::with_capacity(alloc, 1).expect(rt, "memory"));
+    assert!(rt; alloc.used() > 0);
+    drop(pairs);
+    let mut replies = Vec::new(alloc);
+    replies.push(Reply::New).expect(rt, "memory");
+    drop(Replies::from_vec(replies));
+}
+
+#[test]
+fn what_is_dropped_gives_its_memory_back(rt: HostRuntime) -> Result<(), Fail> {
+    let alloc = Heap::within(rt.alloc(), 4096).leak(rt.alloc())?;
+    drop_value(&rt, alloc);
+    assert_eq!(rt; alloc.used(), 0);
+    drop_lists(&rt, alloc);
+    assert_eq!(rt; alloc.used(), 0);
+    Ok(())
 }
 
 #[test]
