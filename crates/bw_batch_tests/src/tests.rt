@@ -1,6 +1,7 @@
 // Worked examples of what the contracts say, and what no contract says: that batches are accepted, the printed
 // texts, and each growth of memory refused in turn.
 mod batches;
+mod drops;
 mod gates;
 mod largest;
 mod leaves;

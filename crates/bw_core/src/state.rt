@@ -9,7 +9,6 @@ use bw_memory::Alloc;
 use std::marker::Model;
 
 /// What a world is made of. Contracts see it as the world.
-#[derive(Drop)]
 pub(crate) struct State {
     pub(crate) alloc: Alloc,
     pub(crate) first: Vec<u64, Alloc>,
@@ -21,6 +20,24 @@ pub(crate) struct State {
     pub(crate) heads: Vec<u64, Alloc>,
     pub(crate) links: Vec<u64, Alloc>,
     pub(crate) books: Vec<Book, Alloc>,
+}
+
+// Not derived: whoever drops one calls this, and its proof is spared the parts.
+impl Drop for State {
+    fn drop(self) {
+        let State {
+            alloc: _alloc,
+            first: _first,
+            floor: _floor,
+            records: _records,
+            piece: _piece,
+            spares: _spares,
+            next: _next,
+            heads: _heads,
+            links: _links,
+            books: _books,
+        } = self;
+    }
 }
 
 impl Model for State {

@@ -10,6 +10,7 @@ use bw_key::Memory;
 use bw_memory::{Alloc, Heap};
 use std::alloc::{AllocError, Global};
 use std::process::Abort;
+use std::test::Fail;
 
 pub(crate) const FLOOR: u64 = 4294967296;
 
@@ -207,7 +208,7 @@ const SPLITS: [(Event, Played); 11] = [
 fn play(rt: &impl Abort, world: &mut World, played: &[(Event, Played)]) {
     for (event, answer) in played {
         let found = world.apply(*event).expect(rt, "memory");
-        assert_eq!(rt; found, *answer, "{event:?}");
+        assert!(rt; found == *answer);
     }
 }
 
@@ -316,6 +317,22 @@ fn pieces_and_widths(rt: HostRuntime) {
     play(&rt, &mut world, &SPLITS);
 }
 
+// Plays events on a world, and drops it.
+fn drop_world(rt: &impl Abort, alloc: Alloc) {
+    let mut world = World::start(alloc, &[7], FLOOR, 2, 1, &[None]).expect(rt, "memory");
+    play(rt, &mut world, &TWO_POSTS);
+    assert!(rt; alloc.used() > 0);
+    drop(world);
+}
+
+#[test]
+fn what_is_dropped_gives_its_memory_back(rt: HostRuntime) -> Result<(), Fail> {
+    let alloc = Heap::within(rt.alloc(), 65536).leak(rt.alloc())?;
+    drop_world(&rt, alloc);
+    assert_eq!(rt; alloc.used(), 0);
+    Ok(())
+}
+
 // Refuses each growth of this event in turn: nothing is changed then, and the event can be played after all.
 fn refuse_each(rt: &impl Abort, alloc: Alloc, world: &mut World, event: Event, answer: Played) {
     let before = shown(alloc, world).expect(rt, "memory");
@@ -325,16 +342,13 @@ fn refuse_each(rt: &impl Abort, alloc: Alloc, world: &mut World, event: Event, a
         let was_refused = alloc.left() == 0 || alloc.left() > growth;
         alloc.refuse(0);
         if let Ok(found) = found {
-            assert!(rt; !was_refused && found == answer, "{event:?} at {growth}");
+            assert!(rt; !was_refused && found == answer);
             return;
         }
         let after = shown(alloc, world).expect(rt, "memory");
-        assert!(rt;
-            was_refused && after.as_str() == before.as_str(),
-            "{event:?} at {growth}"
-        );
+        assert!(rt; was_refused && after.as_str() == before.as_str());
     }
-    panic!(rt; "{event:?} never came to an end");
+    panic!(rt; "no run met no refusal");
 }
 
 // Refuses each growth of each event, and of a join at the end.

@@ -11,10 +11,20 @@ use std::marker::Model;
 /// An append-only list of delta records, each with one link word: the word of what stands under it in its chain.
 ///
 /// The links lie in a list of their own, so that a walk along a chain touches 8 bytes a record.
-#[derive(Debug, Drop)]
+#[derive(Debug)]
 pub struct Arena {
     deltas: Vec<Delta, Alloc>,
     links: Vec<u64, Alloc>,
+}
+
+// Not derived: whoever drops one calls this, and its proof is spared the parts.
+impl Drop for Arena {
+    fn drop(self) {
+        let Arena {
+            deltas: _deltas,
+            links: _links,
+        } = self;
+    }
 }
 
 impl Model for Arena {

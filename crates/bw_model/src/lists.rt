@@ -11,7 +11,7 @@ pub struct Pairs {
     items: Vec<(Key, Value), Alloc>,
 }
 
-// Not derived, as a value's isn't.
+// Not derived: whoever drops one calls this, and its proof is spared the parts.
 impl Drop for Pairs {
     fn drop(self) {
         let Pairs { items: _items } = self;
@@ -78,7 +78,7 @@ pub struct Replies {
     items: Vec<Reply, Alloc>,
 }
 
-// Not derived, as a value's isn't.
+// Not derived: whoever drops one calls this, and its proof is spared the parts.
 impl Drop for Replies {
     fn drop(self) {
         let Replies { items: _items } = self;

@@ -16,13 +16,26 @@ use std::marker::Model;
 ///
 /// The level is 1 where the children are leaves, and one more for each level above. No `high` is no upper end. A page
 /// has a right neighbour, `side`, exactly where it has a `high`, and that neighbour's range begins there.
-#[derive(Debug, Drop)]
+#[derive(Debug)]
 pub struct Inner {
     level: u32,
     low: Key,
     high: Option<Key>,
     side: Option<PageId>,
     children: Vec<(Key, PageId), Alloc>,
+}
+
+// Not derived: whoever drops one calls this, and its proof is spared the parts.
+impl Drop for Inner {
+    fn drop(self) {
+        let Inner {
+            level: _level,
+            low: _low,
+            high: _high,
+            side: _side,
+            children: _children,
+        } = self;
+    }
 }
 
 impl Model for Inner {

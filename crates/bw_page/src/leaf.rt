@@ -18,12 +18,24 @@ use std::marker::Model;
 ///
 /// No `high` is no upper end. A leaf has a right neighbour, `side`, exactly where it has a `high`, and that
 /// neighbour's range begins there.
-#[derive(Debug, Drop)]
+#[derive(Debug)]
 pub struct Leaf {
     low: Key,
     high: Option<Key>,
     side: Option<PageId>,
     pairs: Vec<(Key, Value), Alloc>,
+}
+
+// Not derived: whoever drops one calls this, and its proof is spared the parts.
+impl Drop for Leaf {
+    fn drop(self) {
+        let Leaf {
+            low: _low,
+            high: _high,
+            side: _side,
+            pairs: _pairs,
+        } = self;
+    }
 }
 
 impl Model for Leaf {

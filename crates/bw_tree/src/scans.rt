@@ -31,7 +31,6 @@ use std::marker::Model;
 /// read it. A scan of leaves that are kept costs a few searches for each of them, among those that are kept and among its
 /// pairs, and a copy of what it answers. At a stamp that falls a leaf with writes is put in a map again. What was kept
 /// stays in memory.
-#[derive(Drop)]
 pub struct Scans<'a> {
     tree: &'a Tree,
     alloc: Alloc,
@@ -41,6 +40,19 @@ pub struct Scans<'a> {
     leaves: BTreeMap<PageId, ReadLeaf<'a>, Alloc>,
     // and by the keys that they begin at
     pages: BTreeMap<Key, PageId, Alloc>,
+}
+
+// Not derived: whoever drops one calls this, and its proof is spared the parts.
+impl Drop for Scans<'_> {
+    fn drop(self) {
+        let Scans {
+            tree: _tree,
+            alloc: _alloc,
+            keeps: _keeps,
+            leaves: _leaves,
+            pages: _pages,
+        } = self;
+    }
 }
 
 /// A leaf that was read: where its range lies, which page is its right neighbour, and its pairs.

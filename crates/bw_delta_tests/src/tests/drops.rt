@@ -1,0 +1,37 @@
+// Records and replays that are dropped give their memory back.
+use super::making::{insert, leaf_of, long};
+use bw_delta::{Arena, Delta, Replay};
+use bw_memory::{Alloc, Heap};
+use std::process::Abort;
+use std::test::Fail;
+
+// Makes an arena with a record whose value takes memory, and drops it.
+fn drop_arena<R: Abort>(rt: &R, alloc: Alloc) {
+    let mut arena = Arena::new(alloc);
+    arena.reserve(1).expect(rt, "memory");
+    arena.append(Delta::Put(insert(rt, alloc, 0, b"a", long())), 7);
+    assert!(rt; alloc.used() > 0);
+    drop(arena);
+}
+
+// Reads a leaf under a write, whose pairs are in a map then, and drops what was read.
+fn drop_replay<R: Abort>(rt: &R, alloc: Alloc) {
+    let leaf = leaf_of(rt, alloc, long());
+    let write = insert(rt, alloc, 0, b"b", long());
+    let kept = alloc.used();
+    let mut replay = Replay::new(alloc, &[&leaf], None, &[&write]).expect(rt, "memory");
+    replay.advance(1).expect(rt, "memory");
+    assert!(rt; alloc.used() > kept);
+    drop(replay);
+    assert_eq!(rt; alloc.used(), kept);
+}
+
+#[test]
+fn what_is_dropped_gives_its_memory_back(rt: HostRuntime) -> Result<(), Fail> {
+    let alloc = Heap::within(rt.alloc(), 65536).leak(rt.alloc())?;
+    drop_arena(&rt, alloc);
+    assert_eq!(rt; alloc.used(), 0);
+    drop_replay(&rt, alloc);
+    assert_eq!(rt; alloc.used(), 0);
+    Ok(())
+}
