@@ -5,6 +5,7 @@ use Rattle.bw_model.specs.Contents.{Contents}
 use Rattle.bw_model.specs.Model.{contents_after}
 use Rattle.bw_model.specs.Values.{ValueBytes}
 use Rattle.bw_model.specs.declared.operations.Op.{Op}
+use Rattle.bw_delta.specs.Batches.{writes_of}
 use Rattle.bw_tree.specs.Stages.{accepted, adopted, is_adopted, staged_on, undone}
 use Rattle.bw_tree.specs.View.{TreeView, StageView, contents_at, contents_with}
 use Rattle.bw_post.specs.Posting.{IsWaiting}
@@ -70,12 +71,13 @@ start_adopted tree after next same = ap (contents_at after) next ∙ same tree.n
 pub record IsAccepted (before after : TreeView) (ops : List Op) : Type 0 where
   pub next : after.next ≡ before.next + length ops
   pub none : after.staged ≡ None
+  pub records : after.records ≡ before.records + length (writes_of before.next ops)
   pub contents : contents_at after after.next ≡ contents_after ops (contents_at before before.next)
 
 pub accepted_as : (before tree now after : TreeView) (ops : List Op) → tree ≡ staged_on before ops → ((i : ℕ) → contents_with tree (before.next + i) ≡ contents_after (take i ops) (contents_at before before.next)) →
-    now.next ≡ tree.next → ((stamp : ℕ) → contents_at now stamp ≡ contents_with tree stamp) → is_adopted now.staged ≡ true → operations_staged now.staged ≡ operations_staged tree.staged → after ≡ accepted now now.staged →
+    now.next ≡ tree.next → now.records ≡ tree.records → ((stamp : ℕ) → contents_at now stamp ≡ contents_with tree stamp) → is_adopted now.staged ≡ true → operations_staged now.staged ≡ operations_staged tree.staged → after ≡ accepted now now.staged →
     IsAccepted before after ops
-accepted_as before tree now after ops is reads next same so count accepted_is = by now.staged so count accepted_is
+accepted_as before tree now after ops is reads next records same so count accepted_is = by now.staged so count accepted_is
   where
     different : false ≡ true → ⊥
     different e = cc
@@ -89,6 +91,7 @@ accepted_as before tree now after ops is reads next same so count accepted_is = 
         record {
           next = ap (λ (t : TreeView). t.next) is' ∙ next_is;
           none = ap (λ (t : TreeView). t.staged) is';
+          records = ap (λ (t : TreeView). t.records) is' ∙ records ∙ ap (λ (t : TreeView). t.records) is;
           contents =
               ap (λ (t : TreeView). contents_at t t.next) is' ∙ ap (contents_at now) next_is ∙ same (before.next + length ops) ∙ reads (length ops)
               ∙ ap (λ (l : List Op). contents_after l (contents_at before before.next)) (take_all (length ops) ops (omega arith));

@@ -40,6 +40,7 @@ pub(crate) fn run_batch<R: Threads + Sync, G: Gate>(
     ensures lost { IfOk result (λ answered. answered.lost ≤ pairs_of (length (writes_of tree.old.next ops.now))) }
     ensures contents { OnOk result (contents_at tree.new tree.new.next ≡ contents_after ops.now (contents_at tree.old tree.old.next)) }
     ensures stamped { OnOk result (tree.new.next ≡ tree.old.next + length ops.now) }
+    ensures recorded { OnOk result (tree.new.records ≡ tree.old.records + length (writes_of tree.old.next ops.now)) }
     ensures none { tree.new.staged ≡ None }
     ensures err { OnErr result (tree.new ≡ tree.old) }
 {
@@ -73,6 +74,7 @@ fn answer_staged<R: Threads + Sync, G: Gate>(
     ensures replies { IfOk result (λ answered. answered.replies ≡ replies_of batch.now.ops (contents_with tree.old tree.old.next)) }
     ensures lost { IfOk result (λ answered. answered.lost ≤ pairs_of (length (staged_writes tree.old.staged))) }
     ensures contents { OnOk result ((stamp : ℕ) → contents_at tree.new stamp ≡ contents_with tree.old stamp) }
+    ensures recorded { OnOk result (tree.new.records ≡ tree.old.records) }
     ensures next { tree.new.next ≡ tree.old.next }
     ensures adopted { OnOk result (is_adopted tree.new.staged ≡ true) }
     ensures count { operations_staged tree.new.staged ≡ operations_staged tree.old.staged }

@@ -1,8 +1,9 @@
 // The tree below an index.
-use super::making::Maker;
+use super::making::{Maker, same};
 use bw_batch::{Key, Op, OpenGate};
 use bw_memory::Alloc;
 use std::process::Abort;
+use std::thread::Threads;
 
 // So many writes at one key.
 fn writes<R: Abort>(rt: &R, make: &Maker<R>, count: u64) -> Vec<Op, Alloc> {
@@ -39,6 +40,40 @@ fn chains_are_folded_by_what_batches_walk(rt: HostRuntime) {
         .expect(&rt, "memory");
     assert_eq!(rt; index.tree().records(), 0);
     assert!(rt; index.tree().heads() == [0].as_slice());
+}
+
+// Runs a get on an index of 1,024 records, after which these are folded, where this growth is refused. How many records
+// there are then, if the get was answered.
+fn records_left<R: Abort + Threads + Sync>(rt: &R, make: &Maker<R>, growth: u64) -> Option<usize> {
+    let mut index = make.index(65536);
+    index
+        .run(rt, &writes(rt, make, 1024), &OpenGate)
+        .expect(rt, "memory");
+    let get = [make.get("a")];
+    make.alloc.refuse(growth);
+    let outcome = index.run(rt, &get, &OpenGate);
+    make.alloc.refuse(0);
+    let done = outcome.ok()?;
+    same(rt, done.replies.as_slice(), &[make.found("1")]);
+    Some(index.tree().records())
+}
+
+#[test]
+fn a_batch_stands_where_folding_is_refused(rt: HostRuntime) {
+    let make = Maker::new(&rt, rt.alloc());
+    let mut unfolded = 0u64;
+    for growth in 1..100u64 {
+        match records_left(&rt, &make, growth) {
+            None => {}
+            Some(1024) => unfolded = unfolded.saturating_add(1),
+            Some(left) => {
+                assert_eq!(rt; left, 0);
+                assert!(rt; unfolded > 0);
+                return;
+            }
+        }
+    }
+    panic!(rt; "no run met no refusal")
 }
 
 // Upserts of so many keys.

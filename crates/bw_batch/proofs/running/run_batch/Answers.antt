@@ -24,14 +24,19 @@ returns-in-Ok-clause-lost g c = subst (λ n. c.in-Ok.answered.lost ≤ pairs_of 
 pub returns-in-Ok-clause-contents : goal.returns-in-Ok-clause-contents
 returns-in-Ok-clause-contents g c =
     (accepted_as c.args.tree.now c.stage.new.self c.answer_staged.new.tree c.accept.new.self c.args.ops.now c.in_ok-stage.ensures.ok c.in_ok-stage.ensures.reads
-    c.in-Ok.ensures.next c.in-Ok.ensures.contents c.in-Ok.ensures.adopted c.in-Ok.ensures.count c.accept.ensures).contents
+    c.in-Ok.ensures.next c.in-Ok.ensures.recorded c.in-Ok.ensures.contents c.in-Ok.ensures.adopted c.in-Ok.ensures.count c.accept.ensures).contents
 
 pub returns-in-Ok-clause-stamped : goal.returns-in-Ok-clause-stamped
 returns-in-Ok-clause-stamped g c =
     (accepted_as c.args.tree.now c.stage.new.self c.answer_staged.new.tree c.accept.new.self c.args.ops.now c.in_ok-stage.ensures.ok c.in_ok-stage.ensures.reads
-    c.in-Ok.ensures.next c.in-Ok.ensures.contents c.in-Ok.ensures.adopted c.in-Ok.ensures.count c.accept.ensures).next
+    c.in-Ok.ensures.next c.in-Ok.ensures.recorded c.in-Ok.ensures.contents c.in-Ok.ensures.adopted c.in-Ok.ensures.count c.accept.ensures).next
 
 pub returns-in-Ok-clause-none : goal.returns-in-Ok-clause-none
 returns-in-Ok-clause-none g c =
     (accepted_as c.args.tree.now c.stage.new.self c.answer_staged.new.tree c.accept.new.self c.args.ops.now c.in_ok-stage.ensures.ok c.in_ok-stage.ensures.reads
-    c.in-Ok.ensures.next c.in-Ok.ensures.contents c.in-Ok.ensures.adopted c.in-Ok.ensures.count c.accept.ensures).none
+    c.in-Ok.ensures.next c.in-Ok.ensures.recorded c.in-Ok.ensures.contents c.in-Ok.ensures.adopted c.in-Ok.ensures.count c.accept.ensures).none
+
+pub returns-in-Ok-clause-recorded : goal.returns-in-Ok-clause-recorded
+returns-in-Ok-clause-recorded g c =
+    (accepted_as c.args.tree.now c.stage.new.self c.answer_staged.new.tree c.accept.new.self c.args.ops.now c.in_ok-stage.ensures.ok c.in_ok-stage.ensures.reads
+    c.in-Ok.ensures.next c.in-Ok.ensures.recorded c.in-Ok.ensures.contents c.in-Ok.ensures.adopted c.in-Ok.ensures.count c.accept.ensures).records
