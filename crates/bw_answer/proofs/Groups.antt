@@ -11,7 +11,7 @@ use Rattle.std.proofs.lemmas.List.{get_or-map, length-map}
 use Rattle.std.proofs.lemmas.List.Sorted.{ranks_by, sorted_far}
 use Rattle.bw_key.specs.Order.{KeyBytes, key_cmp, key_cmp_total, key_eq, key_ties}
 use Rattle.bw_model.specs.declared.operations.Action.TheVariants.{Delete}
-use Rattle.bw_page.proofs.KeyOrder.{upto_below, upto_trans}
+use Rattle.bw_page.proofs.KeyLemmas.{upto_below, upto_trans}
 use Rattle.bw_delta.specs.Writes.{WriteView}
 use Rattle.bw_delta.specs.History.{pointed_to}
 use Rattle.bw_delta.specs.Batches.{writes_to}

@@ -9,7 +9,7 @@ use Rattle.std.proofs.lemmas.List.Sorted.{sorted_far}
 use Rattle.bw_key.specs.Order.{KeyBytes, key_cmp, key_eq}
 use Rattle.bw_model.specs.Contents.{is_below_end}
 use Rattle.bw_model.specs.Values.{ValueBytes}
-use Rattle.bw_page.proofs.KeyOrder.{upto_trans}
+use Rattle.bw_page.proofs.KeyLemmas.{upto_trans}
 use Rattle.bw_page.proofs.Search.{same_keys}
 use Rattle.bw_delta.specs.Writes.{WriteView}
 use Rattle.bw_delta.specs.Batches.{writes_to}

@@ -12,7 +12,7 @@ use Rattle.std.specs.FinMap.Entries.{below_all, find-where_key, is_sorted-where_
 use Rattle.std.specs.declared.cmp.Ordering.TheVariants.{Less}
 use Rattle.bw_key.specs.Order.{KeyBytes, key_cmp, key_eq, key_eq_equiv, key_ties}
 use Rattle.bw_model.specs.Contents.{is_in_range, is_pair_in_range}
-use Rattle.bw_page.proofs.KeyOrder.{keys_tie}
+use Rattle.bw_page.proofs.KeyLemmas.{keys_tie}
 use Rattle.bw_page.specs.Leaves.{LeafView}
 use Rattle.bw_delta.specs.Pairs.{value_in_parts}
 

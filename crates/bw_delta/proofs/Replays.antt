@@ -9,7 +9,7 @@ use Rattle.std.specs.FinMap.{find}
 use Rattle.bw_key.specs.Order.{KeyBytes, key_cmp, key_cmp_total, key_eq}
 use Rattle.bw_model.specs.Contents.{is_below_end, is_in_range, is_pair_in_range}
 use Rattle.bw_model.specs.Values.{ValueBytes}
-use Rattle.bw_page.proofs.KeyOrder.{below_trans}
+use Rattle.bw_page.proofs.KeyLemmas.{below_trans}
 use Rattle.bw_delta.specs.Writes.{WriteView}
 use Rattle.bw_delta.specs.History.{history, action_at}
 use Rattle.bw_delta.specs.Batches.{writes_to}

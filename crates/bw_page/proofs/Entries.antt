@@ -12,7 +12,7 @@ use Rattle.bw_page.specs.Pages.{IsPage, BeginsAt, first_key}
 use Rattle.bw_model.specs.Sorted.{place_of}
 use Rattle.bw_model.proofs.PairsLemmas.{put_absent_at, put_found_at}
 use Rattle.bw_page.specs.Inners.{InnerView, IsInner}
-use Rattle.bw_page.proofs.KeyOrder.{below_back, below_trans, below_upto, below_self}
+use Rattle.bw_page.proofs.KeyLemmas.{below_back, below_trans, below_upto, below_self}
 use Rattle.bw_page.proofs.Search.{Misses, same_keys, true_holds}
 
 pub holds_true : (a : Bool) → T a → a ≡ true

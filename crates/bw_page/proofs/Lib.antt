@@ -1,4 +1,4 @@
-pub mod KeyOrder
+pub mod KeyLemmas
 pub mod Search
 pub mod Entries
 pub mod Separators

@@ -8,7 +8,7 @@ use Rattle.bw_key.specs.Order.{KeyBytes, key_cmp}
 use Rattle.bw_model.specs.Contents.{is_below_end, is_pair_in_range}
 use Rattle.bw_model.specs.Sorted.{place_of}
 use Rattle.bw_page.proofs.Entries.{sorted_drop}
-use Rattle.bw_page.proofs.KeyOrder.{below_back, upto_trans}
+use Rattle.bw_page.proofs.KeyLemmas.{below_back, upto_trans}
 use Rattle.bw_page.proofs.Search.{both, is_before, true_holds}
 
 -- a key above one that isn't below another isn't below it either

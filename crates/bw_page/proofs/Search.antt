@@ -9,7 +9,7 @@ use Rattle.std.specs.FinMap.Entries.{below_all}
 use Rattle.std.specs.declared.cmp.Ordering.TheVariants.{Less, Equal, Greater}
 use Rattle.bw_key.specs.Order.{KeyBytes, key_cmp, key_eq, key_ties}
 use Rattle.bw_model.specs.Sorted.{place_of}
-use Rattle.bw_page.proofs.KeyOrder.{below_trans, below_self, neither_below, keys_tie, cmp_self}
+use Rattle.bw_page.proofs.KeyLemmas.{below_trans, below_self, neither_below, keys_tie, cmp_self}
 
 pub both : (a b : Bool) → T (a && b) → (a ≡ true) × (b ≡ true)
 both true true h = (refl, refl)

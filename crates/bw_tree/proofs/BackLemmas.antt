@@ -9,7 +9,7 @@ use Rattle.std.proofs.lemmas.List.{reverse-append}
 use Rattle.bw_key.specs.Order.{KeyBytes, key_cmp}
 use Rattle.bw_model.specs.Contents.{Contents, is_below_end, is_in_range, pairs_of_range}
 use Rattle.bw_model.specs.Values.{ValueBytes}
-use Rattle.bw_page.proofs.KeyOrder.{below_back, below_self, upto_trans}
+use Rattle.bw_page.proofs.KeyLemmas.{below_back, below_self, upto_trans}
 use Rattle.bw_delta.proofs.Maps.{sorted_in_range}
 use Rattle.bw_tree.specs.Slots.{Slot, PageState, Free, Gone, Live, slot_at, has_key}
 use Rattle.bw_tree.specs.Levels.{row}

@@ -10,7 +10,7 @@ use Rattle.bw_model.specs.Contents.{is_below_end}
 use Rattle.bw_model.specs.Sorted.{place_of}
 use Rattle.bw_page.specs.Inners.{IsInner, IsLastUpto, IsUpto}
 use Rattle.bw_page.specs.Pages.{BeginsAt}
-use Rattle.bw_page.proofs.KeyOrder.{below_back, below_self, upto_below}
+use Rattle.bw_page.proofs.KeyLemmas.{below_back, below_self, upto_below}
 use Rattle.bw_page.proofs.Search.{place_before, place_past, rises}
 use Rattle.bw_tree.specs.Before.{StandsFor, count_below}
 

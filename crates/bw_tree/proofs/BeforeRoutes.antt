@@ -4,7 +4,7 @@ use Rattle.std.specs.Ordering.{is_lt}
 use Rattle.bw_key.specs.Order.{KeyBytes, key_cmp}
 use Rattle.bw_model.specs.Contents.{is_below_end}
 use Rattle.bw_page.specs.Inners.{IsUpto}
-use Rattle.bw_page.proofs.KeyOrder.{below_upto}
+use Rattle.bw_page.proofs.KeyLemmas.{below_upto}
 use Rattle.bw_tree.specs.declared.chains.Turn.TheVariants.{Here, Right, Down, Left}
 use Rattle.bw_tree.specs.Slots.{Slot, PageState, Body, Pairs, Children, Free, Gone, Live, slot_at, IsSoundBody}
 use Rattle.bw_tree.specs.Levels.{AreLevels, IsHome, row}

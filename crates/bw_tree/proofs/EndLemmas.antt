@@ -4,7 +4,7 @@ use Rattle.std.specs.Ordering.{is_le, is_lt, ordering_reverse}
 use Rattle.std.specs.declared.cmp.Ordering.TheVariants.{Less, Equal, Greater}
 use Rattle.bw_key.specs.Order.{KeyBytes, key_cmp, key_cmp_total}
 use Rattle.bw_model.specs.Contents.{is_below_end}
-use Rattle.bw_page.proofs.KeyOrder.{below_upto}
+use Rattle.bw_page.proofs.KeyLemmas.{below_upto}
 use Rattle.bw_tree.specs.Scans.{EndsBelow, Reaches}
 
 holds : (b : Bool) → T b → b ≡ true

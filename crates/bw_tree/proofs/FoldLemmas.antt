@@ -13,7 +13,7 @@ use Rattle.bw_model.specs.Values.{ValueBytes}
 use Rattle.bw_page.specs.Inners.{IsUpto}
 use Rattle.bw_page.specs.Leaves.{LeafView}
 use Rattle.bw_page.specs.Pages.{IsPage}
-use Rattle.bw_page.proofs.KeyOrder.{below_back, below_self, below_trans, upto_trans}
+use Rattle.bw_page.proofs.KeyLemmas.{below_back, below_self, below_trans, upto_trans}
 use Rattle.bw_delta.specs.History.{HasDistinctStamps}
 use Rattle.bw_delta.proofs.ContentsAsOf.{same_contents}
 use Rattle.bw_delta.proofs.Maps.{sorted_in_range}

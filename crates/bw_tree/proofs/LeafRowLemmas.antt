@@ -9,7 +9,7 @@ use Rattle.bw_key.specs.Order.{KeyBytes, key_cmp, key_eq, key_ties}
 use Rattle.bw_model.specs.Contents.{is_in_range, is_below_end, is_pair_in_range}
 use Rattle.bw_model.specs.Values.{ValueBytes}
 use Rattle.bw_page.specs.Inners.{IsUpto}
-use Rattle.bw_page.proofs.KeyOrder.{below_upto, upto_trans, below_back, below_self}
+use Rattle.bw_page.proofs.KeyLemmas.{below_upto, upto_trans, below_back, below_self}
 use Rattle.bw_page.proofs.Search.{same_keys}
 use Rattle.bw_delta.specs.Writes.{WriteView}
 use Rattle.bw_delta.specs.Batches.{writes_to}

@@ -12,7 +12,7 @@ use Rattle.bw_page.specs.Leaves.{LeafView}
 use Rattle.bw_page.specs.Inners.{IsInner}
 use Rattle.bw_page.specs.Pages.{BeginsAt}
 use Rattle.bw_page.specs.declared.pages.Page.{Page}
-use Rattle.bw_page.proofs.KeyOrder.{below_trans}
+use Rattle.bw_page.proofs.KeyLemmas.{below_trans}
 use Rattle.bw_tree.specs.Walk.{walked, ended}
 use Rattle.bw_tree.specs.Slots.{Slot, PageState, Pairs, Live, slot_at}
 use Rattle.bw_tree.specs.Levels.{SideBySide, Stands}

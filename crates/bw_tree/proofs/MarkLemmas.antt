@@ -6,7 +6,7 @@ use Rattle.std.specs.Ordering.{is_lt}
 use Rattle.bw_key.specs.Order.{KeyBytes, key_cmp}
 use Rattle.bw_model.specs.Contents.{is_below_end}
 use Rattle.bw_page.specs.Inners.{IsUpto}
-use Rattle.bw_page.proofs.KeyOrder.{below_back, below_self, upto_trans}
+use Rattle.bw_page.proofs.KeyLemmas.{below_back, below_self, upto_trans}
 use Rattle.bw_tree.specs.Slots.{Slot, Free, Gone, Live, children_of, slot_at}
 use Rattle.bw_tree.specs.Before.{StandsFor, StandsForAt}
 

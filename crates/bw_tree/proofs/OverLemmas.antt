@@ -12,7 +12,7 @@ use Rattle.bw_model.specs.Values.{ValueBytes}
 use Rattle.bw_page.specs.Leaves.{LeafView}
 use Rattle.bw_page.specs.Inners.{InnerView, IsUpto}
 use Rattle.bw_page.specs.declared.pages.Page.TheVariants.{Inner as InnerPage}
-use Rattle.bw_page.proofs.KeyOrder.{below_self}
+use Rattle.bw_page.proofs.KeyLemmas.{below_self}
 use Rattle.bw_delta.specs.Writes.{WriteView}
 use Rattle.bw_delta.specs.History.{HasDistinctStamps}
 use Rattle.bw_delta.specs.ContentsAsOf.{contents_as_of}

@@ -7,7 +7,7 @@ use Rattle.std.specs.FinMap.{find}
 use Rattle.bw_key.specs.Order.{KeyBytes, key_cmp}
 use Rattle.bw_model.specs.Contents.{is_below_end}
 use Rattle.bw_model.specs.Values.{ValueBytes}
-use Rattle.bw_page.proofs.KeyOrder.{below_trans, upto_trans}
+use Rattle.bw_page.proofs.KeyLemmas.{below_trans, upto_trans}
 use Rattle.bw_page.specs.Leaves.{LeafView}
 use Rattle.bw_page.specs.declared.pages.Page.{Page}
 use Rattle.bw_page.specs.declared.pages.Page.TheVariants.{Leaf as LeafPage}

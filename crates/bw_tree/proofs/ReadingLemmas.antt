@@ -6,7 +6,7 @@ use Rattle.std.specs.Ordering.{is_lt}
 use Rattle.std.specs.FinMap.{find}
 use Rattle.std.specs.FinMap.Entries.{find-where_key}
 use Rattle.bw_key.specs.Order.{KeyBytes, key_cmp, key_eq}
-use Rattle.bw_page.proofs.KeyOrder.{keys_tie}
+use Rattle.bw_page.proofs.KeyLemmas.{keys_tie}
 use Rattle.bw_page.specs.declared.pages.Page.{Page}
 use Rattle.bw_page.specs.declared.pages.Page.TheVariants.{Leaf as LeafPage, Inner as InnerPage, Gone as GonePage}
 use Rattle.bw_delta.specs.Writes.{WriteView}

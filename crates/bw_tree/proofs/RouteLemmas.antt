@@ -4,7 +4,7 @@ use Rattle.std.specs.List.{Contains}
 use Rattle.bw_key.specs.Order.{KeyBytes}
 use Rattle.bw_model.specs.Contents.{is_below_end}
 use Rattle.bw_page.specs.Inners.{IsLastUpto, IsUpto}
-use Rattle.bw_page.proofs.KeyOrder.{upto_trans}
+use Rattle.bw_page.proofs.KeyLemmas.{upto_trans}
 use Rattle.bw_tree.specs.declared.chains.Turn.TheVariants.{Here, Right, Down, Left}
 use Rattle.bw_tree.specs.Walk.{Leads, walked, ended}
 use Rattle.bw_tree.specs.Slots.{Slot, PageState, Body, Pairs, Children, Free, Gone, Live, slot_at, slot_level, side_of, side_of_slot, left_of, left_of_slot, level_of, children_of, IsSoundPage, IsSoundBody, is_leaf, body_is_leaf}

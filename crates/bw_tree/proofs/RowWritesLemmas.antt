@@ -7,7 +7,7 @@ use Rattle.std.specs.Ordering.{is_lt}
 use Rattle.std.proofs.lemmas.List.Sorted.{IsPermutation-append, IsPermutation-append_comm, IsPermutation-filter_both, IsPermutation-refl, IsPermutation-trans}
 use Rattle.bw_key.specs.Order.{KeyBytes, key_cmp}
 use Rattle.bw_model.specs.Contents.{is_in_range}
-use Rattle.bw_page.proofs.KeyOrder.{below_trans}
+use Rattle.bw_page.proofs.KeyLemmas.{below_trans}
 use Rattle.bw_page.proofs.Ranges.{filter_filter}
 use Rattle.bw_delta.specs.Writes.{WriteView}
 use Rattle.bw_tree.specs.Slots.{Slot, PageState, Body, Pairs, Children, Live, slot_at, has_key, level_of, is_leaf, body_is_leaf, IsSoundBody}

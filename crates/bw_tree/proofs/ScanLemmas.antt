@@ -7,7 +7,7 @@ use Rattle.std.specs.FinMap.Entries.{find-where_key, is_sorted-where_key, same_e
 use Rattle.bw_key.specs.Order.{KeyBytes, key_cmp, key_cmp_total}
 use Rattle.bw_model.specs.Contents.{Contents, is_below_end, is_in_range, pairs_of_range}
 use Rattle.bw_model.specs.Values.{ValueBytes}
-use Rattle.bw_page.proofs.KeyOrder.{keys_tie, below_back, below_self, below_trans, upto_trans}
+use Rattle.bw_page.proofs.KeyLemmas.{keys_tie, below_back, below_self, below_trans, upto_trans}
 use Rattle.bw_delta.specs.Writes.{WriteView}
 use Rattle.bw_delta.specs.Batches.{writes_to}
 use Rattle.bw_delta.specs.History.{history, action_at, HasDistinctStamps}

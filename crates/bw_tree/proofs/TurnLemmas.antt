@@ -4,7 +4,7 @@ use Rattle.std.specs.Ordering.{is_lt}
 use Rattle.bw_key.specs.Order.{KeyBytes, key_cmp}
 use Rattle.bw_model.specs.Contents.{is_below_end}
 use Rattle.bw_page.specs.Inners.{IsLastUpto}
-use Rattle.bw_page.proofs.KeyOrder.{upto_below}
+use Rattle.bw_page.proofs.KeyLemmas.{upto_below}
 use Rattle.bw_delta.proofs.Filters.{kept, was_there}
 use Rattle.bw_delta.specs.declared.deltas.Delta.TheVariants.{Split}
 use Rattle.bw_tree.specs.declared.chains.Turn.{Turn}
