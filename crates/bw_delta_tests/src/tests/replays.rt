@@ -108,6 +108,28 @@ fn of_two_parts_the_first_has_the_value(rt: HostRuntime) {
     assert!(rt; are(&pairs, &[(b"a", b"9"), (b"b", b"2")]));
 }
 
+// A leaf may reach past the end of its page.
+#[test]
+fn below_its_end_a_leaf_is_read_with_its_writes(rt: HostRuntime) {
+    let alloc = heap(&rt, rt.alloc());
+    let (leaf, end) = (a_and_b(&rt, alloc), key(&rt, alloc, b"b"));
+    let insert = insert(&rt, alloc, 0, b"aa", b"3");
+    let mut replay = Replay::new(alloc, &[&leaf], Some(&end), &[&insert]).expect(&rt, "memory");
+    replay.advance(1).expect(&rt, "memory");
+    let pairs = last(alloc, &replay, &end, 9).expect(&rt, "memory");
+    assert!(rt; are(&pairs, &[(b"aa", b"3"), (b"a", b"1")]));
+}
+
+#[test]
+fn below_their_end_two_parts_are_read(rt: HostRuntime) {
+    let alloc = heap(&rt, rt.alloc());
+    let (above, below) = (leaf_of(&rt, alloc, b"9"), a_and_b(&rt, alloc));
+    let end = key(&rt, alloc, b"b");
+    let replay = Replay::new(alloc, &[&above, &below], Some(&end), &[]).expect(&rt, "memory");
+    let pairs = last(alloc, &replay, &end, 9).expect(&rt, "memory");
+    assert!(rt; are(&pairs, &[(b"a", b"9")]));
+}
+
 // What an update to 3 at 7, a delete at 2 and an insert of 9 at 5 leave of a 4 at `a`, as of stamps that rise.
 const LEFT: [(u64, Option<&'static [u8]>); 5] = [
     (2, Some(b"4")),

@@ -30,7 +30,7 @@ fn the_writes_are_folded(rt: HostRuntime) {
     stands(&rt, &tree, &[0, FLOOR, FLOOR + 1, 3], 2, 3);
     assert!(rt; tree.fold() == Ok(3));
     stands(&rt, &tree, &[0, 1, 2, 3], 0, 3);
-    assert_eq!(rt; tree.root(), PageId(3));
+    assert!(rt; tree.root() == PageId(3));
     assert!(rt; tree.route(&key(&rt, alloc, b"e")) == PageId(2));
     holds(&rt, alloc, &tree, 3, &AFTER);
 }

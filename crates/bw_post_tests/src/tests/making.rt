@@ -103,7 +103,7 @@ pub fn three<R: Abort>(rt: &R, alloc: Alloc) -> Tree
 
 /// Compares a tree's mapping words, how many records it has, and its next stamp.
 pub fn stands<R: Abort>(rt: &R, tree: &Tree, heads: &[u64], records: usize, next: u64) {
-    assert_eq!(rt; tree.heads(), heads);
+    assert!(rt; tree.heads() == heads);
     assert_eq!(rt; tree.records(), records);
     assert_eq!(rt; tree.next_stamp(), next);
 }

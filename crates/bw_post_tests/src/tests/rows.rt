@@ -7,11 +7,12 @@ ghost use Rattle.bw_tree.specs.Stages.{is_adopted};
 use super::making::{FLOOR, batch, has, heap, holds, key, post, stands, three, upsert, value};
 use bw_answer::Grouping;
 use bw_key::Memory;
-use bw_memory::Alloc;
+use bw_memory::{Alloc, Heap};
 use bw_page::PageId;
 use bw_post::{OpenGate, Tree, post_all};
 use bw_tree::Scans;
 use std::process::Abort;
+use std::test::Fail;
 use std::thread::Threads;
 
 // The tree over three leaves with the batch staged, posted and adopted.
@@ -83,6 +84,19 @@ fn an_adopted_batch_is_accepted(rt: HostRuntime) {
         3,
         &[(b"a", b"1"), (b"b", b"2"), (b"c", b"9")],
     );
+}
+
+#[test]
+fn adopt_and_accept_take_no_memory(rt: HostRuntime) {
+    let alloc = heap(&rt, rt.alloc());
+    let mut tree = three(&rt, alloc);
+    let closed = post(&rt, alloc, &mut tree, &batch(&rt, alloc), 1);
+    alloc.refuse(1);
+    tree.adopt(closed);
+    tree.accept();
+    assert_eq!(rt; alloc.left(), 1);
+    alloc.refuse(0);
+    stands(&rt, &tree, &[0, FLOOR, FLOOR + 1, 3], 2, 3);
 }
 
 // A tree of one leaf, in whose chain two writes of one key stand.
@@ -196,6 +210,30 @@ fn a_leaf_with_writes_that_is_scanned_back_is_put_in_a_map_once(rt: HostRuntime)
     let mut scans = Scans::new(alloc, &tree);
     assert!(rt; growths_back(&rt, alloc, &mut scans) > 4);
     assert_eq!(rt; growths_back(&rt, alloc, &mut scans), 1);
+}
+
+// Reads the leaves of a tree behind the batch, two of which have writes, and drops what was read.
+fn drop_scans<R: Abort>(rt: &R, alloc: Alloc, tree: &Tree) {
+    let from = key(rt, alloc, b"");
+    let mut scans = Scans::new(alloc, tree);
+    let pairs = scans.scan(&from, None, 9, 2).expect(rt, "memory");
+    assert_eq!(rt; pairs.as_slice().len(), 3);
+}
+
+// The same with the tree.
+fn drop_adopted<R: Abort + Threads + Sync>(rt: &R, alloc: Alloc) {
+    let tree = adopted(rt, alloc);
+    let kept = alloc.used();
+    drop_scans(rt, alloc, &tree);
+    assert_eq!(rt; alloc.used(), kept);
+}
+
+#[test]
+fn what_is_dropped_gives_its_memory_back(rt: HostRuntime) -> Result<(), Fail> {
+    let alloc = Heap::within(rt.alloc(), 65536).leak(rt.alloc())?;
+    drop_adopted(&rt, alloc);
+    assert_eq!(rt; alloc.used(), 0);
+    Ok(())
 }
 
 // Stages and posts a batch by so many workers where this growth is refused while posting. Whether it was.
