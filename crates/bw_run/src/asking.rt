@@ -74,6 +74,8 @@ const AFTER: &str = "A trace has one operation on a line:
 A line that begins with # is a comment. A key is spelled by letters, digits, _, . and -,
 or by % and hexadecimal digits. Behind a first line `bw 2` values are spelled so too.
 
+So far --workers, --piece and --batch-max alone have an effect.
+
 Try it:
   printf 'upsert apple 7\\nget apple\\n' | bw_run run
 

@@ -77,6 +77,18 @@ fn batches_above_batch_max_are_refused(rt: HostRuntime) {
 }
 
 #[test]
+fn batches_of_three_keep_to_both_bounds(rt: HostRuntime) {
+    let runner = Runner::new(&rt, rt.alloc());
+    runner.expect_words(
+        &["run", "--batch-max", "3", "--record-max", "3"],
+        "upsert a 1\nupsert a 2\nupsert a 3\ngo\nupsert a 4\nget a\ndelete a\ngo\nget a\ninsert a 7\nget a",
+        "new\nwas 1\nwas 2\nwas 3\nis 4\nwas 4\nnone\ninserted\nis 7\n",
+        "",
+        0,
+    );
+}
+
+#[test]
 fn other_words_are_no_command(rt: HostRuntime) {
     let runner = Runner::new(&rt, rt.alloc());
     let commands: [&[&'static str]; 9] = [

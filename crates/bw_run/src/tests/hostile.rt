@@ -65,12 +65,12 @@ fn each_front_of_a_trace_is_run_or_faulty(rt: HostRuntime) {
             TURNS,
         );
         let taken = out.taken.as_slice();
-        assert!(rt; taken.len() >= written_after(length), "front {length}");
-        assert!(rt; FOUR_TEXTS.as_bytes().starts_with(taken), "front {length}");
+        assert!(rt; taken.len() >= written_after(length));
+        assert!(rt; FOUR_TEXTS.as_bytes().starts_with(taken));
         if status == 3 {
-            assert_eq!(rt; taken.len(), written_after(length), "front {length}");
+            assert_eq!(rt; taken.len(), written_after(length));
         } else {
-            assert_eq!(rt; status, 0, "front {length}");
+            assert_eq!(rt; status, 0);
             runner.expect_text(&errors, "");
         }
     }
@@ -94,15 +94,11 @@ fn each_read_fails_in_turn(rt: HostRuntime) {
             &mut errors,
             TURNS,
         );
-        assert_eq!(rt; status, 1, "call {call}");
+        assert_eq!(rt; status, 1);
         runner.expect_message(&errors, "cannot read");
         let taken = out.taken.as_slice();
-        assert_eq!(rt;
-            taken.len(),
-            written_after(call.saturating_sub(1)),
-            "call {call}"
-        );
-        assert!(rt; FOUR_TEXTS.as_bytes().starts_with(taken), "call {call}");
+        assert_eq!(rt; taken.len(), written_after(call.saturating_sub(1)));
+        assert!(rt; FOUR_TEXTS.as_bytes().starts_with(taken));
     }
 }
 
@@ -122,9 +118,9 @@ fn each_write_fails_in_turn(rt: HostRuntime) {
             &mut errors,
             TURNS,
         );
-        assert_eq!(rt; status, 1, "call {call}");
+        assert_eq!(rt; status, 1);
         runner.expect_message(&errors, "cannot write");
-        assert_eq!(rt; out.taken.len(), written, "call {call}");
+        assert_eq!(rt; out.taken.len(), written);
     }
     let mut out = runner.sink_failing_at(1);
     let mut errors = runner.sink();

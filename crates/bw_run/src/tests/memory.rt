@@ -39,14 +39,14 @@ fn each_growth_is_refused_in_turn(rt: HostRuntime) {
             4 => {
                 let of_first = text == FIRST_REFUSED.as_bytes();
                 let of_second = text == SECOND_REFUSED.as_bytes();
-                assert!(rt; of_first || of_second, "growth {growth}");
+                assert!(rt; of_first || of_second);
                 runner.expect_message(&errors, "");
                 refusals = refusals.saturating_add(1);
             }
             _ => {
-                assert_eq!(rt; status, 1, "growth {growth}");
+                assert_eq!(rt; status, 1);
                 let is_front = text.is_empty() || text == FIRST_TEXT.as_bytes();
-                assert!(rt; is_front, "growth {growth}");
+                assert!(rt; is_front);
                 runner.expect_message(&errors, "out of memory");
                 faults = faults.saturating_add(1);
             }
@@ -83,10 +83,10 @@ fn a_message_without_memory_is_of_memory(rt: HostRuntime) {
 
         runner.expect_text(&out, "");
         if errors.taken.as_slice() == b"bw_run: line 1: unknown word\n".as_slice() {
-            assert_eq!(rt; status, 3, "growth {growth}");
+            assert_eq!(rt; status, 3);
         } else {
             runner.expect_message(&errors, "out of memory");
-            assert!(rt; status == 1 || status == 3, "growth {growth}");
+            assert!(rt; status == 1 || status == 3);
             if status == 3 {
                 messages = messages.saturating_add(1);
             }
