@@ -26,7 +26,7 @@ impl<R: Abort> Maker<'_, R> {
             Ok(Some(found)) => {
                 assert_eq!(self.rt; found.len(), ops.len());
                 for (found, op) in found.iter().zip(ops) {
-                    assert_eq!(self.rt; *found, *op);
+                    assert!(self.rt; *found == *op);
                 }
             }
             Ok(None) => panic!(self.rt; "no batch"),

@@ -20,7 +20,7 @@ impl<R: Abort + Threads + Sync> Maker<'_, R> {
             options,
             Job::Run,
         );
-        assert_eq!(self.rt; outcome, expected);
+        assert!(self.rt; outcome == expected);
         self.expect_text(&out, output);
     }
 }
