@@ -1,9 +1,7 @@
 -- A batch on a tree, from its staging to its end.
 use Rattle.std.proofs.Common.{◌≡◌, ℕ, ◌+◌, true, false, List, length, take, Option, Some, None, refl, sym, ap, ◌∙◌, subst, arith}
 use Rattle.std.proofs.lemmas.List.{take_all}
-use Rattle.bw_model.specs.Contents.{Contents}
 use Rattle.bw_model.specs.Model.{contents_after}
-use Rattle.bw_model.specs.Values.{ValueBytes}
 use Rattle.bw_model.specs.declared.operations.Op.{Op}
 use Rattle.bw_delta.specs.Batches.{writes_of}
 use Rattle.bw_tree.specs.Stages.{accepted, adopted, is_adopted, staged_on, undone}

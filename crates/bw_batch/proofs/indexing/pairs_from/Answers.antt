@@ -1,4 +1,4 @@
-use Rattle.std.proofs.Common.{ap, ◌∙◌, sym, arith}
+use Rattle.std.proofs.Common.{ap, ◌∙◌, arith}
 use Rattle.bw_model.specs.Contents.{pairs_of_range}
 use Rattle.bw_tree.specs.View.{contents_at}
 use Rattle.std.specs.Prelude.{None}

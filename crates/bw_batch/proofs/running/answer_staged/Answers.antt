@@ -1,6 +1,4 @@
-use Rattle.std.proofs.Common.{◌≡◌, ap, subst, ◌∙◌}
-use Rattle.bw_model.specs.Contents.{Contents}
-use Rattle.bw_model.specs.Values.{ValueBytes}
+use Rattle.std.proofs.Common.{ap, ◌∙◌}
 use Rattle.bw_model.specs.Model.{replies_of}
 use Rattle.bw_tree.specs.View.{contents_at}
 use Rattle.bw_batch.proofs.RunningLemmas.{start_adopted}

@@ -1,10 +1,9 @@
 use Rattle.std.proofs.Common.{◌≡◌, ◌≤◌, ◌+◌, ℕ, List, length, sym, ap, take, subst, ◌∙◌}
 use Rattle.bw_core.specs.Keeping.{pairs_of}
-use Rattle.bw_delta.specs.Writes.{WriteView}
 use Rattle.bw_model.specs.Model.{contents_after, replies_of}
 use Rattle.bw_model.specs.declared.operations.Op.{Op}
-use Rattle.bw_tree.specs.View.{TreeView, contents_at, contents_with, staged_writes}
-use Rattle.bw_batch.proofs.RunningLemmas.{accepted_as, first_read, reads_on, undone_is}
+use Rattle.bw_tree.specs.View.{TreeView, contents_with, staged_writes}
+use Rattle.bw_batch.proofs.RunningLemmas.{accepted_as, first_read, reads_on}
 use Rattle.bw_batch.proofs.running.run_batch.Goals as goal
 
 pub answer_staged-requires-clause-reads : goal.answer_staged-requires-clause-reads

@@ -1,5 +1,4 @@
-use Rattle.std.proofs.Common.{ap, ◌∙◌, sym, rules}
-use Rattle.bw_batch.specs.View.{contents_of}
+use Rattle.std.proofs.Common.{rules}
 use Rattle.bw_batch.proofs.ContentsLemmas.{all_pairs}
 use Rattle.bw_batch.proofs.indexing.Index.contents.Goals as goal
 
