@@ -4,32 +4,32 @@ use Rattle.std.specs.List.{AllZip, Contains, flat_map}
 use Rattle.std.specs.Prelude.{MatchResult}
 use Rattle.std.specs.declared.vec.Vec.{Vec}
 use Rattle.std.proofs.lemmas.List.{map-append, take-map}
-use Rattle.bw_answer.specs.Parts.{places_in, spanned}
-use Rattle.bw_answer.specs.Points.{Entry, entries_of, places_of}
-use Rattle.bw_answer.specs.Standing.{StandingView, answer_to, answers_to}
+use Rattle.bw_answer.specs.Parts.{places_in, elements_in}
+use Rattle.bw_group.specs.Points.{Entry, entries_of, places_of}
+use Rattle.bw_answer.specs.Replies.{ReaderView, answer_to, answers_to}
 use Rattle.bw_answer.specs.declared.parts.Part.{Part}
 use Rattle.bw_answer.specs.declared.parts.Span.{Span}
-use Rattle.bw_answer.specs.declared.points.Point.{Point}
-use Rattle.bw_answer.specs.declared.standing.Answer.{Answer}
-use Rattle.bw_answer.proofs.Lists.{seen_rest}
+use Rattle.bw_group.specs.declared.grouping.Point.{Point}
+use Rattle.bw_answer.specs.declared.batch_reader.Answer.{Answer}
+use Rattle.bw_group.proofs.Lists.{seen_rest}
 
 -- a span of a list whose elements are seen through a function
-spanned_seen : {X Y : Type 0} (f : X → Y) (span : Span) (xs : List X) → map f (spanned span xs) ≡ spanned span (map f xs)
+spanned_seen : {X Y : Type 0} (f : X → Y) (span : Span) (xs : List X) → map f (elements_in span xs) ≡ elements_in span (map f xs)
 spanned_seen f span xs = sym (take-map f (span.end - span.start) (drop span.start xs)) ∙ ap (take (span.end - span.start)) (seen_rest f span.start xs)
 
 -- the points of a part and its scans, answered one after the other
-pub both_answered : (batch : StandingView) (ps : List Point) (scans : List ℕ) (part : Part) (none some all : List Answer) → none ≡ [] →
-    some ≡ none ++ answers_to batch (places_of (entries_of (spanned part.points ps))) → all ≡ some ++ answers_to batch (spanned part.scans scans) →
+pub both_answered : (batch : ReaderView) (ps : List Point) (scans : List ℕ) (part : Part) (none some all : List Answer) → none ≡ [] →
+    some ≡ none ++ answers_to batch (places_of (entries_of (elements_in part.points ps))) → all ≡ some ++ answers_to batch (elements_in part.scans scans) →
     all ≡ answers_to batch (places_in (places_of (entries_of ps)) scans part)
 both_answered batch ps scans part none some all empty points rest =
-    let places : places_of (entries_of (spanned part.points ps)) ≡ spanned part.points (places_of (entries_of ps)) =
+    let places : places_of (entries_of (elements_in part.points ps)) ≡ elements_in part.points (places_of (entries_of ps)) =
     ap places_of (spanned_seen (λ (p : Point). (p.key.now, p.place)) part.points ps) ∙ spanned_seen (λ (e : Entry). e.1) part.points (entries_of ps) in
     rest
-    ∙ ap (λ l. l ++ answers_to batch (spanned part.scans scans)) (points ∙ ap (λ l. l ++ answers_to batch (places_of (entries_of (spanned part.points ps)))) empty)
-    ∙ sym (map-append (answer_to batch) (places_of (entries_of (spanned part.points ps))) (spanned part.scans scans))
-    ∙ ap (λ l. answers_to batch (l ++ spanned part.scans scans)) places
+    ∙ ap (λ l. l ++ answers_to batch (elements_in part.scans scans)) (points ∙ ap (λ l. l ++ answers_to batch (places_of (entries_of (elements_in part.points ps)))) empty)
+    ∙ sym (map-append (answer_to batch) (places_of (entries_of (elements_in part.points ps))) (elements_in part.scans scans))
+    ∙ ap (λ l. answers_to batch (l ++ elements_in part.scans scans)) places
 
-module _ (batch : StandingView) (points scans : List ℕ) where
+module _ (batch : ReaderView) (points scans : List ℕ) where
   gathered : (Z E : Type 0) (parts : List Part) (lists : List (Vec Answer Z)) →
       AllZip (λ part (r : Result (Vec Answer Z) E). IfOk r (λ answers. answers.items ≡ answers_to batch (places_in points scans part))) parts (map Ok lists) →
       flat_map (λ (list : Vec Answer Z). list.items) lists ≡ answers_to batch (flat_map (places_in points scans) parts)

@@ -1,12 +1,8 @@
-mod Lists
-mod Entries
-mod Groups
+mod ListLemmas
+mod WriteGroups
 pub mod ReplyLemmas
-mod Wholes
 mod PartLemmas
 mod Gathered
 mod Placed
 mod Replied
-mod RunLemmas
-mod HomeLemmas
-mod ReadOnly
+mod GroupReads

@@ -6,16 +6,17 @@ use Rattle.std.proofs.lemmas.Bool.{cases_eq}
 use Rattle.std.proofs.lemmas.List.{length-set}
 use Rattle.bw_model.specs.declared.operations.Reply.{Reply}
 use Rattle.bw_model.specs.declared.operations.Reply.TheVariants.{Absent}
-use Rattle.bw_answer.specs.declared.standing.Answer.{Answer}
-use Rattle.bw_answer.specs.Standing.{StandingView, contents_before, replies_to, answers_to, with_answers}
-use Rattle.bw_answer.proofs.Lists.{all_back, all_front, get_other, get_set, same_list}
+use Rattle.bw_answer.specs.declared.batch_reader.Answer.{Answer}
+use Rattle.bw_answer.specs.Replies.{ReaderView, contents_before, replies_to, answers_to, with_answers}
+use Rattle.bw_group.proofs.Lists.{get_other, get_set}
+use Rattle.bw_answer.proofs.ListLemmas.{all_back, all_front, same_list}
 use Rattle.bw_answer.proofs.ReplyLemmas.{replies_length}
 
 -- the reply at this place is the one that the batch wants there
-abbrev pub IsAnswered : StandingView → List Reply → ℕ → Type 0
+abbrev pub IsAnswered : ReaderView → List Reply → ℕ → Type 0
 IsAnswered batch replies place = slice_get replies place ≡ slice_get (replies_to batch) place
 
-abbrev pub IsPlace : StandingView → ℕ → Type 0
+abbrev pub IsPlace : ReaderView → ℕ → Type 0
 IsPlace batch place = place < length (replies_to batch)
 
 pub placed_length : (replies : List Reply) (answers : List Answer) → length (with_answers replies answers) ≡ length replies
@@ -23,11 +24,11 @@ placed_length replies [] = refl
 placed_length replies (a ∷ rest) = placed_length (slice_set replies a.place a.reply) rest ∙ length-set replies a.place a.reply
 
 -- the answers to places are at these places
-pub all_within : (batch : StandingView) (n : ℕ) (places : List ℕ) → AllByRecursion (λ place. place < n) places → AllByRecursion (λ (a : Answer). a.place < n) (answers_to batch places)
+pub all_within : (batch : ReaderView) (n : ℕ) (places : List ℕ) → AllByRecursion (λ place. place < n) places → AllByRecursion (λ (a : Answer). a.place < n) (answers_to batch places)
 all_within batch n [] all = tt
 all_within batch n (place ∷ places) all = (all.0, all_within batch n places all.1)
 
-module _ (batch : StandingView) where
+module _ (batch : ReaderView) where
   there : (rs : List Reply) (i : ℕ) → i < length rs → slice_get rs i ≡ Some (get_or rs i Absent)
   there [] i lt = absurd (omega arith)
   there (r ∷ rs) zero lt = refl

@@ -3,20 +3,32 @@ use Rattle.std.proofs.Common.{◌≡◌, ℕ, ◌<◌, List, [], ◌∷◌, leng
 use Rattle.std.specs.List.{AllByRecursion, flat_map}
 use Rattle.bw_model.specs.declared.operations.Op.{Op}
 use Rattle.bw_model.specs.declared.operations.Reply.{Reply}
-use Rattle.bw_answer.specs.Parts.{places_in, spanned}
-use Rattle.bw_answer.specs.Points.{Entry, places_of, AreGrouped, GroupingView, IsScanOf}
-use Rattle.bw_answer.specs.Standing.{StandingView, contents_before, replies_to, answers_to, with_answers}
+use Rattle.bw_answer.specs.Parts.{places_in, elements_in}
+use Rattle.bw_group.specs.Points.{Entry, entries_from, places_of, scans_from, AreGrouped, GroupingView, HasRisingPlaces, IsScanOf}
+use Rattle.bw_answer.specs.Replies.{ArePointsOf, ReaderView, contents_before, replies_to, answers_to, with_answers}
 use Rattle.bw_answer.specs.declared.parts.Part.{Part}
-use Rattle.bw_answer.proofs.Entries.{places_within, scan_within}
-use Rattle.bw_answer.proofs.Lists.{all_same}
+use Rattle.bw_group.proofs.Entries.{entries_rise, places_within, rising_at, scan_within}
+use Rattle.bw_group.proofs.Lists.{all_same}
 use Rattle.bw_answer.proofs.PartLemmas.{in_parts, points_of_parts, scans_of_parts}
 use Rattle.bw_answer.proofs.Placed.{all_placed, all_replied, placed_length, IsAnswered}
 use Rattle.bw_answer.proofs.ReplyLemmas.{replies_length}
-use Rattle.bw_answer.proofs.Wholes.{at_each_place, batch_entries, batch_scans}
+use Rattle.bw_group.proofs.Wholes.{at_each_place, batch_entries, batch_scans}
 
 of_entries : (P : ℕ → Type 0) (es : List Entry) → AllByRecursion (λ e. P e.1) es → AllByRecursion P (places_of es)
 of_entries P [] all = tt
 of_entries P (e ∷ es) all = (all.0, of_entries P es all.1)
+
+-- the points of a batch, and its scans
+pub grouped_points : (batch : GroupingView) → AreGrouped batch → (ops : List Op) (points : List Entry) → ops ≡ batch.ops → points ≡ batch.points → ArePointsOf ops points
+grouped_points batch grouped ops points ops_are points_are =
+    subst (λ (l : List Op). ArePointsOf l points) (sym ops_are) (subst (ArePointsOf batch.ops) (sym points_are) (record {
+      sorted = grouped.sorted;
+      entries = batch_entries batch.ops batch.points grouped.same;
+      rising = λ key. subst (HasRisingPlaces 0) (sym (grouped.same key)) (rising_at key 0 (entries_from 0 batch.ops) (entries_rise 0 batch.ops));
+    }))
+
+pub grouped_scans : (batch : GroupingView) → AreGrouped batch → (ops : List Op) (scans : List ℕ) → ops ≡ batch.ops → scans ≡ batch.scans → AllByRecursion (IsScanOf ops) scans
+grouped_scans batch grouped ops scans ops_are scans_are = batch_scans ops scans (scans_are ∙ grouped.scans ∙ ap (scans_from 0) (sym ops_are))
 
 -- the places of all parts are those of operations
 pub places_are : (batch : GroupingView) → AreGrouped batch → (n : ℕ) → length batch.ops ≡ n → (parts : List Part) → AllByRecursion (λ place. place < n) (flat_map (places_in (places_of batch.points) batch.scans) parts)
@@ -27,8 +39,8 @@ places_are batch grouped n size parts =
     parts
 
 -- where the parts have all points and all scans, their answers are all replies
-pub parts_replied : (batch : StandingView) (grouping : GroupingView) → AreGrouped grouping → grouping.ops ≡ batch.ops → (parts : List Part) →
-    flat_map (λ part. spanned part.points (places_of grouping.points)) parts ≡ places_of grouping.points → flat_map (λ part. spanned part.scans grouping.scans) parts ≡ grouping.scans →
+pub parts_replied : (batch : ReaderView) (grouping : GroupingView) → AreGrouped grouping → grouping.ops ≡ batch.ops → (parts : List Part) →
+    flat_map (λ part. elements_in part.points (places_of grouping.points)) parts ≡ places_of grouping.points → flat_map (λ part. elements_in part.scans grouping.scans) parts ≡ grouping.scans →
     (replies : List Reply) → length replies ≡ length batch.ops → with_answers replies (answers_to batch (flat_map (places_in (places_of grouping.points) grouping.scans) parts)) ≡ replies_to batch
 parts_replied batch grouping grouped ops parts points scans replies len =
     let places = flat_map (places_in (places_of grouping.points) grouping.scans) parts in

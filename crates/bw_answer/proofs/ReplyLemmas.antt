@@ -14,11 +14,14 @@ use Rattle.bw_delta.specs.Rising.{HasRisingStamps}
 use Rattle.bw_delta.specs.Readings.{from_stamp}
 use Rattle.bw_delta.proofs.Readings.{all_left, resumed, left_later}
 use Rattle.bw_tree.specs.View.{contents_at}
-use Rattle.bw_answer.specs.Points.{key_of, Entry, entries_of, places_of, HasRisingPlaces}
-use Rattle.bw_answer.specs.declared.points.Point.{Point}
-use Rattle.bw_answer.specs.declared.standing.Answer.{Answer}
-use Rattle.bw_answer.specs.Standing.{StandingView, IsReadInTurn, contents_before, replies_to, answer_to, answers_to, IsReadBy, IsReplyAt}
-use Rattle.bw_answer.proofs.Lists.{drop_next, take_to}
+use Rattle.bw_group.specs.Points.{Entry, entries_of, places_of, HasRisingPlaces}
+use Rattle.bw_model.specs.Model.{key_of}
+use Rattle.bw_group.specs.declared.grouping.Point.{Point}
+use Rattle.bw_answer.specs.declared.batch_reader.Answer.{Answer}
+use Rattle.bw_answer.specs.Replies.{ReaderView, IsReadInTurn, contents_before, replies_to, answer_to, answers_to, IsReadBy}
+use Rattle.bw_model.specs.Model.{IsReplyAt}
+use Rattle.bw_group.proofs.Lists.{take_to}
+use Rattle.bw_answer.proofs.ListLemmas.{drop_next}
 
 -- a reply of a batch
 pub reply_at : (ops : List Op) (m : Contents ValueBytes) (i : ℕ) → slice_get (replies_of ops m) i ≡ option_map (λ op. reply_of op (contents_after (take i ops) m)) (slice_get ops i)
@@ -32,7 +35,7 @@ replies_length [] m = refl
 replies_length (op ∷ ops) m = ap suc (replies_length ops (after op m))
 
 -- the reply to the operation at a place, by the map as of its stamp
-pub reply_there : (batch : StandingView) → IsReadInTurn batch → (place : ℕ) (op : Op) → slice_get batch.ops place ≡ Some op →
+pub reply_there : (batch : ReaderView) → IsReadInTurn batch → (place : ℕ) (op : Op) → slice_get batch.ops place ≡ Some op →
     slice_get (replies_to batch) place ≡ Some (reply_of op (contents_at batch.tree (batch.base + place)))
 reply_there batch q place op is =
     let m = contents_before batch in
@@ -41,7 +44,7 @@ reply_there batch q place op is =
     ∙ ap (λ (n : Contents ValueBytes). Some (reply_of op n)) (sym (q.reads place))
 
 -- the answer at the place of an operation
-pub answer_there : (batch : StandingView) → IsReadInTurn batch → (place : ℕ) (op : Op) (reply : Reply) → slice_get batch.ops place ≡ Some op →
+pub answer_there : (batch : ReaderView) → IsReadInTurn batch → (place : ℕ) (op : Op) (reply : Reply) → slice_get batch.ops place ≡ Some op →
     reply ≡ reply_of op (contents_at batch.tree (batch.base + place)) → record { place = place; reply = reply } ≡ answer_to batch place
 answer_there batch q place op reply is answers =
     ap (λ (r : Reply). record { place = place; reply = r }) (answers ∙ sym (found (replies_to batch) place (reply_there batch q place op is)))
@@ -58,7 +61,7 @@ answer_there batch q place op reply is answers =
     found (r ∷ rs) (suc i) e = found rs i e
 
 -- answers with those of further places behind them
-pub more_answers : (batch : StandingView) (before answers answers' : List Answer) (places more : List ℕ) → answers ≡ before ++ answers_to batch places →
+pub more_answers : (batch : ReaderView) (before answers answers' : List Answer) (places more : List ℕ) → answers ≡ before ++ answers_to batch places →
     answers' ≡ answers ++ answers_to batch more → answers' ≡ before ++ answers_to batch (places ++ more)
 more_answers batch before answers answers' places more so is =
     is
@@ -66,18 +69,18 @@ more_answers batch before answers answers' places more so is =
     ∙ append_assoc before (answers_to batch places) (answers_to batch more)
     ∙ ap (λ l. before ++ l) (sym (map-append (answer_to batch) places more))
 
-pub no_answers : (batch : StandingView) (before : List Answer) → before ≡ before ++ answers_to batch []
+pub no_answers : (batch : ReaderView) (before : List Answer) → before ≡ before ++ answers_to batch []
 no_answers batch before = sym (append-nil before)
 
 -- What was answered of a group of entries, and what is known of the value at their key.
-pub record IsAnswering (batch : StandingView) (start : Option ValueBytes) (ws : List WriteView) (all : List Entry) (n : ℕ) (before answers : List Answer) (stamp : ℕ) (value : Option ValueBytes) (rest : List WriteView) : Type 0 where
+pub record IsAnswering (batch : ReaderView) (start : Option ValueBytes) (ws : List WriteView) (all : List Entry) (n : ℕ) (before answers : List Answer) (stamp : ℕ) (value : Option ValueBytes) (rest : List WriteView) : Type 0 where
   pub reads : value ≡ history start (action_at ws) stamp
   pub left : rest ≡ from_stamp stamp ws
   pub low : ℕ
   pub upto : (stamp ≤ batch.base + low) × HasRisingPlaces low (drop n all)
   pub done : answers ≡ before ++ answers_to batch (places_of (take n all))
 
-pub answering_none : (batch : StandingView) (start : Option ValueBytes) (ws : List WriteView) → HasRisingStamps 0 ws → (all : List Entry) (answers : List Answer) (value : Option ValueBytes) (rest : List WriteView) → HasRisingPlaces 0 all →
+pub answering_none : (batch : ReaderView) (start : Option ValueBytes) (ws : List WriteView) → HasRisingStamps 0 ws → (all : List Entry) (answers : List Answer) (value : Option ValueBytes) (rest : List WriteView) → HasRisingPlaces 0 all →
     value ≡ start → rest ≡ ws → IsAnswering batch start ws all 0 answers answers 0 value rest
 unfolding history
 answering_none batch start ws stamps all answers value rest rising is left = record {
@@ -89,7 +92,7 @@ answering_none batch start ws stamps all answers value rest rising is left = rec
 }
 
 -- one entry further
-pub answer_more : (batch : StandingView) → IsReadInTurn batch → (start : Option ValueBytes) (ws : List WriteView) → HasRisingStamps 0 ws → (all : List Entry) (n : ℕ) (before answers answers' : List Answer) (stamp : ℕ) (value : Option ValueBytes) (rest : List WriteView)
+pub answer_more : (batch : ReaderView) → IsReadInTurn batch → (start : Option ValueBytes) (ws : List WriteView) → HasRisingStamps 0 ws → (all : List Entry) (n : ℕ) (before answers answers' : List Answer) (stamp : ℕ) (value : Option ValueBytes) (rest : List WriteView)
     (e : Entry) (op : Op) (value' : Option ValueBytes) (rest' : List WriteView) (reply : Reply) → n < length all → (d : Entry) → get_or all n d ≡ e → slice_get batch.ops e.1 ≡ Some op → key_of op ≡ Some e.0 →
     IsReadBy batch.tree start ws e.0 → IsAnswering batch start ws all n before answers stamp value rest →
     value' ≡ history value (action_at rest) (batch.base + e.1) → rest' ≡ from_stamp (batch.base + e.1) rest →
@@ -117,20 +120,20 @@ answer_more batch q start ws stamps all n before answers answers' stamp value re
           ∙ ap (λ l. before ++ answers_to batch l) (sym places);
     }
 
-pub all_answering : (batch : StandingView) (start : Option ValueBytes) (ws : List WriteView) (all : List Entry) (n : ℕ) (before answers : List Answer) (stamp : ℕ) (value : Option ValueBytes) (rest : List WriteView) → length all ≤ n →
+pub all_answering : (batch : ReaderView) (start : Option ValueBytes) (ws : List WriteView) (all : List Entry) (n : ℕ) (before answers : List Answer) (stamp : ℕ) (value : Option ValueBytes) (rest : List WriteView) → length all ≤ n →
     IsAnswering batch start ws all n before answers stamp value rest → answers ≡ before ++ answers_to batch (places_of all)
 all_answering batch start ws all n before answers stamp value rest le so = so.done ∙ ap (λ (l : List Entry). before ++ answers_to batch (places_of l)) (take_all n all le)
 
 -- The points up to a place are answered.
-pub record AreAnsweredTo (batch : StandingView) (ps : List Point) (n : ℕ) (before answers : List Answer) : Type 0 where
+pub record AreAnsweredTo (batch : ReaderView) (ps : List Point) (n : ℕ) (before answers : List Answer) : Type 0 where
   pub within : n ≤ length ps
   pub done : answers ≡ before ++ answers_to batch (places_of (entries_of (take n ps)))
 
-pub answered_none : (batch : StandingView) (ps : List Point) (answers : List Answer) → AreAnsweredTo batch ps 0 answers answers
+pub answered_none : (batch : ReaderView) (ps : List Point) (answers : List Answer) → AreAnsweredTo batch ps 0 answers answers
 answered_none batch ps answers = record { within = omega arith; done = no_answers batch answers }
 
 -- and so with a part more
-pub part_answered : (batch : StandingView) (ps : List Point) (n m : ℕ) (before answers answers' : List Answer) → n ≤ m → m ≤ length ps → AreAnsweredTo batch ps n before answers →
+pub part_answered : (batch : ReaderView) (ps : List Point) (n m : ℕ) (before answers answers' : List Answer) → n ≤ m → m ≤ length ps → AreAnsweredTo batch ps n before answers →
     answers' ≡ answers ++ answers_to batch (places_of (entries_of (take (m - n) (drop n ps)))) → AreAnsweredTo batch ps m before answers'
 part_answered batch ps n m before answers answers' le bound so more =
     let front = take n ps in
@@ -145,11 +148,11 @@ part_answered batch ps n m before answers answers' le bound so more =
           ∙ ap (λ l. before ++ answers_to batch l) (sym both);
     }
 
-pub all_answered : (batch : StandingView) (ps : List Point) (n : ℕ) (before answers : List Answer) → length ps ≤ n → AreAnsweredTo batch ps n before answers → answers ≡ before ++ answers_to batch (places_of (entries_of ps))
+pub all_answered : (batch : ReaderView) (ps : List Point) (n : ℕ) (before answers : List Answer) → length ps ≤ n → AreAnsweredTo batch ps n before answers → answers ≡ before ++ answers_to batch (places_of (entries_of ps))
 all_answered batch ps n before answers le so = so.done ∙ ap (λ (l : List Point). before ++ answers_to batch (places_of (entries_of l))) (take_all n ps le)
 
 -- one scan more
-pub scan_more : (batch : StandingView) → IsReadInTurn batch → (scans : List ℕ) (n place : ℕ) (op : Op) (before answers answers' : List Answer) (reply : Reply) → n < length scans → place ≡ get_or scans n place → slice_get batch.ops place ≡ Some op →
+pub scan_more : (batch : ReaderView) → IsReadInTurn batch → (scans : List ℕ) (n place : ℕ) (op : Op) (before answers answers' : List Answer) (reply : Reply) → n < length scans → place ≡ get_or scans n place → slice_get batch.ops place ≡ Some op →
     reply ≡ reply_of op (contents_at batch.tree (batch.base + place)) → answers ≡ before ++ answers_to batch (take n scans) → answers' ≡ answers ++ record { place = place; reply = reply } ∷ [] →
     answers' ≡ before ++ answers_to batch (take (n + 1) scans)
 scan_more batch q scans n place op before answers answers' reply lt at is answers_it so added =

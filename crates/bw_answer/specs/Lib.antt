@@ -1,4 +1,3 @@
-pub mod Points
-pub mod Homes
 pub mod Parts
-pub mod Standing
+pub mod Replies
+pub mod WriteGroups

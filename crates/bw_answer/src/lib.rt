@@ -1,22 +1,17 @@
-//! The replies to a batch, read from a tree in which its writes stand, and the pages of its keys.
+//! The replies to a batch, read from a tree in which its writes stand.
 //!
 //! Operation i of a batch has the stamp `base + i`, and is answered by reading the tree as of its stamp. So the replies
-//! don't depend on the order in which the writes were put in the chains, nor on how the batch is cut into parts that are
-//! answered side by side.
+//! don't depend on the order in which the writes were put in the chains, nor on how the batch is cut into parts that
+//! are answered side by side.
 #![tactic(auto)]
 
-mod answering;
+mod batch_reader;
+mod batch_replies;
 mod parts;
-mod points;
-mod runs;
-mod standing;
-#[cfg(test)]
-mod tests;
-mod writes;
+mod write_groups;
 
-pub use answering::replies;
-pub use points::Grouping;
-pub use runs::homes;
+pub use batch_replies::{replies, replies_in_parts};
+pub use parts::count_parts;
 
 /// Want of memory.
 pub use bw_key::Memory;

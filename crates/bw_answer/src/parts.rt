@@ -1,7 +1,7 @@
 // The parts into which the points and the scans of a batch are cut, one for each task.
-ghost use Rattle.std.specs.Prelude.{◌≡◌, ℕ, ◌+◌, ◌<◌, ◌≤◌, List, length, IfOk, flat_map};
+ghost use Rattle.std.specs.Prelude.{◌≡◌, ◌+◌, ◌*◌, ◌<◌, ◌≤◌, ◌⊎◌, length, max, min, IfOk};
 ghost use Rattle.std.specs.List.{AllByRecursion};
-ghost use Rattle.bw_answer.specs.Parts.{IsPartOf, IsSpanOf, spanned};
+ghost use Rattle.bw_answer.specs.Parts.{Cover, HasShares, IsPartOf, IsSpanOf};
 
 use bw_key::Memory;
 use bw_memory::Alloc;
@@ -26,10 +26,12 @@ pub(crate) struct Part {
     pub(crate) scans: Span,
 }
 
-/// Into how many parts to cut so many points and scans: one for each worker, and fewer where they aren't worth a thread
-/// each.
-pub(crate) fn count_parts(points: usize, scans: usize, workers: u64) -> usize
-    ensures { 0 < result }
+/// Into how many parts `replies` cuts a batch of so many operations on one key each and so many scans: one for each
+/// worker, and fewer where they aren't worth a thread each. That takes 1,024 operations, or 64 scans, for each part.
+pub fn count_parts(points: usize, scans: usize, workers: u64) -> usize
+    ensures some { 0 < result }
+    ensures workers { result ≤ max 1 workers }
+    ensures worth { 1 < result → (result * 1024 ≤ points) ⊎ (result * 64 ≤ scans) }
 {
     let most = (points / LEAST_POINTS).max(scans / LEAST_SCANS) as u64;
     most.min(workers).max(1) as usize
@@ -44,8 +46,10 @@ pub(crate) fn parts(
 ) -> Result<Vec<Part, Alloc>, Memory>
     requires { 0 < count }
     ensures within { IfOk result (λ parts. AllByRecursion (IsPartOf points scans) parts.items) }
-    ensures points { IfOk result (λ parts. (xs : List ℕ) → length xs ≡ points → flat_map (λ part. spanned part.points xs) parts.items ≡ xs) }
-    ensures scans { IfOk result (λ parts. (xs : List ℕ) → length xs ≡ scans → flat_map (λ part. spanned part.scans xs) parts.items ≡ xs) }
+    ensures few { IfOk result (λ parts. length parts.items ≤ count) }
+    ensures shares { IfOk result (λ parts. AllByRecursion (HasShares count points scans) parts.items) }
+    ensures points { IfOk result (λ parts. Cover (λ part. part.points) points parts.items) }
+    ensures scans { IfOk result (λ parts. Cover (λ part. part.scans) scans parts.items) }
 {
     let most_points = points.div_ceil(count).max(1);
     let most_scans = scans.div_ceil(count).max(1);
@@ -69,6 +73,7 @@ fn next_span(start: usize, most: usize, len: usize) -> Span
     requires most { 0 < most }
     requires start { start ≤ len }
     ensures start { result.start ≡ start }
+    ensures end { result.end ≡ min (start + most) len }
     ensures within { IsSpanOf len result }
     ensures more { start < len → start < result.end }
 {

@@ -1,3 +1,4 @@
-pub mod RunsLemmas
-pub mod RunningLemmas
+pub mod OutcomesLemmas
+pub mod BatchLemmas
 pub mod ContentsLemmas
+pub mod FoldsLemmas

@@ -3,11 +3,14 @@ use Rattle.std.specs.Prelude.{◌≡◌, ℕ, ◌+◌, ◌≤◌, List, [], ◌�
 use Rattle.bw_memory.specs.Alloc.{Vec}
 use Rattle.bw_core.specs.Keeping.{pairs_of}
 use Rattle.bw_delta.specs.Batches.{writes_of}
+use Rattle.bw_model.specs.Model.{contents_after}
 use Rattle.bw_model.specs.Runs.{Outcome}
 use Rattle.bw_model.specs.declared.operations.Op.{Op}
 use Rattle.bw_model.specs.declared.outcomes.Refusal.{Refusal}
-use Rattle.bw_batch.specs.declared.indexing.Done.{Done}
-use Rattle.bw_batch.specs.declared.indexing.Tidy.{Tidy}
+use Rattle.bw_batch.specs.Folds.{HasTidied, records_with, walked_after}
+use Rattle.bw_batch.specs.View.{IndexView, contents_of, leaves_of, next_stamp_of, settings_of}
+use Rattle.bw_batch.specs.declared.index.Done.{Done}
+use Rattle.bw_batch.specs.declared.index.Tidy.{Tidy}
 
 -- the batches that vectors hold
 abbrev pub batches_of : List (Vec Op) → List (List Op)
@@ -36,13 +39,34 @@ nothing_tidied = record { consolidated = 0; splits = 0; merges = 0; stopped = fa
 
 -- What else is told of an accepted batch: nothing was tidied, and no more exchanges were lost than its writes can lose to
 -- one another.
-abbrev pub IsTold : List Op → Result Done Refusal → Type 0
-IsTold ops (Ok done) = (done.tidy ≡ nothing_tidied) × (done.lost ≤ pairs_of (length (writes_of 0 ops)))
-IsTold ops (Err refusal) = Unit {0}
+abbrev pub IsCounted : List Op → Result Done Refusal → Type 0
+IsCounted ops (Ok done) = (done.tidy ≡ nothing_tidied) × (done.lost ≤ pairs_of (length (writes_of 0 ops)))
+IsCounted ops (Err refusal) = Unit {0}
 
 -- the same of batches in turn
-abbrev pub AreTold : List (List Op) → List (Result Done Refusal) → Type 0
-AreTold [] [] = Unit {0}
-AreTold (ops ∷ batches) (outcome ∷ outcomes) = IsTold ops outcome × AreTold batches outcomes
-AreTold [] (outcome ∷ outcomes) = ⊥
-AreTold (ops ∷ batches) [] = ⊥
+abbrev pub AreCounted : List (List Op) → List (Result Done Refusal) → Type 0
+AreCounted [] [] = Unit {0}
+AreCounted (ops ∷ batches) (outcome ∷ outcomes) = IsCounted ops outcome × AreCounted batches outcomes
+AreCounted [] (outcome ∷ outcomes) = ⊥
+AreCounted (ops ∷ batches) [] = ⊥
+
+-- the index before and behind an accepted batch
+pub record IsBehind (old new : IndexView) (ops : List Op) : Type 0 where
+  pub settings : settings_of new ≡ settings_of old
+  pub contents : contents_of new ≡ contents_after ops (contents_of old)
+  pub stamp : next_stamp_of new ≡ next_stamp_of old + length ops
+  pub leaves : leaves_of new ≡ leaves_of old
+  pub recorded : HasTidied old new (records_with old ops)
+  pub walked : new.walked ≡ walked_after old (records_with old ops)
+
+-- a refused batch changes nothing
+abbrev pub Changes : IndexView → IndexView → List Op → Result Done Refusal → Type 0
+Changes old new ops (Ok done) = IsBehind old new ops
+Changes old new ops (Err refusal) = new ≡ old
+
+-- each batch changes what the one before it left
+abbrev pub ChangesInTurn : IndexView → IndexView → List (List Op) → List (Result Done Refusal) → Type 0
+ChangesInTurn old new [] [] = new ≡ old
+ChangesInTurn old new (ops ∷ batches) (outcome ∷ outcomes) = (between : IndexView) × (Changes old between ops outcome × ChangesInTurn between new batches outcomes)
+ChangesInTurn old new [] (outcome ∷ outcomes) = ⊥
+ChangesInTurn old new (ops ∷ batches) [] = ⊥

@@ -10,17 +10,17 @@
 
 ghost use Rattle.std.specs.Prelude.{◌<◌};
 
-mod making;
+mod workload;
 
 use anyhow::{Context, Result, bail};
 use bw_batch::{Index, Key, Op, OpenGate, Options, Tree, Value};
 use bw_memory::{Alloc, Heap};
-use making::{Kind, Random, answer, drawn, leaves_for, upserts};
 use std::collections::BTreeMap;
 use std::env;
 use std::num::nearest_u64_to_f64;
 use std::thread::Threads;
 use std::time::{Clock, Duration, Instant};
+use workload::{Kind, Random, answer, drawn, leaves_for, upserts};
 
 // Operations of the longest batch.
 const BATCH: u64 = 65_536;

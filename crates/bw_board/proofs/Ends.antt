@@ -1,21 +1,27 @@
 -- The table at the start and at the end.
-use Rattle.std.proofs.Common.{◌-◌, ◌⊎◌, inl, inr, ⊎_elim, eqb, ◌≤◌, ◌≢◌, Option, Bool, min, ◌≡◌, ℕ, zero, suc, ◌+◌, ◌<◌, ltb, map, true, false, List, [], ◌∷◌, ◌++◌, length, get_or, take, drop, sym, refl, ap, ◌∙◌, subst, arith, Some, None}
+use Rattle.std.proofs.Common.{◌-◌, ◌⊎◌, inl, inr, ⊎_elim, eqb, ◌≤◌, ◌≢◌, Option, Bool, min, ◌≡◌, ℕ, zero, suc, ◌+◌, ◌<◌, ltb, map, true, false, List, [], ◌∷◌, ◌++◌, length, length-append, get_or, take, drop, sym, refl, ap, ◌∙◌, subst, arith, Some, None}
 use Rattle.std.proofs.lemmas.Bool.Decides.{nat_tests}
 use mathlib.Core.Option.{some, some-ne-none, some-injective}
 use native.Mathlib.Decide.{dec_le}
 use lib.ListN.{get_elem?, replicate}
 use Rattle.atomic_table.specs.Table.{State, opening, Final, Seen}
 use Rattle.atomic_table.proofs.Lists.{at_map}
+use Rattle.std.specs.List.{AllByRecursion}
+use Rattle.std.specs.List.Sorted.{IsStrictlyIncreasing}
 use Rattle.bw_core.specs.declared.BookView.{BookView}
 use Rattle.bw_core.specs.Steps.{CanStart}
 use Rattle.bw_core.proofs.Runs.{start_is_lawful}
 use Rattle.bw_core.proofs.Losses.{losses_bound}
-use Rattle.bw_core.specs.World.{owns, posts_in, spent, seen_at, late, wins_in, IsLast, Each, Meets, total, World, one_if, times, posts_at, IsEnd, LawfulBook, Lawful}
-use Rattle.bw_core.proofs.Lists.{late_other, one_same, one_other, total-append, Each-append, Each-like, few, meets_low, meets_same, total_at, late_first, total_two}
+use Rattle.bw_core.specs.World.{owns, posts_in, spent, seen_at, late, wins_in, IsLast, Meets, total, World, one_if, times, posts_at, IsEnd, LawfulBook, Lawful}
+use Rattle.bw_core.proofs.Lists.{late_other, one_same, one_other, total-append, AllByRecursion-append, AllByRecursion-like, few, meets_low, meets_same, total_at, late_first, total_two}
 use Rattle.bw_core.proofs.Events.{last_low}
+use Rattle.bw_board.specs.Plays.{Seated}
+use Rattle.bw_board.proofs.Kept.{sane}
+use Rattle.bw_board.proofs.Words.{get-left, get-right}
 use Rattle.bw_board.specs.declared.table.Sight.{Sight}
-use Rattle.bw_board.specs.Standing.{book_of, world, Knows, Standing, opening_sight}
-use Rattle.bw_board.specs.Public.{SeatView, Rising, Swapped, IsClosed, IsSound, HasEach}
+use Rattle.bw_board.specs.declared.table.Pair.{Pair}
+use Rattle.bw_board.specs.Rule.{book_of, world, KnowsBoard, HasLawfulWorld, opening_sight}
+use Rattle.bw_board.specs.Public.{SeatView, IsIdleSeat, EndsIn, EndsLate, HasEnd, AreSwapped, IsClosed, IsClosedPage, IsSound, HasEach}
 
 total_sole : (f : BookView → ℕ) (xs : List BookView) (i : ℕ) (v : BookView) → get_elem? xs i ≡ some v → ((j : ℕ) (w : BookView) → (j ≡ i → ⊥) → get_elem? xs j ≡ some w → f w ≡ 0) → total f xs ≡ f v
 total_sole f [] i v e h = absurd (some-ne-none v (sym e))
@@ -31,16 +37,31 @@ module _ (first : List ℕ) (floor records piece : ℕ) (spares : List (Option �
   only_sight zero b c e = some-injective b c e
   only_sight (suc i) b c e = absurd (some-ne-none c (sym e))
 
-  pub starts : CanStart first floor records piece spares → (words : List ℕ) → words ≡ 0 ∷ (first ++ replicate records 0) → Standing first floor records piece spares (opening words [] (opening_sight first floor records piece spares))
+  pub starts : CanStart first floor records piece spares → (words : List ℕ) → words ≡ 0 ∷ (first ++ replicate records 0) → HasLawfulWorld first floor records piece spares (opening words [] (opening_sight first floor records piece spares))
   starts can words are = record {
     next = 0;
     heads = first;
     links = replicate records 0;
     words_are = are;
     lawful = start_is_lawful first floor records piece spares can;
-    each_seat = λ i v e l. subst (λ (z : Sight). Knows first floor records piece spares (replicate records 0) z) (only_sight i (opening_sight first floor records piece spares) v e)
-        record { same_first = refl; same_floor = refl; same_records = refl; same_piece = refl; same_spares = refl; armed_link = λ u e a. let d : None ≡ Some u = e in absurd (cc) };
+    each_seat = λ i v e l. subst (λ (z : Sight). KnowsBoard first floor records piece spares (replicate records 0) z) (only_sight i (opening_sight first floor records piece spares) v e)
+        record { same_first = refl; same_floor = refl; same_records = refl; same_piece = refl; same_spares = refl; armed_link = λ u e a. let d : None ≡ Some u = e in absurd (cc); joined_seen = λ books e. let d : None ≡ Some books = e in absurd (cc) };
   }
+
+  -- the first seat is idle
+  pub opening_idle : CanStart first floor records piece spares → (m : Seated) → m ≡ (opening_sight first floor records piece spares, []) → IsIdleSeat m 1024 false
+  opening_idle can m is = let v : Sight = opening_sight first floor records piece spares in
+      let words : List ℕ = 0 ∷ (first ++ replicate records 0) in
+      subst (λ (z : Seated). IsIdleSeat z 1024 false) (sym is) record {
+        no_slots = refl;
+        live = refl;
+        idle = refl;
+        width_is = refl;
+        told_is = refl;
+        some_width = omega arith;
+        small_width = omega arith;
+        sane = sane first floor records piece spares (opening words [] v) (starts can words refl) 0 v refl refl;
+      }
 
   -- where a seat has every width, what it alone did is all that was done
   sole : (w : World) (q : Lawful w) (i : ℕ) (b : BookView) (f : BookView → ℕ) → f spent ≡ 0 → get_elem? w.books i ≡ some b → b.width ≡ 1024 → total f w.books ≡ f b
@@ -104,7 +125,7 @@ pub record Ended (z : SeatView) (hs ls : List ℕ) (p : ℕ) : Type 0 where
 all_claimed : (r next records : ℕ) → r < records → records ≤ next → one_if (ltb r (min next records)) ≡ 1
 all_claimed r next records h n = grind (arith, nat_tests)
 
-pub ends : (first : List ℕ) (floor records piece : ℕ) (spares : List (Option ℕ)) (id pages : ℕ) (v : Sight) (ws xs : List ℕ) (z : SeatView) → Final (Seen (Standing first floor records piece spares) id v) ws xs → v.book.live ≡ true → pages ≡ length first
+pub ends : (first : List ℕ) (floor records piece : ℕ) (spares : List (Option ℕ)) (id pages : ℕ) (v : Sight) (ws xs : List ℕ) (z : SeatView) → Final (Seen (HasLawfulWorld first floor records piece spares) id v) ws xs → v.book.live ≡ true → pages ≡ length first
     → z.board.first ≡ first → z.board.floor ≡ floor → z.board.records ≡ records → z.board.spares ≡ spares → z.book ≡ v.book → v.book.width ≡ 1024 → v.book.told ≡ true → ((r : ℕ) → owns r v.book ≤ posts_in r v.book.posted)
     → (let hs : List ℕ = take pages (drop 1 ws) in let ls : List ℕ = take records (drop (1 + pages) ws) in
     (length hs ≡ length z.board.first) × (length ls ≡ z.board.records) × ((p : ℕ) → p < length z.board.first → Ended z hs ls p) × ((r : ℕ) → r < z.board.records → posts_in r z.book.posted ≡ 1))
@@ -136,7 +157,7 @@ ends first floor records piece spares id pages v ws xs z f live wide e1 e2 e3 e5
     let is : z' ≡ z = sym (λ j. record { board = record { table = z.board.table; first = e1 j; floor = e2 j; records = e3 j; piece = z.board.piece; spares = e5 j }; book = e4 j }) in
     subst (λ (k : SeatView × (List ℕ × List ℕ)). (length k.1.0 ≡ length k.0.board.first) × (length k.1.1 ≡ k.0.board.records) × ((p : ℕ) → p < length k.0.board.first → Ended k.0 k.1.0 k.1.1 p) × ((r : ℕ) → r < k.0.board.records → posts_in r k.0.book.posted ≡ 1)) (λ j. (is j, (hs j, ls j))) plain
 
-pub ends_each : (first : List ℕ) (floor records piece : ℕ) (spares : List (Option ℕ)) (id : ℕ) (v : Sight) (ws xs : List ℕ) (z : SeatView) → Final (Seen (Standing first floor records piece spares) id v) ws xs
+pub ends_each : (first : List ℕ) (floor records piece : ℕ) (spares : List (Option ℕ)) (id : ℕ) (v : Sight) (ws xs : List ℕ) (z : SeatView) → Final (Seen (HasLawfulWorld first floor records piece spares) id v) ws xs
     → z.board.records ≡ records → z.board.spares ≡ spares → z.book ≡ v.book → v.book.width ≡ 1024 → v.book.told ≡ true → ((r : ℕ) → owns r v.book ≤ posts_in r v.book.posted) → HasEach z × IsSound z
 ends_each first floor records piece spares id v ws xs z f e3 e5 e4 whole told all = let s : State ℕ Sight = f.0 in let t = f.1.0 in let q = t.lawful in
     let at' = at_map book_of s.views id v f.1.1 in let ok = q.each id v.book at' in
@@ -144,25 +165,34 @@ ends_each first floor records piece spares id v ws xs z f e3 e5 e4 whole told al
     let z' : SeatView = record { board = record { table = z.board.table; first = z.board.first; floor = z.board.floor; records = records; piece = z.board.piece; spares = spares }; book = v.book } in
     let done : min t.next records ≡ records = (let n = q.claims.told_done id v.book at' told in omega arith) in
     let owned : (r : ℕ) → owns r v.book ≡ one_if (ltb r records) = λ r. sym (sole first floor records piece spares w q id v.book (λ b. owns r b) refl at' whole) ∙ (q.claims.owned_is r ∙ ap (λ n. one_if (ltb r n)) done) in
-    let each : HasEach z' = λ r. (owned r, let a = ok.posts_own r in let m = all r in let o = owned r in omega arith) in
+    let each : HasEach z' = record { owned = owned; posted = λ r. let a = ok.posts_own r in let m = all r in let o = owned r in omega arith } in
     let once : (r : ℕ) → owns r v.book ≤ 1 = λ r. (let a = total_at (λ (x : BookView). owns r x) w.books id v.book at' in let o = q.owned_once r in omega arith) in
-    let few = losses_bound w q id v.book at' in let sound : IsSound z' = (once, few.0, few.1) in
+    let few = losses_bound w q id v.book at' in let sound : IsSound z' = record { own_once = once; lost_few = few.0; lost_fewer = few.1 } in
     let is : z' ≡ z = sym (λ j. record { board = record { table = z.board.table; first = z.board.first; floor = z.board.floor; records = e3 j; piece = z.board.piece; spares = e5 j }; book = e4 j }) in
     subst (λ (k : SeatView). HasEach k × IsSound k) is (each, sound)
 
 pub closes : (z : SeatView) (hs ls sw : List ℕ) → length hs ≡ length z.board.first → length ls ≡ z.board.records → ((p : ℕ) → p < length z.board.first → Ended z hs ls p) → ((r : ℕ) → r < z.board.records → posts_in r z.book.posted ≡ 1)
-    → Swapped z.board.first z.board.floor hs ls (length z.board.first) sw → IsClosed z hs ls sw
-closes z hs ls sw a b each full s = (
-  a,
-  b,
-  s.rising,
-  s.within,
-  full,
-  λ p h. let e = each p h in let t = s.each_page p h in
-      let same : t.1 ≡ e.last = (meets_same z.board.floor ls (get_or hs p 0) t.0 e.chain t.1 e.last t.3 e.low t.2 e.met).1 in
-      let here : times p sw ≡ late (get_or z.board.first p 0) e.last = t.4 ∙ ap (late (get_or z.board.first p 0)) same in
-      (e.chain, e.last, e.met, e.is_last, here, here ∙ e.late_is, e.posts, e.once, e.seen),
-)
+    → AreSwapped z.board.first z.board.floor hs ls (length z.board.first) sw → IsClosed z hs ls sw
+closes z hs ls sw a b each full s = record {
+  head_each_page = a;
+  link_each_record = b;
+  rising = s.rising;
+  within = s.within;
+  posted = full;
+  each_page = λ p h. let e = each p h in let t = s.each_page p h in
+      let same : t.last ≡ e.last = (meets_same z.board.floor ls (get_or hs p 0) t.chain e.chain t.last e.last t.low e.low t.met e.met).1 in
+      let here : times p sw ≡ late (get_or z.board.first p 0) e.last = t.is_late ∙ ap (late (get_or z.board.first p 0)) same in record {
+        chain = e.chain;
+        last = e.last;
+        met = e.met;
+        is_last = e.is_last;
+        swapped_is = here;
+        won_is = here ∙ e.late_is;
+        posts = e.posts;
+        once = e.once;
+        seen = e.seen;
+      };
+}
 
 -- one step of a walk down a chain
 pub walk_down : (fl : ℕ) (links : List ℕ) (word : ℕ) (rest : List ℕ) (x : ℕ) → Meets fl links word rest x → x < fl → fl ≤ word
@@ -180,51 +210,66 @@ walk_end fl links word [] x m h = m
 walk_end fl links word (r ∷ rest) x m h = absurd (omega arith)
 
 -- one page more
-rising_more : (xs : List ℕ) (n : ℕ) → Rising xs → Each (λ p. p < n) xs → Rising (xs ++ n ∷ [])
-rising_more [] n h w = (tt, tt)
-rising_more (x ∷ xs) n h w = (Each-append _ xs (n ∷ []) h.0 (w.0, tt), rising_more xs n h.1 w.1)
+below_at : (n : ℕ) (xs : List ℕ) (k : ℕ) → AllByRecursion (λ p. p < n) xs → k < length xs → get_or xs k 0 < n
+below_at n [] k h l = absurd (omega arith)
+below_at n (x ∷ xs) zero h l = h.0
+below_at n (x ∷ xs) (suc k) h l = below_at n xs k h.1 (omega arith)
 
-not_yet : (n : ℕ) (xs : List ℕ) → Each (λ p. p < n) xs → times n xs ≡ 0
+rising_more : (xs : List ℕ) (n : ℕ) → IsStrictlyIncreasing xs → AllByRecursion (λ p. p < n) xs → IsStrictlyIncreasing (xs ++ n ∷ [])
+rising_more xs n up low k within =
+    let len = length-append xs (n ∷ []) in
+    let here : get_or (xs ++ n ∷ []) k 0 ≡ get_or xs k 0 = get-left xs (n ∷ []) k 0 (omega arith) in
+    elim (dec_le (length xs) (k + 1)) [
+      | yes d ↦ (let last : get_or (xs ++ n ∷ []) (k + 1) 0 ≡ n = get-right xs (n ∷ []) (k + 1) 0 0 (omega arith) in let l = below_at n xs k low (omega arith) in omega arith)
+      | no d ↦ (let next : get_or (xs ++ n ∷ []) (k + 1) 0 ≡ get_or xs (k + 1) 0 = get-left xs (n ∷ []) (k + 1) 0 (omega arith) in let l = up k (omega arith) in omega arith)
+    ]
+
+not_yet : (n : ℕ) (xs : List ℕ) → AllByRecursion (λ p. p < n) xs → times n xs ≡ 0
 not_yet n [] h = refl
 not_yet n (x ∷ xs) h = let a = not_yet n xs h.1 in let l = h.0 in let o = one_other x n (λ e. omega arith) in omega arith
 
-pub swapped_none : (first : List ℕ) (floor : ℕ) (hs ls : List ℕ) → Swapped first floor hs ls 0 []
-swapped_none first floor hs ls = record { rising = tt; within = tt; each_page = λ p h. absurd (omega arith) }
+pub swapped_none : (first : List ℕ) (floor : ℕ) (hs ls : List ℕ) → AreSwapped first floor hs ls 0 []
+swapped_none first floor hs ls = record { rising = λ k h. absurd (omega arith); within = tt; each_page = λ p h. absurd (omega arith) }
 
 at_or_below : (p n : ℕ) → p < n + 1 → (p ≡ n) ⊎ (p < n)
 at_or_below p n h = elim (dec_le n p) [ yes d ↦ inl (omega arith) | no d ↦ inr (omega arith) ]
 
-pub swapped_same : (first : List ℕ) (floor : ℕ) (hs ls : List ℕ) (n : ℕ) (sw chain : List ℕ) (x : ℕ) → Swapped first floor hs ls n sw → Meets floor ls (get_or hs n 0) chain x → x < floor → x ≡ get_or first n 0 → Swapped first floor hs ls (n + 1) sw
-swapped_same first floor hs ls n sw chain x s met low same = record {
+pub swapped_same : (first : List ℕ) (floor : ℕ) (hs ls : List ℕ) (n : ℕ) (sw : List ℕ) (x : ℕ) → AreSwapped first floor hs ls n sw → EndsIn floor hs ls n x → x ≡ get_or first n 0 → AreSwapped first floor hs ls (n + 1) sw
+swapped_same first floor hs ls n sw x s e same = record {
   rising = s.rising;
-  within = Each-like _ _ sw (λ z h. omega arith) s.within;
-  each_page = λ p h. ⊎_elim (λ (e : p ≡ n). subst (λ (z : ℕ). (chain : List ℕ) × (x : ℕ) × Meets floor ls (get_or hs z 0) chain x × (x < floor) × (times z sw ≡ late (get_or first z 0) x)) (sym e)
-      (chain, x, met, low, let a = not_yet n sw s.within in let b = late_first (get_or first n 0) x same in omega arith)) (λ l. s.each_page p l) (at_or_below p n h);
+  within = AllByRecursion-like _ _ sw (λ z h. omega arith) s.within;
+  each_page = λ p h. ⊎_elim (λ (i : p ≡ n). subst (λ (z : ℕ). EndsLate first floor hs ls z (times z sw)) (sym i) record {
+    chain = e.chain;
+    last = x;
+    met = e.met;
+    low = e.low;
+    is_late = let a = not_yet n sw s.within in let b = late_first (get_or first n 0) x same in omega arith;
+  }) (λ l. s.each_page p l) (at_or_below p n h);
 }
 
-pub swapped_more : (first : List ℕ) (floor : ℕ) (hs ls : List ℕ) (n : ℕ) (sw chain : List ℕ) (x : ℕ) → Swapped first floor hs ls n sw → Meets floor ls (get_or hs n 0) chain x → x < floor → x ≢ get_or first n 0 → Swapped first floor hs ls (n + 1) (sw ++ n ∷ [])
-swapped_more first floor hs ls n sw chain x s met low other = record {
+pub swapped_more : (first : List ℕ) (floor : ℕ) (hs ls : List ℕ) (n : ℕ) (sw : List ℕ) (x : ℕ) → AreSwapped first floor hs ls n sw → EndsIn floor hs ls n x → x ≢ get_or first n 0 → AreSwapped first floor hs ls (n + 1) (sw ++ n ∷ [])
+swapped_more first floor hs ls n sw x s e other = record {
   rising = rising_more sw n s.rising s.within;
-  within = Each-append _ sw (n ∷ []) (Each-like _ _ sw (λ z h. omega arith) s.within) (omega arith, tt);
+  within = AllByRecursion-append _ sw (n ∷ []) (AllByRecursion-like _ _ sw (λ z h. omega arith) s.within) (omega arith, tt);
   each_page = λ p h. let more : times p (sw ++ n ∷ []) ≡ times p sw + (one_if (eqb n p) + 0) = total-append (λ z. one_if (eqb z p)) sw (n ∷ []) in
-      ⊎_elim (λ (e : p ≡ n). (
-        chain,
-        x,
-        subst (λ z. Meets floor ls (get_or hs z 0) chain x) (sym e) met,
-        low,
-        (let a = not_yet n sw s.within in let a' : times p sw ≡ times n sw = ap (λ z. times z sw) e in let o = one_same n p (sym e) in
-            let b = late_other (get_or first p 0) x (λ z. other (z ∙ ap (λ y. get_or first y 0) e)) in omega arith),
-      ))
-      (λ (l : p < n). let t = s.each_page p l in let o = one_other n p (λ e. omega arith) in let e = t.4 in (t.0, t.1, t.2, t.3, omega arith)) (at_or_below p n h);
+      ⊎_elim (λ (i : p ≡ n). record {
+        chain = e.chain;
+        last = x;
+        met = subst (λ z. Meets floor ls (get_or hs z 0) e.chain x) (sym i) e.met;
+        low = e.low;
+        is_late = let a = not_yet n sw s.within in let a' : times p sw ≡ times n sw = ap (λ z. times z sw) i in let o = one_same n p (sym i) in
+            let b = late_other (get_or first p 0) x (λ z. other (z ∙ ap (λ y. get_or first y 0) i)) in omega arith;
+      })
+      (λ (l : p < n). let t = s.each_page p l in let o = one_other n p (λ e. omega arith) in let i = t.is_late in record { chain = t.chain; last = t.last; met = t.met; low = t.low; is_late = omega arith }) (at_or_below p n h);
 }
 
 pub chains_of : (z : SeatView) (hs ls first hs' ls' : List ℕ) (floor : ℕ) → first ≡ z.board.first → hs' ≡ hs → ls' ≡ ls → floor ≡ z.board.floor → ((p : ℕ) → p < length z.board.first → Ended z hs ls p)
-    → (p : ℕ) → p < length first → (chain : List ℕ) × (x : ℕ) × Meets floor ls' (get_or hs' p 0) chain x × (x < floor) × (length chain ≤ length ls')
+    → (p : ℕ) → p < length first → HasEnd floor hs' ls' p
 chains_of z hs ls first hs' ls' floor a b c d each p h = let e = each p (subst (λ z. p < length z) a h) in
-    subst (λ (k : ℕ × (List ℕ × List ℕ)). (chain : List ℕ) × (x : ℕ) × Meets k.0 k.1.1 (get_or k.1.0 p 0) chain x × (x < k.0) × (length chain ≤ length k.1.1)) (λ j. (sym d j, (sym b j, sym c j))) (e.chain, e.last, e.met, e.low, e.short)
+    subst (λ (k : ℕ × (List ℕ × List ℕ)). HasEnd k.0 k.1.0 k.1.1 p) (λ j. (sym d j, (sym b j, sym c j))) record { chain = e.chain; last = e.last; met = e.met; low = e.low; short = e.short }
 
 pub closes_at : (z : SeatView) (hs ls first hs' ls' sw : List ℕ) (floor : ℕ) → first ≡ z.board.first → hs' ≡ hs → ls' ≡ ls → floor ≡ z.board.floor
-    → (length hs ≡ length z.board.first) × (length ls ≡ z.board.records) × ((p : ℕ) → p < length z.board.first → Ended z hs ls p) × ((r : ℕ) → r < z.board.records → posts_in r z.book.posted ≡ 1) → Swapped first floor hs' ls' (length first) sw → IsClosed z hs' ls' sw
+    → (length hs ≡ length z.board.first) × (length ls ≡ z.board.records) × ((p : ℕ) → p < length z.board.first → Ended z hs ls p) × ((r : ℕ) → r < z.board.records → posts_in r z.book.posted ≡ 1) → AreSwapped first floor hs' ls' (length first) sw → IsClosed z hs' ls' sw
 closes_at z hs ls first hs' ls' sw floor a b c d e s =
     subst (λ (k : List ℕ × List ℕ). IsClosed z k.0 k.1 sw) (λ j. (sym b j, sym c j))
-    (closes z hs ls sw e.0 e.1 e.2 e.3 (subst (λ (k : (List ℕ × ℕ) × (List ℕ × List ℕ)). Swapped k.0.0 k.0.1 k.1.0 k.1.1 (length k.0.0) sw) (λ j. ((a j, d j), (b j, c j))) s))
+    (closes z hs ls sw e.0 e.1 e.2 e.3 (subst (λ (k : (List ℕ × ℕ) × (List ℕ × List ℕ)). AreSwapped k.0.0 k.0.1 k.1.0 k.1.1 (length k.0.0) sw) (λ j. ((a j, d j), (b j, c j))) s))

@@ -5,16 +5,16 @@ use Rattle.bw_core.specs.declared.Post.{Post}
 use Rattle.bw_core.specs.declared.BookView.{BookView}
 use Rattle.bw_core.specs.declared.Swap.{Swap}
 use Rattle.bw_core.specs.World.{one_if, owns, posts_in, spans_have, tries_in}
-use Rattle.bw_core.specs.Events.{post, swap, takes_piece, replaced, came_late, joined}
+use Rattle.bw_core.specs.Events.{post, swap, takes_piece, looked, replaced, came_late, joined}
 use Rattle.bw_core.proofs.Lists.{total-append}
 use Rattle.bw_core.proofs.Without.{claim_adds, join_adds}
-use Rattle.bw_board.specs.Public.{SeatView, looked_at, posted_over}
+use Rattle.bw_board.specs.Public.{SeatView, Posts, Replaces, Sees, seat_after_claim}
 use Rattle.bw_board.specs.Working.{HasPostedAll, HasLeft, SameWork}
 
 -- a claim leaves its piece to be posted
-pub left_claimed : (v w : SeatView) (piece records from to : ℕ) → HasPostedAll v → w ≡ record v { book = takes_piece piece records from v.book } → to ≡ min (from + piece) records → HasLeft w from to
-left_claimed v w piece records from to all is to_is = λ r. subst (λ (z : SeatView). owns r z.book ≡ posts_in r z.book.posted + one_if (leb from r && ltb r to)) (sym is)
-    (claim_adds piece records from r v.book ∙ λ j. all r j + one_if (leb from r && ltb r (sym to_is j)))
+pub left_claimed : (v w : SeatView) (from to : ℕ) → HasPostedAll v → w ≡ seat_after_claim v from → to ≡ min (from + v.board.piece) v.board.records → HasLeft w from to
+left_claimed v w from to all is to_is = λ r. subst (λ (z : SeatView). owns r z.book ≡ posts_in r z.book.posted + one_if (leb from r && ltb r to)) (sym is)
+    (claim_adds v.board.piece v.board.records from r v.book ∙ λ j. all r j + one_if (leb from r && ltb r (sym to_is j)))
 
 -- the next record is owned and not posted
 pub left_next : (v : SeatView) (from to : ℕ) → ((r : ℕ) → owns r v.book ≤ 1) → HasLeft v from to → from < to → (0 < owns from v.book) × (posts_in from v.book.posted ≡ 0)
@@ -30,8 +30,9 @@ left_posted v w from to page lost left h owned posted = λ r. let t = total-appe
     let p : posts_in r w.book.posted ≡ posts_in r (v.book.posted ++ post from page lost ∷ []) = ap (posts_in r) posted in omega arith
 
 -- the same of a whole post
-pub left_over : (v w : SeatView) (from to page lost : ℕ) (s : List ℕ) (x : ℕ) → HasLeft v from to → from < to → w ≡ posted_over v from page lost s x → HasLeft w (from + 1) to
-left_over v w from to page lost s x left h is = left_posted v w from to page lost left h (ap (λ (z : SeatView). z.book.owned) is) (ap (λ (z : SeatView). z.book.posted) is)
+pub left_over : (v w : SeatView) (from to page lost : ℕ) → HasLeft v from to → from < to → Posts v w from page lost → HasLeft w (from + 1) to
+left_over v w from to page lost left h posts =
+    left_posted v w from to page lost left h (ap (λ (z : SeatView). z.book.owned) posts.after) (ap (λ (z : SeatView). z.book.posted) posts.after)
 
 none_left : (to r : ℕ) → one_if (leb to r && ltb r to) ≡ 0
 none_left to r = grind (arith, nat_tests)
@@ -44,14 +45,14 @@ left_none v to left = λ r. let e = left r in let n = none_left to r in omega ar
 pub same_start : (v : SeatView) → SameWork v v
 same_start v = record { same_board = refl; same_width = refl; same_told = refl; same_owned = refl; same_posted = refl }
 
-pub same_looked : (v w z : SeatView) (p x : ℕ) (s : List ℕ) → SameWork v w → z ≡ looked_at w p s x → SameWork v z
-same_looked v w z p x s k e = subst (SameWork v) (sym e) record { same_board = k.same_board; same_width = k.same_width; same_told = k.same_told; same_owned = k.same_owned; same_posted = k.same_posted }
+pub same_looked : (v w z : SeatView) (p : ℕ) → SameWork v w → Sees w z p (looked w.book p) → SameWork v z
+same_looked v w z p k sees = subst (SameWork v) (sym sees.after) record { same_board = k.same_board; same_width = k.same_width; same_told = k.same_told; same_owned = k.same_owned; same_posted = k.same_posted }
 
-pub same_replaced : (v w z : SeatView) (p x : ℕ) → SameWork v w → z ≡ record w { book = replaced w.book p x } → SameWork v z
-same_replaced v w z p x k e = subst (SameWork v) (sym e) record { same_board = k.same_board; same_width = k.same_width; same_told = k.same_told; same_owned = k.same_owned; same_posted = k.same_posted }
+pub same_replaced : (v w z : SeatView) (p : ℕ) → SameWork v w → Replaces w z p → SameWork v z
+same_replaced v w z p k won = subst (SameWork v) (sym won.after) record { same_board = k.same_board; same_width = k.same_width; same_told = k.same_told; same_owned = k.same_owned; same_posted = k.same_posted }
 
-pub same_late : (v w z : SeatView) (p x : ℕ) (s : List ℕ) → SameWork v w → z ≡ record w { book = came_late w.book p s x } → SameWork v z
-same_late v w z p x s k e = subst (SameWork v) (sym e) record { same_board = k.same_board; same_width = k.same_width; same_told = k.same_told; same_owned = k.same_owned; same_posted = k.same_posted }
+pub same_late : (v w z : SeatView) (p : ℕ) → SameWork v w → Sees w z p (came_late w.book p) → SameWork v z
+same_late v w z p k late = subst (SameWork v) (sym late.after) record { same_board = k.same_board; same_width = k.same_width; same_told = k.same_told; same_owned = k.same_owned; same_posted = k.same_posted }
 
 pub all_same : (v w : SeatView) → SameWork v w → HasPostedAll v → HasPostedAll w
 all_same v w k all = λ r. ap (spans_have r) k.same_owned ∙ (all r ∙ ap (posts_in r) (sym k.same_posted))
@@ -60,11 +61,11 @@ tries_next : (ss : List Swap) (p q : ℕ) (won : Bool) → p < q → tries_in q 
 tries_next ss p q won h = let t = total-append (λ (s : Swap). one_if (eqb s.page q)) ss (swap p won ∷ []) in let other : one_if (eqb p q) ≡ 0 = grind (arith, nat_tests) in omega arith
 
 -- no later page is tried
-pub tries_won : (v w : SeatView) (p x q : ℕ) → w ≡ record v { book = replaced v.book p x } → p < q → tries_in q w.book.swaps ≡ tries_in q v.book.swaps
-tries_won v w p x q e h = ap (λ (z : SeatView). tries_in q z.book.swaps) e ∙ tries_next v.book.swaps p q true h
+pub tries_won : (v w : SeatView) (p q : ℕ) → Replaces v w p → p < q → tries_in q w.book.swaps ≡ tries_in q v.book.swaps
+tries_won v w p q won h = ap (λ (z : SeatView). tries_in q z.book.swaps) won.after ∙ tries_next v.book.swaps p q true h
 
-pub tries_late : (v w : SeatView) (p x q : ℕ) (s : List ℕ) → w ≡ record v { book = came_late v.book p s x } → p < q → tries_in q w.book.swaps ≡ tries_in q v.book.swaps
-tries_late v w p x q s e h = ap (λ (z : SeatView). tries_in q z.book.swaps) e ∙ tries_next v.book.swaps p q false h
+pub tries_late : (v w : SeatView) (p q : ℕ) → Sees v w p (came_late v.book p) → p < q → tries_in q w.book.swaps ≡ tries_in q v.book.swaps
+tries_late v w p q late h = ap (λ (z : SeatView). tries_in q z.book.swaps) late.after ∙ tries_next v.book.swaps p q false h
 
 -- two that posted all are one that did
 pub all_joined : (first : List ℕ) (v w z : SeatView) → HasPostedAll v → HasPostedAll w → z.book ≡ joined first v.book w.book → HasPostedAll z

@@ -1,15 +1,17 @@
 //! The board and its seats.
-ghost use Rattle.std.specs.Prelude.{◌≡◌, ℕ, ◌+◌, ◌^◌, ◌<◌, ◌≤◌, [], ◌∷◌, ◌++◌, List, length, slice_index, slice_index_or, ◌⊎◌, ◌≢◌, Some, None, replicate, EachIndex, IfOk, OnOk, MatchOption, MatchResult, min, true};
-ghost use Rattle.bw_core.specs.World.{late, tries_in, IsEnd, seen_at, owns, posts_in, posts_at, times, top};
-ghost use Rattle.bw_core.specs.Events.{replaced, came_late, split_left, split_right, joined, takes_piece, is_told};
+ghost use Rattle.std.specs.Prelude.{◌≡◌, ℕ, ◌+◌, ◌^◌, ◌<◌, ◌≤◌, [], ◌∷◌, ◌++◌, List, length, slice_index, slice_index_or, ◌⊎◌, ◌≢◌, Some, None};
+ghost use Rattle.std.specs.Prelude.{replicate, EachIndex, IsOk, IsNone, IfOk, IfErr, OnOk, OnErr, IfSome, IfNone, min, true};
+ghost use Rattle.bw_core.specs.World.{tries_in, IsEnd, seen_at, end_at, owns, posts_in, posts_at, times, top};
+ghost use Rattle.bw_core.specs.Events.{looked, came_late, split_left, split_right, joined, is_told};
 ghost use Rattle.bw_core.specs.Steps.{first_book};
 ghost use Rattle.bw_board.specs.declared.board.Replaced.TheVariants.{Won, Late};
-ghost use Rattle.bw_board.specs.Public.{BoardView, SeatView, IsLastOf, posted_over, looked_at, IsClosed, HasEach, IsSound};
+ghost use Rattle.bw_board.specs.Public.{BoardView, SeatView, board_view, seat_view, IsBoard, IsIdleSeat, Sees, Posts};
+ghost use Rattle.bw_board.specs.Public.{Replaces, seat_after_claim, AllClaimed, OwnsAlone, IsClosed, HasEach, IsSound};
 
-use crate::closing::{Closed, replaced_pages, words_from};
+use crate::last_words::{Closed, replaced_pages, words_from};
 use crate::plays::{Both, Halve};
 use crate::table::{LawfulTable, Origin, Place, Sight};
-use crate::{peeking, posting, steps};
+use crate::{chains, steps};
 use atomic_table::Table;
 use bw_key::Memory;
 use bw_memory::Alloc;
@@ -36,9 +38,11 @@ pub struct Board {
 impl Model for Board {
     ghost Value = { BoardView };
 
-    ghost view = { λ b. record { table = b.table.shared.table_id; first = b.table.shared.key.heads.items; floor = b.floor; records = b.records; piece = b.piece; spares = b.table.shared.key.spares.items } };
+    ghost view = { λ b. board_view b.table.shared.table_id b.table.shared.key.heads.items b.floor b.records b.piece
+        b.table.shared.key.spares.items };
 
-    ghost invariant = { λ b. (b.pages ≡ length b.table.shared.key.heads.items) × (b.floor ≡ b.table.shared.key.floor) × (b.records ≡ b.table.shared.key.records) × (b.piece ≡ b.table.shared.key.piece) × (0 < b.piece) × (b.piece ≤ 4096) × (b.table.shared.table_id.words ≡ 1 + (b.pages + b.records)) × (b.table.shared.table_id.words < 2 ^ 63) × (b.table.shared.table_id.slots ≡ 0) × (b.floor + b.records ≤ 2 ^ 33) × (b.origin.heads.items ≡ b.table.shared.key.heads.items) × (b.origin.spares.items ≡ b.table.shared.key.spares.items) × EachIndex b.origin.heads.items (λ p. slice_index b.origin.heads.items p < b.floor) × (length b.origin.spares.items ≡ length b.origin.heads.items) };
+    ghost invariant = { λ b. IsBoard (board_view b.table.shared.table_id b.table.shared.key.heads.items b.floor b.records b.piece
+        b.table.shared.key.spares.items) b.pages b.table.shared.key b.origin };
 }
 
 /// The right to step on a board, and what its owner owns, posted and saw there.
@@ -56,9 +60,9 @@ pub struct Seat {
 impl Model for Seat {
     ghost Value = { SeatView };
 
-    ghost view = { λ s. record { board = record { table = s.place.table_id; first = s.place.me.0.first; floor = s.place.me.0.floor; records = s.place.me.0.records; piece = s.place.me.0.piece; spares = s.place.me.0.spares }; book = s.place.me.0.book } };
+    ghost view = { λ s. seat_view s.place.table_id s.place.me.0 };
 
-    ghost invariant = { λ s. (s.place.me.1 ≡ []) × (s.place.me.0.book.live ≡ true) × (s.place.me.0.book.under ≡ None) × (s.width ≡ s.place.me.0.book.width) × (s.told ≡ s.place.me.0.book.told) × (0 < s.width) × (s.width ≤ 1024) };
+    ghost invariant = { λ s. IsIdleSeat s.place.me s.width s.told };
 }
 
 /// A record was posted.
@@ -94,10 +98,17 @@ impl Board {
     ) -> Result<(Board, Seat), Memory>
         requires low { EachIndex heads.now (λ p. slice_index heads.now p < floor) }
         requires fits { floor + records ≤ 2 ^ 33 }
-        requires piece { (0 < piece) × (piece ≤ 4096) }
+        requires some_piece { 0 < piece }
+        requires piece_fits { piece ≤ 4096 }
         requires spares { length spares.now ≡ length heads.now }
-        requires spare { (p : ℕ) → (x : ℕ) → slice_index_or spares.now p None ≡ Some x → (x < floor) × (x ≢ slice_index heads.now p) }
-        ensures { IfOk result (λ t. (t.0.first ≡ heads.now) × (t.0.floor ≡ floor) × (t.0.records ≡ records) × (t.0.piece ≡ piece) × (t.0.spares ≡ spares.now) × (t.1 ≡ record { board = t.0; book = first_book heads.now })) }
+        requires spare_low { (p : ℕ) → (x : ℕ) → slice_index_or spares.now p None ≡ Some x → x < floor }
+        requires spare_new { (p : ℕ) → (x : ℕ) → slice_index_or spares.now p None ≡ Some x → x ≢ slice_index heads.now p }
+        ensures first { IfOk result (λ t. t.0.first ≡ heads.now) }
+        ensures floor { IfOk result (λ t. t.0.floor ≡ floor) }
+        ensures records { IfOk result (λ t. t.0.records ≡ records) }
+        ensures piece { IfOk result (λ t. t.0.piece ≡ piece) }
+        ensures spares { IfOk result (λ t. t.0.spares ≡ spares.now) }
+        ensures seat { IfOk result (λ t. t.1 ≡ record { board = t.0; book = first_book heads.now }) }
     {
         let words = first_words(alloc, heads, records)?;
         let origin = Origin {
@@ -137,7 +148,8 @@ impl Board {
     /// board is gone.
     pub fn close(self, seat: Seat) -> Result<Closed, Memory>
         requires board { seat.board ≡ self }
-        requires whole { (seat.book.width ≡ 1024) × (seat.book.told ≡ true) }
+        requires whole { seat.book.width ≡ 1024 }
+        requires told { seat.book.told ≡ true }
         requires posted { (r : ℕ) → owns r seat.book ≤ posts_in r seat.book.posted }
         ensures closed { IfOk result (λ c. IsClosed seat c.heads c.links c.swapped) }
         ensures each { OnOk result (HasEach seat) }
@@ -177,7 +189,8 @@ impl Board {
 // The words of a new table.
 fn first_words(alloc: Alloc, heads: &[u64], records: u64) -> Result<Vec<u64, Alloc>, Memory>
     requires { records ≤ 2 ^ 33 }
-    ensures { IfOk result (λ v. (v.items ≡ 0 ∷ (heads.now ++ replicate records 0)) × (1 + (length heads.now + records) < 2 ^ 63)) }
+    ensures words { IfOk result (λ v. v.items ≡ 0 ∷ (heads.now ++ replicate records 0)) }
+    ensures fits { OnOk result (1 + (length heads.now + records) < 2 ^ 63) }
 {
     let mut words = Vec::with_capacity(alloc, 1 + heads.len() + records as usize)?;
     words.push(0)?;
@@ -192,11 +205,21 @@ fn first_words(alloc: Alloc, heads: &[u64], records: u64) -> Result<Vec<u64, All
 impl Board {
     /// The next `piece` records, or what is left of them; None where all are claimed.
     ///
-    /// No other claim has any of them. A seat that was told None is always told None. Costs one atomic addition, or none where
-    /// the seat was told before.
+    /// No other claim has any of them: at that moment they are this seat's alone, and a join says of any two seats that they
+    /// own none together. At None each record has an owner. `laws::claim_is_an_event` says so of whatever table there is, with
+    /// `claim_takes_free` and `told_is_claimed` of `bw_core`. A seat that was told None is always told None. Costs one atomic
+    /// addition, or none where the seat was told before.
     pub fn claim(&self, seat: &mut Seat) -> Option<Range<u64>>
         requires board { seat.old.board ≡ self.now }
-        ensures claimed { MatchOption result (seat.new ≡ record seat.old { book = is_told seat.old.book }) (λ r. (r.start < self.now.records) × (r.start < r.end) × (r.end ≡ min (r.start + self.now.piece) self.now.records) × (seat.new ≡ record seat.old { book = takes_piece self.now.piece self.now.records r.start seat.old.book }) × IsSound seat.new) }
+        ensures claimed { IfSome result (λ r. seat.new ≡ seat_after_claim seat.old r.start) }
+        ensures some { IfSome result (λ r. r.start < r.end) }
+        ensures within { IfSome result (λ r. r.start < self.now.records) }
+        ensures end { IfSome result (λ r. r.end ≡ min (r.start + self.now.piece) self.now.records) }
+        ensures free { IfSome result (λ r. (n : ℕ) → r.start ≤ n → n < r.end → owns n seat.old.book ≡ 0) }
+        ensures alone { IfSome result (λ r. OwnsAlone seat.new r.start r.end) }
+        ensures sound { IfSome result (λ _. IsSound seat.new) }
+        ensures none { IfNone result (seat.new ≡ record seat.old { book = is_told seat.old.book }) }
+        ensures all { IfNone result (AllClaimed seat.new) }
         ensures told { seat.old.book.told ≡ true → result ≡ None }
     {
         if seat.told {
@@ -221,7 +244,11 @@ impl Board {
     /// seat of width 1 is given back. Costs one atomic load.
     pub fn split(&self, seat: Seat) -> Result<(Seat, Seat), Seat>
         requires board { seat.board ≡ self.now }
-        ensures { MatchResult result (λ t. (t.0 ≡ record seat { book = split_left seat.book }) × (t.1 ≡ record seat { book = split_right seat.book })) (λ s. (s ≡ seat) × (seat.book.width ≡ 1)) }
+        ensures wide { 2 ≤ seat.book.width → IsOk result }
+        ensures left { IfOk result (λ t. t.0 ≡ record seat { book = split_left seat.book }) }
+        ensures right { IfOk result (λ t. t.1 ≡ record seat { book = split_right seat.book }) }
+        ensures back { IfErr result (λ s. s ≡ seat) }
+        ensures narrow { OnErr result (seat.book.width ≡ 1) }
     {
         if seat.width < 2 {
             return Err(seat);
@@ -247,10 +274,14 @@ impl Board {
     }
 
     /// One seat of two: it owns, posted and replaced what both did, has their widths, and has seen at each page the longer of
-    /// their chains. Costs two atomic loads.
+    /// their chains, which both are ends of that. No record was owned by both. Costs two atomic loads.
     pub fn join(&self, seat: Seat, other: Seat) -> Seat
-        requires board { (seat.board ≡ self.now) × (other.board ≡ self.now) }
+        requires board { seat.board ≡ self.now }
+        requires other { other.board ≡ self.now }
         ensures joined { result ≡ record seat { book = joined self.now.first seat.book other.book } }
+        ensures seen { (page : ℕ) → IsEnd (seen_at seat.book page) (seen_at result.book page) }
+        ensures other_seen { (page : ℕ) → IsEnd (seen_at other.book page) (seen_at result.book page) }
+        ensures apart { (r : ℕ) → owns r seat.book + owns r other.book ≤ 1 }
         ensures sound { IsSound result }
     {
         let Seat {
@@ -284,12 +315,13 @@ impl Board {
     pub fn post(&self, seat: &mut Seat, r: u64, page: u64) -> Posted
         requires board { seat.old.board ≡ self.now }
         requires page { page < length self.now.first }
-        requires own { (0 < owns r seat.old.book) × (posts_in r seat.old.book.posted ≡ 0) }
-        ensures posted { (s : List ℕ) × (x : ℕ) × (seat.new ≡ posted_over seat.old r page result.lost s x) × IsEnd (seen_at seat.old.book page) s × IsLastOf self.now page x × (result.lost ≤ length s + late (slice_index self.now.first page) x) }
+        requires own { 0 < owns r seat.old.book }
+        requires unposted { posts_in r seat.old.book.posted ≡ 0 }
+        ensures posted { Posts seat.old seat.new r page result.lost }
         ensures sound { IsSound seat.new }
     {
         let words = &self.table.shared;
-        let lost = posting::post(words, &mut seat.place, self.pages, self.floor, r, page);
+        let lost = chains::post(words, &mut seat.place, self.pages, self.floor, r, page);
         Posted { lost }
     }
 
@@ -297,7 +329,8 @@ impl Board {
     pub fn look(&self, seat: &mut Seat, page: u64) -> u64
         requires board { seat.old.board ≡ self.now }
         requires page { page < length self.now.first }
-        ensures { (s : List ℕ) × (x : ℕ) × (seat.new ≡ looked_at seat.old page s x) × IsEnd (seen_at seat.old.book page) s × IsLastOf self.now page x × (result ≡ top self.now.floor x s) }
+        ensures seen { Sees seat.old seat.new page (looked seat.old.book page) }
+        ensures head { result ≡ top self.now.floor (end_at seat.new.book page) (seen_at seat.new.book page) }
     {
         steps::look(&self.table.shared, &mut seat.place, page)
     }
@@ -310,11 +343,14 @@ impl Board {
     pub fn peek(&self, seat: &mut Seat, page: u64) -> Result<Vec<u64, Alloc>, Memory>
         requires board { seat.old.board ≡ self.now }
         requires page { page < length self.now.first }
-        ensures { (s : List ℕ) × (x : ℕ) × (seat.new ≡ looked_at seat.old page s x) × IsEnd (seen_at seat.old.book page) s × IsLastOf self.now page x × IfOk result (λ v. (v.items ≡ s) × ((r : ℕ) → times r s ≤ 1) × ((r : ℕ) → posts_at page r seat.old.book.posted ≤ times r s)) }
+        ensures seen { Sees seat.old seat.new page (looked seat.old.book page) }
+        ensures chain { IfOk result (λ v. v.items ≡ seen_at seat.new.book page) }
+        ensures once { IfOk result (λ v. (r : ℕ) → times r v.items ≤ 1) }
+        ensures own { IfOk result (λ v. (r : ℕ) → posts_at page r seat.old.book.posted ≤ times r v.items) }
     {
         let words = &self.table.shared;
         let pages = self.pages;
-        peeking::peek(self.alloc, words, &mut seat.place, pages, self.floor, page)
+        chains::peek(self.alloc, words, &mut seat.place, pages, self.floor, page)
     }
 
     /// Replaces the page's first word by its spare, where the head still is that word: where a settled chain was folded into a
@@ -327,8 +363,10 @@ impl Board {
         requires page { page < length self.now.first }
         requires spare { slice_index_or self.now.spares page None ≢ None }
         requires untried { tries_in page seat.old.book.swaps ≡ 0 }
-        ensures won { result ≡ Won → (x : ℕ) × (slice_index_or self.now.spares page None ≡ Some x) × (seat.new ≡ record seat.old { book = replaced seat.old.book page x }) }
-        ensures late { result ≡ Late → (s : List ℕ) × (x : ℕ) × (seat.new ≡ record seat.old { book = came_late seat.old.book page s x }) × IsEnd (seen_at seat.old.book page) s × IsLastOf self.now page x × ((0 < length s) ⊎ (slice_index_or self.now.spares page None ≡ Some x)) }
+        ensures won { result ≡ Won → Replaces seat.old seat.new page }
+        ensures late { result ≡ Late → Sees seat.old seat.new page (came_late seat.old.book page) }
+        ensures more { result ≡ Late → (0 < length (seen_at seat.new.book page))
+            ⊎ (slice_index_or self.now.spares page None ≡ Some (end_at seat.new.book page)) }
     {
         let first = self.origin.heads[page as usize];
         let Some(spare) = self.origin.spares[page as usize] else {

@@ -8,13 +8,12 @@
 #![tactic(auto)]
 
 mod board;
-mod closing;
+mod chains;
+mod last_words;
 pub mod laws;
-mod peeking;
 mod plays;
-mod posting;
 mod steps;
 mod table;
 
 pub use board::{Board, Posted, Replaced, Seat};
-pub use closing::Closed;
+pub use last_words::Closed;

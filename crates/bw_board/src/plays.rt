@@ -1,6 +1,7 @@
 //! What each kind of atomic step tells the seat that makes it.
 ghost use Rattle.std.specs.Prelude.{ℕ};
-ghost use Rattle.bw_board.specs.Plays.{look_tells, link_tells, try_tells, follow_tells, claim_tells, settle_tells, replace_tells, left_of, right_of, both_of, spent_sight};
+ghost use Rattle.bw_board.specs.Plays.{LookTells, LinkTells, TryTells, FollowTells, ClaimTells, SettleTells, ReplaceTells};
+ghost use Rattle.bw_board.specs.Plays.{left_of, right_of, both_of, spent_sight};
 
 use crate::table::Sight;
 use atomic_table::{Join, Play, Split};
@@ -10,7 +11,7 @@ use std::marker::{Brand, PhantomData};
 pub struct Look;
 
 impl Play<u8, Sight> for Look {
-    ghost then = { look_tells };
+    ghost then = { LookTells };
 }
 
 /// Which page a record is linked for, and how often it has lost. A word stored doesn't say it, so each call picks it.
@@ -32,21 +33,21 @@ pub struct Link<J> {
 }
 
 impl<J: Aim> Play<u8, Sight> for Link<J> {
-    ghost then = { link_tells J.page J.lost };
+    ghost then = { LinkTells J.page J.lost };
 }
 
 /// An exchange of a head word for a record's word.
 pub struct Try;
 
 impl Play<u8, Sight> for Try {
-    ghost then = { try_tells };
+    ghost then = { TryTells };
 }
 
 /// A load of a link word.
 pub struct Follow;
 
 impl Play<u8, Sight> for Follow {
-    ghost then = { follow_tells };
+    ghost then = { FollowTells };
 }
 
 /// Two seats of one.
@@ -62,21 +63,21 @@ impl Split<Sight> for Halve {
 pub struct Settle;
 
 impl Play<u8, Sight> for Settle {
-    ghost then = { settle_tells };
+    ghost then = { SettleTells };
 }
 
 /// An addition to the claim word.
 pub struct Claim;
 
 impl Play<u8, Sight> for Claim {
-    ghost then = { claim_tells };
+    ghost then = { ClaimTells };
 }
 
 /// An exchange of a page's first word for its spare.
 pub struct Replace;
 
 impl Play<u8, Sight> for Replace {
-    ghost then = { replace_tells };
+    ghost then = { ReplaceTells };
 }
 
 /// One seat of two.

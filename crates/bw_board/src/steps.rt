@@ -1,8 +1,8 @@
 //! The kinds of atomic step, one call each. A seat's view after a step is given in full, with what it knows of itself.
 ghost use Rattle.std.specs.Prelude.{◌≡◌, ◌≢◌, ℕ, ◌+◌, ◌^◌, ◌<◌, ◌≤◌, true, [], ◌∷◌, ◌++◌, List, length, slice_index, slice_index_or, ◌⊎◌, Some, None, false};
-ghost use Rattle.bw_core.specs.World.{top, end_at, IsLast, IsEnd, times, tries_in, seen_at, owns, posts_in};
-ghost use Rattle.bw_core.specs.Events.{Resumes, replaced, came_late, takes_piece, is_told, under, won, lost_to};
-ghost use Rattle.bw_board.specs.Plays.{IsSeated, sees, Sane, links, with_book};
+ghost use Rattle.bw_core.specs.World.{top, end_at, times, tries_in, seen_at, owns, posts_in};
+ghost use Rattle.bw_core.specs.Events.{Resumes, looked, replaced, came_late, takes_piece, is_told, under, won, lost_to};
+ghost use Rattle.bw_board.specs.Plays.{IsSeated, IsSane, IsTop, SeesChain, sight_after_link, with_book};
 
 use crate::plays::{Aim, Claim, Follow, Link, Look, Replace, Settle, Try};
 use crate::table::{Place, Words};
@@ -12,8 +12,9 @@ pub fn look(words: &Words, place: &mut Place, page: u64) -> u64
     requires seat { IsSeated words.now.table_id place.old }
     requires page { page < length place.old.me.0.first }
     ensures seat { IsSeated words.now.table_id place.new }
-    ensures seen { (s : List ℕ) × (x : ℕ) × (place.new.me ≡ (sees place.old.me.0 page s x, [])) × (result ≡ top place.old.me.0.floor x s) × IsEnd (seen_at place.old.me.0.book page) s × IsLast place.old.me.0.first place.old.me.0.spares page x }
-    ensures sane { Sane place.new.me.0 }
+    ensures seen { SeesChain place.old.me.0 place.new.me.0 page (looked place.old.me.0.book page) }
+    ensures head { IsTop place.new.me.0 page result }
+    ensures sane { IsSane place.new.me.0 }
 {
     words.load::<Look>(place, 1 + page as usize)
 }
@@ -32,12 +33,14 @@ pub fn link<J: Aim>(
     requires aim { (page ≡ J.page) × (lost ≡ J.lost) }
     requires pages { pages ≡ length place.old.me.0.first }
     requires page { page < length place.old.me.0.first }
-    requires own { (0 < owns rec place.old.me.0.book) × (posts_in rec place.old.me.0.book.posted ≡ 0) × (rec < place.old.me.0.records) }
+    requires own { 0 < owns rec place.old.me.0.book }
+    requires unposted { posts_in rec place.old.me.0.book.posted ≡ 0 }
+    requires within { rec < place.old.me.0.records }
     requires resumes { Resumes place.old.me.0.book rec page lost }
-    requires word { word ≡ top place.old.me.0.floor (end_at place.old.me.0.book page) (seen_at place.old.me.0.book page) }
+    requires word { IsTop place.old.me.0 page word }
     ensures seat { IsSeated words.now.table_id place.new }
-    ensures linked { place.new.me ≡ (links place.old.me.0 rec page lost word, []) }
-    ensures sane { Sane place.new.me.0 }
+    ensures linked { place.new.me.0 ≡ sight_after_link place.old.me.0 rec page lost word }
+    ensures sane { IsSane place.new.me.0 }
 {
     words.store::<Link<J>>(place, 1 + (pages as usize + rec as usize), word)
 }
@@ -53,14 +56,17 @@ pub fn attempt(
     word: u64,
 ) -> u64
     requires seat { IsSeated words.now.table_id place.old }
-    requires floor { (floor ≡ place.old.me.0.floor) × (floor + rec < 2 ^ 64) }
+    requires floor { floor ≡ place.old.me.0.floor }
+    requires word_fits { floor + rec < 2 ^ 64 }
     requires page { page < length place.old.me.0.first }
     requires under { place.old.me.0.book.under ≡ Some (under rec page lost true) }
     requires word { word ≡ place.old.me.0.link }
     ensures seat { IsSeated words.now.table_id place.new }
-    ensures won { result ≡ word → place.new.me ≡ (with_book place.old.me.0 (won place.old.me.0.book rec page lost), []) }
-    ensures lost { result ≢ word → (s : List ℕ) × (x : ℕ) × (place.new.me ≡ (with_book place.old.me.0 (lost_to place.old.me.0.book rec page lost s x), [])) × (result ≡ top place.old.me.0.floor x s) × IsEnd (seen_at place.old.me.0.book page) s × IsLast place.old.me.0.first place.old.me.0.spares page x }
-    ensures sane { Sane place.new.me.0 }
+    ensures won { result ≡ word → place.new.me.0 ≡ with_book place.old.me.0 (won place.old.me.0.book rec page lost) }
+    ensures lost { result ≢ word
+        → SeesChain place.old.me.0 place.new.me.0 page (lost_to place.old.me.0.book rec page lost) }
+    ensures head { result ≢ word → IsTop place.new.me.0 page result }
+    ensures sane { IsSane place.new.me.0 }
 {
     words.compare_exchange::<Try>(place, 1 + page as usize, word, floor + rec)
 }
@@ -72,8 +78,11 @@ pub fn follow(words: &Words, place: &mut Place, pages: u64, rec: u64) -> u64
     requires rec { rec < place.old.me.0.records }
     requires seen { (p : ℕ) × (p < length place.old.me.0.first) × (0 < times rec (seen_at place.old.me.0.book p)) }
     ensures seat { IsSeated words.now.table_id place.new }
-    ensures same { place.new.me ≡ place.old.me }
-    ensures found { (p : ℕ) (front : List ℕ) (rest : List ℕ) → p < length place.old.me.0.first → seen_at place.old.me.0.book p ≡ front ++ rec ∷ rest → (x : ℕ) × (result ≡ top place.old.me.0.floor x rest) × (x < place.old.me.0.floor) }
+    ensures same { place.new.me.0 ≡ place.old.me.0 }
+    ensures found { (p : ℕ) (front : List ℕ) (rest : List ℕ) → p < length place.old.me.0.first
+        → seen_at place.old.me.0.book p ≡ front ++ rec ∷ rest
+        → (x : ℕ) × (result ≡ top place.old.me.0.floor x rest) × (x < place.old.me.0.floor) }
+    ensures sane { IsSane place.new.me.0 }
 {
     words.load::<Follow>(place, 1 + (pages as usize + rec as usize))
 }
@@ -81,12 +90,17 @@ pub fn follow(words: &Words, place: &mut Place, pages: u64, rec: u64) -> u64
 /// Takes the next piece of records, by an addition to the claim word.
 pub fn claim(words: &Words, place: &mut Place, piece: u64) -> u64
     requires seat { IsSeated words.now.table_id place.old }
-    requires idle { (place.old.me.0.book.under ≡ None) × (place.old.me.0.book.told ≡ false) }
-    requires piece { (piece ≡ place.old.me.0.piece) × (piece ≤ 4096) × (place.old.me.0.records ≤ 2 ^ 33) }
+    requires idle { place.old.me.0.book.under ≡ None }
+    requires untold { place.old.me.0.book.told ≡ false }
+    requires piece { piece ≡ place.old.me.0.piece }
+    requires piece_fits { piece ≤ 4096 }
+    requires records_fit { place.old.me.0.records ≤ 2 ^ 33 }
     ensures seat { IsSeated words.now.table_id place.new }
-    ensures taken { result < place.old.me.0.records → place.new.me ≡ (with_book place.old.me.0 (takes_piece piece place.old.me.0.records result place.old.me.0.book), []) }
-    ensures told { place.old.me.0.records ≤ result → place.new.me ≡ (with_book place.old.me.0 (is_told place.old.me.0.book), []) }
-    ensures sane { Sane place.new.me.0 }
+    ensures taken { result < place.old.me.0.records → place.new.me.0
+        ≡ with_book place.old.me.0 (takes_piece piece place.old.me.0.records result place.old.me.0.book) }
+    ensures told { place.old.me.0.records ≤ result
+        → place.new.me.0 ≡ with_book place.old.me.0 (is_told place.old.me.0.book) }
+    ensures sane { IsSane place.new.me.0 }
 {
     words.fetch_add::<Claim>(place, 0, piece)
 }
@@ -95,8 +109,8 @@ pub fn claim(words: &Words, place: &mut Place, piece: u64) -> u64
 pub fn settle(words: &Words, place: &mut Place)
     requires seat { IsSeated words.now.table_id place.old }
     ensures seat { IsSeated words.now.table_id place.new }
-    ensures same { place.new.me ≡ place.old.me }
-    ensures sane { Sane place.new.me.0 }
+    ensures same { place.new.me.0 ≡ place.old.me.0 }
+    ensures sane { IsSane place.new.me.0 }
 {
     words.load::<Settle>(place, 0);
 }
@@ -106,12 +120,16 @@ pub fn replace(words: &Words, place: &mut Place, page: u64, first: u64, spare: u
     requires seat { IsSeated words.now.table_id place.old }
     requires idle { place.old.me.0.book.under ≡ None }
     requires page { page < length place.old.me.0.first }
-    requires words { (first ≡ slice_index place.old.me.0.first page) × (slice_index_or place.old.me.0.spares page None ≡ Some spare) }
+    requires first { first ≡ slice_index place.old.me.0.first page }
+    requires spare { slice_index_or place.old.me.0.spares page None ≡ Some spare }
     requires untried { tries_in page place.old.me.0.book.swaps ≡ 0 }
     ensures seat { IsSeated words.now.table_id place.new }
-    ensures won { result ≡ first → place.new.me ≡ (with_book place.old.me.0 (replaced place.old.me.0.book page spare), []) }
-    ensures late { result ≢ first → (s : List ℕ) × (x : ℕ) × (place.new.me ≡ (with_book place.old.me.0 (came_late place.old.me.0.book page s x), [])) × IsEnd (seen_at place.old.me.0.book page) s × IsLast place.old.me.0.first place.old.me.0.spares page x × ((0 < length s) ⊎ (slice_index_or place.old.me.0.spares page None ≡ Some x)) }
-    ensures sane { Sane place.new.me.0 }
+    ensures won { result ≡ first → place.new.me.0 ≡ with_book place.old.me.0 (replaced place.old.me.0.book page spare) }
+    ensures late { result ≢ first
+        → SeesChain place.old.me.0 place.new.me.0 page (came_late place.old.me.0.book page) }
+    ensures more { result ≢ first → (0 < length (seen_at place.new.me.0.book page))
+        ⊎ (slice_index_or place.old.me.0.spares page None ≡ Some (end_at place.new.me.0.book page)) }
+    ensures sane { IsSane place.new.me.0 }
 {
     words.compare_exchange::<Replace>(place, 1 + page as usize, first, spare)
 }

@@ -3,7 +3,14 @@ use atomic_table::{Seat, Shared, TableRule};
 use bw_core::BookView;
 use bw_memory::Alloc;
 
-/// What a seat knows: what never changes, the word that it stored last in a link, and its book. No value of it is made.
+/// Two books. No value of it is made.
+pub struct Pair {
+    pub left: BookView,
+    pub right: BookView,
+}
+
+/// What a seat knows: what never changes, the word that it stored last in a link, the books that its last join made one, and its
+/// book. No value of it is made.
 pub struct Sight {
     pub first: [u64; 0],
     pub floor: u64,
@@ -11,6 +18,7 @@ pub struct Sight {
     pub piece: u64,
     pub spares: [Option<u64>; 0],
     pub link: u64,
+    pub joined: Option<Pair>,
     pub book: BookView,
 }
 
@@ -31,9 +39,9 @@ pub struct Origin {
 pub struct LawfulTable;
 
 impl TableRule<u8, Sight, Origin> for LawfulTable {
-    ghost use Rattle.bw_board.specs.Standing.{Standing, opening_sight};
+    ghost use Rattle.bw_board.specs.Rule.{HasLawfulWorld, opening_sight};
 
-    ghost holds = { λ k. Standing k.heads.items k.floor k.records k.piece k.spares.items };
+    ghost holds = { λ k. HasLawfulWorld k.heads.items k.floor k.records k.piece k.spares.items };
 
     ghost first = { λ k. opening_sight k.heads.items k.floor k.records k.piece k.spares.items };
 }

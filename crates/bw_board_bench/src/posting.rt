@@ -10,7 +10,7 @@ use bw_memory::Alloc;
 use std::thread::{Threads, join};
 use std::time::{Clock, Instant};
 
-const FLOOR: u64 = 4_294_967_296;
+const FLOOR: u64 = 1 << 32;
 
 // Posts the records of a piece.
 fn post_piece(board: &Board, seat: &mut Seat, from: u64, to: u64, tally: &mut Tally)

@@ -2,6 +2,7 @@
 ghost use Rattle.std.specs.Prelude.{◌≡◌, ◌≤◌, ◌+◌, ℕ, true};
 ghost use Rattle.bw_core.specs.World.{owns, posts_in};
 
+mod sizes;
 mod storms;
 
 use bw_board::{Board, Replaced, Seat};
@@ -10,7 +11,7 @@ use bw_memory::{Alloc, Heap};
 use std::alloc::Global;
 use std::process::Abort;
 
-pub(crate) const FLOOR: u64 = 4294967296;
+pub(crate) const FLOOR: u64 = 1 << 32;
 
 pub(crate) fn counted(alloc: Global) -> Result<Alloc, Memory> {
     Ok(Heap::counted(alloc).leak(alloc)?)
@@ -79,8 +80,8 @@ fn two_seats_post_one_after_the_other(rt: HostRuntime) {
     }
     let seat = joined(&board, first, second);
     let closed = board.close(seat).expect(&rt, "memory");
-    assert!(rt; closed.heads() == [4294967297].as_slice());
-    assert!(rt; closed.links() == [7, 4294967296].as_slice());
+    assert!(rt; closed.heads() == [FLOOR + 1].as_slice());
+    assert!(rt; closed.links() == [7, FLOOR].as_slice());
     assert!(rt; closed.swapped().is_empty());
 }
 
@@ -104,15 +105,15 @@ fn a_seat_that_looked_posts_after_another(rt: HostRuntime) {
     assert!(rt; board.post(&mut first, zero.start, 0).lost <= 1);
     let chain = board.peek(&mut first, 0).expect(&rt, "memory");
     assert!(rt; chain.as_slice() == [0, 1].as_slice());
-    assert!(rt; board.look(&mut second, 0) == 4294967296);
+    assert!(rt; board.look(&mut second, 0) == FLOOR);
     if board.claim(&mut first).is_some() || board.claim(&mut second).is_some() {
         panic!(rt; "a third record")
     }
     let seat = joined(&board, first, second);
     let closed = board.close(seat).expect(&rt, "memory");
     let (heads, links, swapped) = closed.into_parts();
-    assert!(rt; heads.as_slice() == [4294967296].as_slice());
-    assert!(rt; links.as_slice() == [4294967297, 7].as_slice());
+    assert!(rt; heads.as_slice() == [FLOOR].as_slice());
+    assert!(rt; links.as_slice() == [FLOOR + 1, 7].as_slice());
     assert!(rt; swapped.is_empty());
 }
 
@@ -146,7 +147,7 @@ fn a_word_is_replaced_before_a_post(rt: HostRuntime) {
         panic!(rt; "a second record")
     }
     let closed = board.close(seat).expect(&rt, "memory");
-    assert!(rt; closed.heads() == [4294967297].as_slice());
+    assert!(rt; closed.heads() == [FLOOR + 1].as_slice());
     assert!(rt; closed.links() == [5].as_slice());
     assert!(rt; closed.swapped() == [0].as_slice());
 }
@@ -166,8 +167,8 @@ fn a_replacement_comes_late(rt: HostRuntime) {
         panic!(rt; "a second record")
     }
     let closed = board.close(seat).expect(&rt, "memory");
-    assert!(rt; closed.heads() == [4294967297].as_slice());
-    assert!(rt; closed.links() == [4294967296].as_slice());
+    assert!(rt; closed.heads() == [FLOOR + 1].as_slice());
+    assert!(rt; closed.links() == [FLOOR].as_slice());
     assert!(rt; closed.swapped().is_empty());
 }
 

@@ -4,10 +4,11 @@ use mathlib.Core.Option.{some-injective}
 use mathlib.Core.Logic.{dite}
 use native.Mathlib.Decide.{ℕ_discrete, dec_lt}
 use Rattle.bw_core.specs.declared.BookView.{BookView}
-use Rattle.bw_core.specs.World.{World, LawfulUnder, Each, owns, posts_in, times, seen_at, end_at, late}
+use Rattle.std.specs.List.{AllByRecursion}
+use Rattle.bw_core.specs.World.{World, LawfulUnder, owns, posts_in, times, seen_at, end_at, late}
 use Rattle.bw_core.specs.Events.{under, Resumes}
 use Rattle.bw_core.specs.Steps.{IsWorld, IsSeat, MayLink, MayTry, MayFollow, MayJoin}
-use Rattle.bw_core.proofs.Lists.{at_index, inside_at, meets_low, one_other, Each-like, few, end-length, total_two}
+use Rattle.bw_core.proofs.Lists.{at_index, inside_at, meets_low, one_other, AllByRecursion-like, few, end-length, total_two}
 use Rattle.bw_core.proofs.Events.{is_record}
 use Rattle.bw_core.proofs.Claims.{no_wrap}
 
@@ -27,25 +28,25 @@ pub page_heads : (w : World) → IsWorld w → (page : ℕ) → page < length w.
 page_heads w k page p = let e = k.lawful.head_each_page in omega arith
 
 -- a record of a list is below what all of them are below
-times_below : (n r : ℕ) (rs : List ℕ) → Each (λ x. x < n) rs → 0 < times r rs → r < n
+times_below : (n r : ℕ) (rs : List ℕ) → AllByRecursion (λ x. x < n) rs → 0 < times r rs → r < n
 times_below n r [] h t = absurd (omega arith)
 times_below n r (x ∷ rs) h t = dite (ℕ_discrete x r) (λ e. let l = h.0 in omega arith) (λ ne. times_below n r rs h.1 (let o = one_other x r ne in omega arith))
 
 -- what a seat saw are records
-seen_records : (w : World) → IsWorld w → (seat : ℕ) (b : BookView) (page : ℕ) → IsSeat w seat b → page < length w.first → Each (λ x. x < length w.links) (seen_at b page)
+seen_records : (w : World) → IsWorld w → (seat : ℕ) (b : BookView) (page : ℕ) → IsSeat w seat b → page < length w.first → AllByRecursion (λ x. x < length w.links) (seen_at b page)
 seen_records w k seat b page h p = let q = k.lawful in let end = (q.each seat b h.0).seen_end page h.1 p in
-    Each-end (λ x. x < length w.links) end.0 (seen_at b page) (subst (Each (λ x. x < length w.links)) end.1 (meets_low w.floor w.links (get_or w.heads page 0) (q.fresh page) (q.last page) (q.met page p)))
+    AllByRecursion-end (λ x. x < length w.links) end.0 (seen_at b page) (subst (AllByRecursion (λ x. x < length w.links)) end.1 (meets_low w.floor w.links (get_or w.heads page 0) (q.fresh page) (q.last page) (q.met page p)))
   where
-    Each-end : (P : ℕ → Type 0) (front rs : List ℕ) → Each P (front ++ rs) → Each P rs
-    Each-end P [] rs h = h
-    Each-end P (x ∷ front) rs h = Each-end P front rs h.1
+    AllByRecursion-end : (P : ℕ → Type 0) (front rs : List ℕ) → AllByRecursion P (front ++ rs) → AllByRecursion P rs
+    AllByRecursion-end P [] rs h = h
+    AllByRecursion-end P (x ∷ front) rs h = AllByRecursion-end P front rs h.1
 
 pub seen_link : (w : World) → IsWorld w → (seat rec : ℕ) (b : BookView) (page : ℕ) → MayFollow w seat rec b page → rec < length w.links
 seen_link w k seat rec b page may = times_below (length w.links) rec (seen_at b page) (seen_records w k seat b page may.0 may.1) may.2
 
 -- and they have words
-pub seen_words : (w : World) → IsWorld w → (seat : ℕ) (b : BookView) (page : ℕ) → IsSeat w seat b → page < length w.first → Each (λ r. w.floor + r < 2 ^ 64) (seen_at b page)
-seen_words w k seat b page h p = Each-like _ _ (seen_at b page) (λ x l. let e = k.lawful.link_each_record in let f = k.words_fit in omega arith) (seen_records w k seat b page h p)
+pub seen_words : (w : World) → IsWorld w → (seat : ℕ) (b : BookView) (page : ℕ) → IsSeat w seat b → page < length w.first → AllByRecursion (λ r. w.floor + r < 2 ^ 64) (seen_at b page)
+seen_words w k seat b page h p = AllByRecursion-like _ _ (seen_at b page) (λ x l. let e = k.lawful.link_each_record in let f = k.words_fit in omega arith) (seen_records w k seat b page h p)
 
 -- an own record has a link, and a word
 pub own_link : (w : World) → IsWorld w → (seat rec : ℕ) (b : BookView) → IsSeat w seat b → 0 < owns rec b → (rec < length w.links) × (w.floor + rec < 2 ^ 33)

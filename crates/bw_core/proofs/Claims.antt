@@ -1,5 +1,5 @@
 -- Claimed pieces: a step of the claim word keeps their part of the rule, and does not wrap.
-use Rattle.std.proofs.Common.{refl, ◌≡◌, ℕ, suc, ◌+◌, ◌-◌, ◌*◌, ◌/◌, ◌^◌, ◌<◌, ◌≤◌, ◌≢◌, ⊎_elim, leb, ltb, min, Bool, true, false, cond, ◌&&◌, ◌||◌, List, [], ◌∷◌, ◌++◌, set, sym, ap, ◌∙◌, subst, arith}
+use Rattle.std.proofs.Common.{◌⊎◌, inl, inr, refl, ◌≡◌, ℕ, suc, ◌+◌, ◌-◌, ◌*◌, ◌/◌, ◌^◌, ◌<◌, ◌≤◌, ◌≢◌, ⊎_elim, leb, ltb, min, Bool, true, false, cond, ◌&&◌, ◌||◌, List, [], ◌∷◌, ◌++◌, set, sym, ap, ◌∙◌, subst, arith}
 use Rattle.std.proofs.Math.Nat.{mul-le-mul_left}
 use mathlib.Core.Option.{some}
 use native.Mathlib.Decide.{dec_lt}
@@ -9,7 +9,10 @@ use Rattle.bw_core.specs.declared.Span.{Span}
 use Rattle.bw_core.specs.World.{one_if, total, owns, open_width, rounded, Claimed, spent}
 use Rattle.bw_core.specs.Events.{span, takes_piece, is_told, split_left, split_right, joined}
 use Rattle.bw_core.specs.declared.BookView.{BookView}
-use Rattle.bw_core.proofs.Lists.{total-append, total_set, at_set, at_snoc}
+use Rattle.bw_core.specs.declared.Played.TheVariants.{Done, NotAllowed}
+use Rattle.bw_core.specs.World.{World, Lawful}
+use Rattle.bw_core.specs.Keeping.{ClaimTakesFree, ToldIsClaimed, OwnsAlone}
+use Rattle.bw_core.proofs.Lists.{total-append, total_set, total_two, at_set, at_snoc}
 
 covers : (piece records next r : ℕ) → next < records → one_if (ltb r (min next records)) + (one_if (leb next r && ltb r (min (next + piece) records)) + 0) ≡ one_if (ltb r (min (next + piece) records))
 covers piece records next r h = grind (arith, nat_tests)
@@ -114,3 +117,23 @@ claimed_low piece records next bs r q h = q.owned_is r ∙ none_there r (min nex
   where
     none_there : (r n : ℕ) → n ≤ r → one_if (ltb r n) ≡ 0
     none_there r n h = grind (arith, nat_tests)
+
+-- which records have an owner
+all_below : (r next records : ℕ) → r < records → records ≤ next → one_if (ltb r (min next records)) ≡ 1
+all_below r next records h n = grind (arith, nat_tests)
+
+none_from : (r next records : ℕ) → next ≤ r → one_if (ltb r (min next records)) ≡ 0
+none_from r next records h = grind (arith, nat_tests)
+
+pub told_is_claimed : ToldIsClaimed
+told_is_claimed w q seat b at told r h = q.claims.owned_is r ∙ all_below r w.next w.records h (q.claims.told_done seat b at told)
+
+answered : (m n : ℕ) → Done m ≡ Done n → m ≡ n
+answered m n e = cc
+
+pub claim_takes_free : ClaimTakesFree
+claim_takes_free w q seat next w' (inl t) r h k = let e = answered next w.next t.3 in q.claims.owned_is r ∙ none_from r w.next w.records (omega arith)
+claim_takes_free w q seat next w' (inr t) r h k = let e : Done next ≡ NotAllowed = t.1.1 in absurd (cc)
+
+pub owns_alone : OwnsAlone
+owns_alone w q i j r b d at there n own = omega (arith, total_two (owns r) w.books i j b d n at there, q.owned_once r)

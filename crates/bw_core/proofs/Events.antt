@@ -9,10 +9,11 @@ use Rattle.bw_core.specs.declared.Post.{Post}
 use Rattle.bw_core.specs.declared.Under.{Under}
 use Rattle.bw_core.specs.declared.BookView.{BookView}
 use Rattle.bw_core.specs.declared.Swap.{Swap}
-use Rattle.bw_core.specs.World.{SameStart, end_at, spare_at, wins_in, late, Keeps, World, Claimed, one_if, total, times, owns, posts_in, posts_at, seen_at, top, Meets, IsEnd, beneath, Each, LawfulUnder, LawfulBook, Lawful}
+use Rattle.std.specs.List.{AllByRecursion}
+use Rattle.bw_core.specs.World.{SameStart, end_at, spare_at, wins_in, late, Keeps, World, Claimed, one_if, total, times, owns, posts_in, posts_at, seen_at, top, Meets, IsEnd, beneath, LawfulUnder, LawfulBook, Lawful}
 use Rattle.bw_core.specs.Events.{swap, replaced, came_late, takes_piece, is_told, span, moved, under, post, looked, linked, won, lost_to}
 use Rattle.bw_core.proofs.Claims.{claimed_same, claimed_low, claim_takes, claim_tells}
-use Rattle.bw_core.proofs.Lists.{one_small, at_set, one_same, one_other, total-append, total_set, total-le, total-le_at, total_at, total_two, Each-append, Each-like, end_trans, end_self, end-length, end-times, beneath_more, meets_top, meets_set, same_top, late_first, late_other, late_within}
+use Rattle.bw_core.proofs.Lists.{one_small, at_set, one_same, one_other, total-append, total_set, total-le, total-le_at, total_at, total_two, AllByRecursion-append, AllByRecursion-like, end_trans, end_self, end-length, end-times, beneath_more, meets_top, meets_set, same_top, late_first, late_other, late_within}
 
 module _ {A : Type 0} where
   -- f with s at p
@@ -97,7 +98,7 @@ pub book_keeps : (w : World) (hs ls : List ℕ) (bs : List BookView) (f : ℕ �
     → ((u : Under) → b.under ≡ Some u → u.armed ≡ true → get_or ls u.rec 0 ≡ get_or w.links u.rec 0) → LawfulBook w f l b → LawfulBook (moved w hs ls bs) g k b
 book_keeps w hs ls bs f l g k b grows same ok = record {
   posts_own = ok.posts_own;
-  posts_page = Each-like _ _ b.posted (λ x h. (h.0, let a = end-beneath x.rec (f x.page) (g x.page) (grows x.page).0 in let c = late_within (get_or w.first x.page 0) (l x.page) (k x.page) (grows x.page).1 in let m = h.1 in omega arith)) ok.posts_page;
+  posts_page = AllByRecursion-like _ _ b.posted (λ x h. (h.0, let a = end-beneath x.rec (f x.page) (g x.page) (grows x.page).0 in let c = late_within (get_or w.first x.page 0) (l x.page) (k x.page) (grows x.page).1 in let m = h.1 in omega arith)) ok.posts_page;
   lawful_under = λ u is. let k = ok.lawful_under u is in record {
     on_page = k.on_page;
     own = k.own;
@@ -362,7 +363,7 @@ win_keeps w q i b r p lost at is hit =
       posts_own = λ z. let a = posts_in-push z r p lost b.posted in let o = ok.posts_own z in dite (ℕ_discrete r z)
           (λ e. let d = one_same r z e in let n : posts_in z b.posted ≡ 0 = subst (λ y. posts_in y b.posted ≡ 0) e none in let m : 0 < owns z b = subst (λ y. 0 < owns y b) e own in omega arith)
           (λ e. let d = one_other r z e in omega arith);
-      posts_page = Each-append _ b.posted (post r p lost ∷ []) (Each-like _ _ b.posted (λ x h. (h.0, let a = end-beneath x.rec (q.fresh x.page) (f x.page) (grows x.page).0 in let k = h.1 in omega arith)) ok.posts_page)
+      posts_page = AllByRecursion-append _ b.posted (post r p lost ∷ []) (AllByRecursion-like _ _ b.posted (λ x h. (h.0, let a = end-beneath x.rec (q.fresh x.page) (f x.page) (grows x.page).0 in let k = h.1 in omega arith)) ok.posts_page)
           ((within, put_case q.fresh p (r ∷ q.fresh p) p (λ z. lost ≤ beneath r z + late (get_or w.first p 0) (q.last p)) (λ e. subst (λ t. lost ≤ cond t (length (q.fresh p)) (beneath r (q.fresh p)) + late (get_or w.first p 0) (q.last p)) (sym (eq-eqb r r refl)) few) (λ n. absurd (n refl))), tt);
       lawful_under = λ u e. let d : None ≡ Some u = e in absurd (cc);
       gone = λ spent. let e : true ≡ false = sym live ∙ spent in absurd (cc);
@@ -460,7 +461,7 @@ claim_any w q i b c n at live idle live' idle' posted seen ends swaps width more
     claims
     (λ j d e. ⊎_elim (λ (t : (j ≡ i) × (c ≡ d)). subst (LawfulBook w' q.fresh q.last) t.1 record {
       posts_own = λ z. let o = ok.posts_own z in let m = more z in let e : posts_in z c.posted ≡ posts_in z b.posted = ap (posts_in z) posted in omega arith;
-      posts_page = subst (λ z. Each (λ x. (x.page < length w.first) × (x.lost ≤ beneath x.rec (q.fresh x.page) + late (get_or w.first x.page 0) (q.last x.page))) z) (sym posted) ok.posts_page;
+      posts_page = subst (λ z. AllByRecursion (λ x. (x.page < length w.first) × (x.lost ≤ beneath x.rec (q.fresh x.page) + late (get_or w.first x.page 0) (q.last x.page))) z) (sym posted) ok.posts_page;
       lawful_under = λ u is. let e : None ≡ Some u = sym idle' ∙ is in absurd (cc);
       gone = λ spent. let e : true ≡ false = sym live' ∙ spent in absurd (cc);
       some_width = λ _. let a = ok.some_width live in omega arith;

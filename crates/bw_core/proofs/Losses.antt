@@ -7,13 +7,14 @@ use native.Mathlib.Decide.{ℕ_discrete}
 use lib.ListN.{get_elem?}
 use Rattle.bw_core.specs.declared.Post.{Post}
 use Rattle.bw_core.specs.declared.BookView.{BookView}
-use Rattle.bw_core.specs.World.{World, one_if, total, times, posts_in, posts_at, Each, beneath, late, Lawful}
+use Rattle.std.specs.List.{AllByRecursion}
+use Rattle.bw_core.specs.World.{World, one_if, total, times, posts_in, posts_at, beneath, late, Lawful}
 use Rattle.bw_core.specs.Keeping.{pairs_of, LossesBound}
 use Rattle.bw_core.proofs.Allowed.{late_small}
 use Rattle.bw_core.proofs.Without.{no_spare}
 use Rattle.bw_core.proofs.Events.{is_record}
 use Rattle.std.proofs.Math.Nat.{mul-le-mul_right}
-use Rattle.bw_core.proofs.Lists.{one_same, total-append, total-le, total_at, total_same, Each-append, beneath_more, meets_low, few}
+use Rattle.bw_core.proofs.Lists.{one_same, total-append, total-le, total_at, total_same, AllByRecursion-append, beneath_more, meets_low, few}
 
 -- the numbers below n, added up
 abbrev tri : ℕ → ℕ
@@ -37,7 +38,7 @@ total_plus : {X : Type 0} → (f g : X → ℕ) (xs : List X) → total (λ x. f
 total_plus f g [] = omega arith
 total_plus f g (x ∷ xs) = let h = total_plus f g xs in omega arith
 
-total_below : {X : Type 0} → (f g : X → ℕ) (xs : List X) → Each (λ x. f x ≤ g x) xs → total f xs ≤ total g xs
+total_below : {X : Type 0} → (f g : X → ℕ) (xs : List X) → AllByRecursion (λ x. f x ≤ g x) xs → total f xs ≤ total g xs
 total_below f g [] h = omega arith
 total_below f g (x ∷ xs) h = let a = h.0 in let k = total_below f g xs h.1 in omega arith
 
@@ -85,9 +86,9 @@ beneath_flat f (suc n) r p h = dite (ℕ_discrete p n)
     (λ e. subst (λ z. beneath r (f z) ≤ beneath r (f n ++ flat f n)) (sym e) (beneath_front r (f n) (flat f n)))
     (λ ne. let a = beneath_flat f n r p (omega arith) in let b = beneath_more r (f n) (flat f n) in omega arith)
 
-flat_each : (f : ℕ → List ℕ) (P : ℕ → Type 0) (n : ℕ) → ((p : ℕ) → p < n → Each P (f p)) → Each P (flat f n)
+flat_each : (f : ℕ → List ℕ) (P : ℕ → Type 0) (n : ℕ) → ((p : ℕ) → p < n → AllByRecursion P (f p)) → AllByRecursion P (flat f n)
 flat_each f P zero h = tt
-flat_each f P (suc n) h = Each-append P (f n) (flat f n) (h n (omega arith)) (flat_each f P n (λ p k. h p (omega arith)))
+flat_each f P (suc n) h = AllByRecursion-append P (f n) (flat f n) (h n (omega arith)) (flat_each f P n (λ p k. h p (omega arith)))
 
 -- how often r was posted under a page below n
 abbrev posts_under : ℕ → ℕ → List Post → ℕ
@@ -129,10 +130,10 @@ flat_times w q (suc n) r h =
     let t = total_plus (λ (b : BookView). posts_at n r b.posted) (λ b. posts_under n r b.posted) w.books in omega arith
 
 -- posts of different records below n are at most n
-posts_few : (n : ℕ) (ps : List Post) → ((r : ℕ) → posts_in r ps ≤ 1) → Each (λ x. x.rec < n) ps → total (λ _. 1) ps ≤ n
+posts_few : (n : ℕ) (ps : List Post) → ((r : ℕ) → posts_in r ps ≤ 1) → AllByRecursion (λ x. x.rec < n) ps → total (λ _. 1) ps ≤ n
 posts_few n ps once low = let f = few n (map (λ x. x.rec) ps) (below ps low) (λ r. let t = same r ps in let o = once r in omega arith) in let l = wide ps in omega arith
   where
-    below : (ps : List Post) → Each (λ x. x.rec < n) ps → Each (λ r. r < n) (map (λ x. x.rec) ps)
+    below : (ps : List Post) → AllByRecursion (λ x. x.rec < n) ps → AllByRecursion (λ r. r < n) (map (λ x. x.rec) ps)
     below [] h = tt
     below (x ∷ ps) h = (h.0, below ps h.1)
 
@@ -151,18 +152,18 @@ losses w q i b k at over = let n = length w.first in let c = flat q.fresh n in l
     let once : (r : ℕ) → posts_in r b.posted ≤ 1 = λ r. (let a = total_at (λ (x : BookView). posts_in r x.posted) w.books i b at in let k = q.posted_once r in omega arith) in
     let each = total_below (λ (x : Post). x.lost) (λ x. beneath x.rec c + 1 * k) b.posted (within b.posted ok.posts_page) in
     let parts = total_plus (λ (x : Post). beneath x.rec c) (λ x. 1 * k) b.posted in let scaled = total_scaled (λ (x : Post). 1) k b.posted in
-    let low : Each (λ x. x < w.records) c = flat_each q.fresh (λ x. x < w.records) n (λ p h. subst (λ k. Each (λ r. r < k) (q.fresh p)) q.link_each_record (meets_low w.floor w.links (get_or w.heads p 0) (q.fresh p) (q.last p) (q.met p h))) in
+    let low : AllByRecursion (λ x. x < w.records) c = flat_each q.fresh (λ x. x < w.records) n (λ p h. subst (λ k. AllByRecursion (λ r. r < k) (q.fresh p)) q.link_each_record (meets_low w.floor w.links (get_or w.heads p 0) (q.fresh p) (q.last p) (q.met p h))) in
     let single : (r : ℕ) → times r c ≤ 1 = λ r. (let a = flat_times w q n r (omega arith) in
     let k = total-le (λ (x : BookView). posts_under n r x.posted) (λ x. posts_in r x.posted) w.books (λ j x e. under_all n r x.posted) in let o = q.posted_once r in omega arith) in
     let wide = few w.records c low single in let a = beneath_pairs b.posted c once in let t = tri_le (length c) w.records wide in let e = tri_pairs w.records in
     let number : total (λ (x : Post). 1) b.posted ≤ w.records = posts_few w.records b.posted once (owned b.posted (λ x h. h)) in
     let more : total (λ (x : Post). 1) b.posted * k ≤ w.records * k = mul-le-mul_right k number in omega arith
   where
-    within : (ps : List Post) → Each (λ x. (x.page < length w.first) × (x.lost ≤ beneath x.rec (q.fresh x.page) + late (get_or w.first x.page 0) (q.last x.page))) ps → Each (λ x. x.lost ≤ beneath x.rec (flat q.fresh (length w.first)) + 1 * k) ps
+    within : (ps : List Post) → AllByRecursion (λ x. (x.page < length w.first) × (x.lost ≤ beneath x.rec (q.fresh x.page) + late (get_or w.first x.page 0) (q.last x.page))) ps → AllByRecursion (λ x. x.lost ≤ beneath x.rec (flat q.fresh (length w.first)) + 1 * k) ps
     within [] h = tt
     within (x ∷ ps) h = (let a = h.0.1 in let b = beneath_flat q.fresh (length w.first) x.rec x.page h.0.0 in let o = over x.page h.0.0 in omega arith, within ps h.1)
 
-    owned : (ps : List Post) → ((r : ℕ) → 0 < posts_in r ps → 0 < posts_in r b.posted) → Each (λ x. x.rec < w.records) ps
+    owned : (ps : List Post) → ((r : ℕ) → 0 < posts_in r ps → 0 < posts_in r b.posted) → AllByRecursion (λ x. x.rec < w.records) ps
     owned [] h = tt
     owned (x ∷ ps) h = (
       is_record w q i b x.rec at (let o = (q.each i b at).posts_own x.rec in let m = h x.rec (let s = one_same x.rec x.rec refl in omega arith) in omega arith),

@@ -13,7 +13,7 @@ use Rattle.bw_core.specs.World.{World, Lawful, LawfulBook, Keeps, IsEnd, one_if,
 use Rattle.bw_core.specs.Events.{moved, under, looked, lost_to, came_late, Resumes}
 use Rattle.bw_core.specs.Steps.{IsFresh, Looks, Links, Tries, Follows, Claims, Splits, Joins, Replaces, Applies, Runs, CanStart, start_world, first_book, IsWorld}
 use Rattle.bw_core.specs.Keeping.{FreshIsRead, StartIsLawful, FollowKeeps, EventKeeps, RunKeeps}
-use Rattle.bw_core.proofs.Lists.{meets_same, end_self, end_trans, end-times, late_first, total-le, total_at, some_member, Each-at}
+use Rattle.bw_core.proofs.Lists.{meets_same, end_self, end_trans, end-times, late_first, total-le, total_at, some_member, AllByRecursion-at}
 use Rattle.bw_core.proofs.Events.{build, last_low, or_then, posts_at-le, and_here, look_keeps, link_keeps, lose_keeps, win_keeps, claim_keeps_piece, claim_keeps_told, replace_keeps_won, replace_keeps_late}
 use Rattle.bw_core.proofs.Seats.{split_keeps, join_keeps}
 
@@ -88,7 +88,7 @@ event_keeps w q (Replace seat page) w' a h = replace_event w q seat page w' a h
 posted_on : (w : World) (q : Lawful w) (r : ℕ) → 0 < total (λ b. posts_in r b.posted) w.books → (p : ℕ) × (p < length w.first) × (0 < times r (q.fresh p))
 posted_on w q r h =
     let t = some_member (λ (b : BookView). posts_in r b.posted) w.books h in let b = t.1 in let u = some_member (λ (x : Post). one_if (eqb x.rec r)) b.posted t.3 in let x = u.1 in
-    let page = (Each-at _ b.posted u.0 x (q.each t.0 b t.2).posts_page u.2).0 in let n = u.3 in
+    let page = (AllByRecursion-at _ b.posted u.0 x (q.each t.0 b t.2).posts_page u.2).0 in let n = u.3 in
     let here = and_here x.page x.page (eqb x.rec r) refl in
     let a = total_at (λ (y : Post). one_if ((eqb y.page x.page) && (eqb y.rec r))) b.posted u.0 x u.2 in
     let d = total_at (λ (c : BookView). posts_at x.page r c.posted) w.books t.0 b t.2 in let k = q.placed x.page r page in

@@ -1,7 +1,7 @@
 -- Split and join keep the world lawful.
-use Rattle.std.proofs.Common.{◌⊎◌, ◌≡◌, ℕ, zero, suc, ◌<◌, ◌≤◌, ◌≢◌, ⊎_elim, eqb, leb, ltb, Bool, true, false, cond, ◌&&◌, List, [], ◌∷◌, ◌++◌, length, get_or, set, sym, refl, ap, ◌∙◌, subst, arith, Some, None}
+use Rattle.std.proofs.Common.{◌⊎◌, ◌≡◌, ℕ, zero, suc, ◌<◌, ◌≤◌, ◌≢◌, ⊎_elim, eqb, leb, ltb, Bool, true, false, cond, ◌&&◌, List, [], ◌∷◌, ◌++◌, append-nil, length, get_or, set, sym, refl, ap, ◌∙◌, subst, arith, Some, None}
 use mathlib.Core.Option.{some}
-use native.Mathlib.Decide.{dec_le}
+use native.Mathlib.Decide.{dec_le, dec_lt}
 use lib.ListN.{get_elem?}
 use Rattle.std.proofs.lemmas.Bool.Decides.{nat_tests}
 use Rattle.bw_core.specs.declared.Span.{Span}
@@ -10,7 +10,8 @@ use Rattle.bw_core.specs.declared.Swap.{Swap}
 use Rattle.bw_core.specs.declared.BookView.{BookView}
 use Rattle.bw_core.specs.World.{wins_in, Keeps, World, one_if, posts_at, seen_at, IsEnd, LawfulBook, Lawful, spent}
 use Rattle.bw_core.specs.Events.{moved, split_left, split_right, longer_of, longest, later_of, latest, joined}
-use Rattle.bw_core.proofs.Lists.{still_at, at_set, at_snoc, total-append, total_set, total_two, Each-append, end_self, end-times}
+use Rattle.bw_core.specs.Keeping.{JoinSeesBoth}
+use Rattle.bw_core.proofs.Lists.{still_at, at_set, at_snoc, total-append, total_set, total_two, AllByRecursion-append, end_self, end-times}
 use Rattle.bw_core.proofs.Events.{start_same, build_on, stays, book_keeps, end_same}
 use Rattle.bw_core.proofs.Claims.{claimed_split, claimed_join}
 
@@ -106,6 +107,28 @@ join_parts w f l b d p ok od lb ld h = let e : length b.seen ≡ length d.seen =
     let at : get_or (longest b.seen d.seen) p [] ≡ longer_of (seen_at b p) (seen_at d p) = longest_at b.seen d.seen p (omega arith) e in
     subst (λ z. IsEnd (seen_at b p) z × IsEnd (seen_at d p) z × IsEnd z (f p)) (sym at) (longer_ends (seen_at b p) (seen_at d p) (f p) (ok.seen_end p lb h) (od.seen_end p ld h))
 
+no_page : (xs : List (List ℕ)) (p : ℕ) → length xs ≤ p → get_or xs p [] ≡ []
+no_page [] p h = refl
+no_page (x ∷ xs) zero h = absurd (omega arith)
+no_page (x ∷ xs) (suc p) h = no_page xs p (omega arith)
+
+empty_end : (a b : List ℕ) → a ≡ [] → IsEnd a b
+empty_end a b none = subst (λ z. IsEnd z b) (sym none) (b, sym (append-nil b))
+
+pub join_sees_both : JoinSeesBoth
+join_sees_both w q i j b d at there =
+    let ok = q.each i b at.0 in let od = q.each j d there.0 in
+    let wide = ok.seen_each_page at.1 in let wide' = od.seen_each_page there.1 in record {
+      left = λ p. elim (dec_lt p (length w.first)) [
+        | yes h ↦ (join_parts w q.fresh q.last b d p ok od at.1 there.1 h).0
+        | no n ↦ empty_end (seen_at b p) (seen_at (joined w.first b d) p) (no_page b.seen p (omega arith))
+      ];
+      right = λ p. elim (dec_lt p (length w.first)) [
+        | yes h ↦ (join_parts w q.fresh q.last b d p ok od at.1 there.1 h).1
+        | no n ↦ empty_end (seen_at d p) (seen_at (joined w.first b d) p) (no_page d.seen p (omega arith))
+      ];
+    }
+
 pub join_keeps : (w : World) (q : Lawful w) (i j : ℕ) (b d : BookView) → get_elem? w.books i ≡ some b → get_elem? w.books j ≡ some d → j ≢ i → b.live ≡ true → d.live ≡ true → b.under ≡ None → d.under ≡ None
     → Keeps w q (moved w w.heads w.links (set (set w.books i (joined w.first b d)) j spent))
 join_keeps w q i j b d at there n lb ld idle idle' = let there' = still_at w.books i j (joined w.first b d) d n there in
@@ -132,7 +155,7 @@ join_keeps w q i j b d at there n lb ld idle idle' = let there' = still_at w.boo
     (λ (t : (k ≢ j) × (get_elem? (set w.books i c) k ≡ some x)). ⊎_elim (λ (t : (k ≡ i) × (c ≡ x)). subst (LawfulBook w' q.fresh q.last) t.1 record {
       posts_own = λ z. let a = total-append (λ (x : Post). one_if (eqb x.rec z)) b.posted d.posted in let m = total-append (λ (s : Span). one_if (leb s.from z && ltb z s.to)) b.owned d.owned in
           let o = ok.posts_own z in let o' = od.posts_own z in omega arith;
-      posts_page = Each-append _ b.posted d.posted ok.posts_page od.posts_page;
+      posts_page = AllByRecursion-append _ b.posted d.posted ok.posts_page od.posts_page;
       lawful_under = λ u is. let e : None ≡ Some u = sym idle ∙ is in absurd (cc);
       gone = λ spent. let e : true ≡ false = sym lb ∙ spent in absurd (cc);
       some_width = λ _. let a = ok.some_width lb in omega arith;

@@ -10,7 +10,7 @@ use Rattle.bw_core.specs.declared.BookView.{BookView}
 use Rattle.bw_core.specs.World.{World, Armed, LawfulBook, Meets, IsEnd, IsLast, one_if, beneath, late, top, seen_at, end_at}
 use Rattle.bw_core.specs.Events.{span}
 use Rattle.bw_core.specs.Keeping.{SparelessPage, ArmedLink, ArmedLinkIs, JoinAdds, ClaimAdds}
-use Rattle.bw_core.proofs.Lists.{total-append, late_first, Each-like}
+use Rattle.bw_core.proofs.Lists.{total-append, late_first, AllByRecursion-like}
 use Rattle.bw_core.proofs.Events.{live_under, armed_in}
 
 -- a page without a spare has one word to end in, and no bound grows
@@ -43,7 +43,7 @@ spareless_page w q page h none = let first : ℕ = get_or w.first page 0 in
       met = subst (λ z. Meets w.floor w.links (get_or w.heads page 0) (q.fresh page) z) ends (q.met page h);
       no_swap = q.swapped page h ∙ in_time;
       ends_is = λ seat b at live. ⊎_elim (λ e. e) (λ e. e ∙ ends) ((q.each seat b at).ends_is page live h);
-      posts = λ seat b at. Each-like _ _ b.posted (λ x k e. let m = subst (λ z. x.lost ≤ beneath x.rec (q.fresh z) + late (get_or w.first z 0) (q.last z)) e k.1 in omega arith) (q.each seat b at).posts_page;
+      posts = λ seat b at. AllByRecursion-like _ _ b.posted (λ x k e. let m = subst (λ z. x.lost ≤ beneath x.rec (q.fresh z) + late (get_or w.first z 0) (q.last z)) e k.1 in omega arith) (q.each seat b at).posts_page;
       under_way = λ seat b u at is e. let ok = q.each seat b at in let live = live_under w q.fresh q.last b ok u is in
           let m = subst (λ z. u.lost ≤ length (seen_at b z) + late (get_or w.first z 0) (end_at b z)) e (ok.lawful_under u is).few in
           let z = late_first first (end_at b page) (⊎_elim (λ e. e) (λ e. e ∙ ends) (ok.ends_is page live h)) in omega arith;

@@ -3,4 +3,14 @@ use Rattle.bw_core.specs.World.{World}
 use Rattle.bw_core.specs.declared.state.State.TheInside.{Inside}
 
 abbrev pub view_of : Inside → World
-view_of s = record { first = s.first.items; floor = s.floor; records = s.records; piece = s.piece; spares = s.spares.items; next = s.next; heads = s.heads.items; links = s.links.items; books = s.books.items }
+view_of s = record {
+  first = s.first.items;
+  floor = s.floor;
+  records = s.records;
+  piece = s.piece;
+  spares = s.spares.items;
+  next = s.next;
+  heads = s.heads.items;
+  links = s.links.items;
+  books = s.books.items;
+}

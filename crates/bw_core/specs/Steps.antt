@@ -29,17 +29,20 @@ MayLook w seat page b = IsSeat w seat b × (page < length w.first)
 -- it sees the whole chain of the page, and answers the head
 abbrev pub Looks : World → ℕ → ℕ → World → Played → Type 0
 Looks w seat page w' a = ((b : BookView) × (s : List ℕ) × (x : ℕ) × MayLook w seat page b × IsFresh w page s x
-    × (w' ≡ moved w w.heads w.links (slice_set w.books seat (looked b page s x))) × (a ≡ Done (slice_index w.heads page)))
+    × (w' ≡ moved w w.heads w.links (slice_set w.books seat (looked b page s x)))
+    × (a ≡ Done (slice_index w.heads page)))
     ⊎ (((b : BookView) → MayLook w seat page b → ⊥) × IsRefused w w' a)
 
 -- a link asks for an own record that is not posted, with nothing else under way
 abbrev pub MayLink : World → ℕ → ℕ → ℕ → BookView → ℕ → Type 0
-MayLink w seat rec page b lost = IsSeat w seat b × (page < length w.first) × (0 < owns rec b) × (posts_in rec b.posted ≡ 0) × Resumes b rec page lost
+MayLink w seat rec page b lost = IsSeat w seat b × (page < length w.first) × (0 < owns rec b)
+    × (posts_in rec b.posted ≡ 0) × Resumes b rec page lost
 
 -- it stores the top of the seen chain as the record's link, and answers that word
 abbrev pub Links : World → ℕ → ℕ → ℕ → World → Played → Type 0
 Links w seat rec page w' a = ((b : BookView) × (lost : ℕ) × MayLink w seat rec page b lost
-    × (w' ≡ moved w w.heads (slice_set w.links rec (top w.floor (end_at b page) (seen_at b page))) (slice_set w.books seat (linked b rec page lost)))
+    × (w' ≡ moved w w.heads (slice_set w.links rec (top w.floor (end_at b page) (seen_at b page)))
+    (slice_set w.books seat (linked b rec page lost)))
     × (a ≡ Done (top w.floor (end_at b page) (seen_at b page))))
     ⊎ (((b : BookView) (lost : ℕ) → MayLink w seat rec page b lost → ⊥) × IsRefused w w' a)
 
@@ -50,16 +53,20 @@ MayTry w seat rec page b lost = IsSeat w seat b × (b.under ≡ Some (under rec 
 -- the head is still the record's link: the record becomes the head
 abbrev pub Wins : World → ℕ → ℕ → ℕ → BookView → ℕ → World → Played → Type 0
 Wins w seat rec page b lost w' a = (slice_index w.heads page ≡ slice_index w.links rec)
-    × (w' ≡ moved w (slice_set w.heads page (w.floor + rec)) w.links (slice_set w.books seat (won b rec page lost))) × (a ≡ Done (w.floor + rec))
+    × (w' ≡ moved w (slice_set w.heads page (w.floor + rec)) w.links (slice_set w.books seat (won b rec page lost)))
+    × (a ≡ Done (w.floor + rec))
 
 -- the head is another word: the exchange is lost, and the present chain is seen
 abbrev pub Loses : World → ℕ → ℕ → ℕ → BookView → ℕ → World → Played → Type 0
-Loses w seat rec page b lost w' a = (s : List ℕ) × (x : ℕ) × (slice_index w.heads page ≢ slice_index w.links rec) × IsFresh w page s x
-    × (w' ≡ moved w w.heads w.links (slice_set w.books seat (lost_to b rec page lost s x))) × (a ≡ Lost (slice_index w.heads page))
+Loses w seat rec page b lost w' a = (s : List ℕ) × (x : ℕ) × (slice_index w.heads page ≢ slice_index w.links rec)
+    × IsFresh w page s x
+    × (w' ≡ moved w w.heads w.links (slice_set w.books seat (lost_to b rec page lost s x)))
+    × (a ≡ Lost (slice_index w.heads page))
 
 -- it wins or loses
 abbrev pub Tries : World → ℕ → ℕ → ℕ → World → Played → Type 0
-Tries w seat rec page w' a = ((b : BookView) × (lost : ℕ) × MayTry w seat rec page b lost × (Wins w seat rec page b lost w' a ⊎ Loses w seat rec page b lost w' a))
+Tries w seat rec page w' a = ((b : BookView) × (lost : ℕ) × MayTry w seat rec page b lost
+    × (Wins w seat rec page b lost w' a ⊎ Loses w seat rec page b lost w' a))
     ⊎ (((b : BookView) (lost : ℕ) → MayTry w seat rec page b lost → ⊥) × IsRefused w w' a)
 
 -- a follow asks for a record that the seat saw on some page
@@ -68,7 +75,8 @@ MayFollow w seat rec b page = IsSeat w seat b × (page < length w.first) × (0 <
 
 -- it answers the link, and changes nothing
 abbrev pub Follows : World → ℕ → ℕ → World → Played → Type 0
-Follows w seat rec w' a = ((b : BookView) × (page : ℕ) × MayFollow w seat rec b page × (w' ≡ w) × (a ≡ Done (slice_index w.links rec)))
+Follows w seat rec w' a = ((b : BookView) × (page : ℕ) × MayFollow w seat rec b page × (w' ≡ w)
+    × (a ≡ Done (slice_index w.links rec)))
     ⊎ (((b : BookView) (page : ℕ) → MayFollow w seat rec b page → ⊥) × IsRefused w w' a)
 
 -- a claim asks for a seat with nothing under way, which was not told of no record left
@@ -82,7 +90,8 @@ claimed w seat c = record w { next = w.next + w.piece; books = slice_set w.books
 -- it takes the next piece, or the seat is told that there is none; the answer is the number of the next record
 abbrev pub Claims : World → ℕ → World → Played → Type 0
 Claims w seat w' a = ((b : BookView) × MayClaim w seat b
-    × (((w.next < w.records) × (w' ≡ claimed w seat (takes_piece w.piece w.records w.next b))) ⊎ ((w.records ≤ w.next) × (w' ≡ claimed w seat (is_told b))))
+    × (((w.next < w.records) × (w' ≡ claimed w seat (takes_piece w.piece w.records w.next b))) ⊎ ((w.records ≤ w.next)
+    × (w' ≡ claimed w seat (is_told b))))
     × (a ≡ Done w.next))
     ⊎ (((b : BookView) → MayClaim w seat b → ⊥) × IsRefused w w' a)
 
@@ -93,7 +102,8 @@ MaySplit w seat b = IsSeat w seat b × (b.under ≡ None) × (2 ≤ b.width)
 -- it makes a new last book, and answers its number
 abbrev pub Splits : World → ℕ → World → Played → Type 0
 Splits w seat w' a = ((b : BookView) × MaySplit w seat b
-    × (w' ≡ moved w w.heads w.links (slice_set w.books seat (split_left b) ++ split_right b ∷ [])) × (a ≡ Done (length w.books)))
+    × (w' ≡ moved w w.heads w.links (slice_set w.books seat (split_left b) ++ split_right b ∷ []))
+    × (a ≡ Done (length w.books)))
     ⊎ (((b : BookView) → MaySplit w seat b → ⊥) × IsRefused w w' a)
 
 -- a join asks for two seats with nothing under way
@@ -103,20 +113,24 @@ MayJoin w into other b d = IsSeat w into b × IsSeat w other d × (other ≢ int
 -- one book gets what the other had, and the other is spent; the answer is the number of the other
 abbrev pub Joins : World → ℕ → ℕ → World → Played → Type 0
 Joins w into other w' a = ((b : BookView) × (d : BookView) × MayJoin w into other b d
-    × (w' ≡ moved w w.heads w.links (slice_set (slice_set w.books into (joined w.first b d)) other spent)) × (a ≡ Done other))
+    × (w' ≡ moved w w.heads w.links (slice_set (slice_set w.books into (joined w.first b d)) other spent))
+    × (a ≡ Done other))
     ⊎ (((b d : BookView) → MayJoin w into other b d → ⊥) × IsRefused w w' a)
 
 -- a replacement asks for a page with a spare, which the seat has not tried, and a seat with nothing under way
 abbrev pub MayReplace : World → ℕ → ℕ → BookView → ℕ → Type 0
-MayReplace w seat page b x = IsSeat w seat b × (b.under ≡ None) × (page < length w.first) × (spare_at w page ≡ Some x) × (tries_in page b.swaps ≡ 0)
+MayReplace w seat page b x = IsSeat w seat b × (b.under ≡ None) × (page < length w.first) × (spare_at w page ≡ Some x)
+    × (tries_in page b.swaps ≡ 0)
 
 -- the spare becomes the head where that is still the first word; else the seat came late, and sees the present chain
 abbrev pub Replaces : World → ℕ → ℕ → World → Played → Type 0
 Replaces w seat page w' a = ((b : BookView) × (spare : ℕ) × MayReplace w seat page b spare
     × (((slice_index w.heads page ≡ slice_index w.first page)
-    × (w' ≡ moved w (slice_set w.heads page spare) w.links (slice_set w.books seat (replaced b page spare))) × (a ≡ Done spare))
+    × (w' ≡ moved w (slice_set w.heads page spare) w.links (slice_set w.books seat (replaced b page spare)))
+    × (a ≡ Done spare))
     ⊎ ((s : List ℕ) × (x : ℕ) × (slice_index w.heads page ≢ slice_index w.first page) × IsFresh w page s x
-    × (w' ≡ moved w w.heads w.links (slice_set w.books seat (came_late b page s x))) × (a ≡ Lost (slice_index w.heads page)))))
+    × (w' ≡ moved w w.heads w.links (slice_set w.books seat (came_late b page s x)))
+    × (a ≡ Lost (slice_index w.heads page)))))
     ⊎ (((b : BookView) (spare : ℕ) → MayReplace w seat page b spare → ⊥) × IsRefused w w' a)
 
 -- the event takes this world to that world with this answer
@@ -148,13 +162,34 @@ Runs w (e ∷ es) w' = (m : World) × (a : Played) × Applies w e m a × Runs m 
 
 -- the book that a world starts with
 abbrev pub first_book : List ℕ → BookView
-first_book first = record { live = true; owned = []; posted = []; under = None; seen = replicate (length first) []; ends = first; swaps = []; width = 1024; told = false }
+first_book first = record {
+  live = true;
+  owned = [];
+  posted = [];
+  under = None;
+  seen = replicate (length first) [];
+  ends = first;
+  swaps = [];
+  width = 1024;
+  told = false;
+}
 
 -- the world before any event
 abbrev pub start_world : List ℕ → ℕ → ℕ → ℕ → List (Option ℕ) → World
-start_world first floor records piece spares = record { first = first; floor = floor; records = records; piece = piece; spares = spares; next = 0; heads = first; links = replicate records 0; books = first_book first ∷ [] }
+start_world first floor records piece spares = record {
+  first = first;
+  floor = floor;
+  records = records;
+  piece = piece;
+  spares = spares;
+  next = 0;
+  heads = first;
+  links = replicate records 0;
+  books = first_book first ∷ [];
+}
 
--- what `start` asks: the first words are below the floor, each record has a word, and a page's spare is below the floor and not its first word
+-- what `start` asks: the first words are below the floor, each record has a word, and a page's spare is below the floor
+-- and not its first word
 pub record CanStart (first : List ℕ) (floor records piece : ℕ) (spares : List (Option ℕ)) : Type 0 where
   pub first_low : (page : ℕ) → page < length first → slice_index first page < floor
   pub words_fit : floor + records ≤ 2 ^ 33

@@ -1,5 +1,7 @@
--- The world of posting as plain data, and when it is lawful. The numbers at the facts are the clauses of the law, `Lawful`.
+-- The world of posting as plain data, and when it is lawful. The numbers at the facts are the clauses of the law,
+-- `Lawful`.
 use Rattle.std.specs.Prelude.{◌*◌, ◌-◌, ◌/◌, min, ◌≡◌, ℕ, ◌+◌, ◌<◌, ◌≤◌, ◌==◌, ◌&&◌, nat_lt, nat_le, Bool, true, false, cond, List, [], ◌∷◌, ◌++◌, length, slice_index, slice_index_or, Some, None, Option, ◌⊎◌, ◌≢◌}
+use Rattle.std.specs.List.{AllByRecursion}
 use mathlib.Core.Option.{some}
 use lib.ListN.{get_elem?}
 use Rattle.bw_core.specs.declared.Span.{Span}
@@ -37,11 +39,6 @@ one_if b = cond b 1 0
 abbrev pub total : {X : Type 0} → (X → ℕ) → List X → ℕ
 total f [] = 0
 total f (x ∷ xs) = f x + total f xs
-
--- a fact on each member of the list
-abbrev pub Each : {X : Type 0} → (X → Type 0) → List X → Type 0
-Each P [] = Unit {0}
-Each P (x ∷ xs) = P x × Each P xs
 
 -- how often r stands in the list
 abbrev pub times : ℕ → List ℕ → ℕ
@@ -99,7 +96,8 @@ top floor last (r ∷ rs) = floor + r
 -- going from a word by the links meets just these records, and then the word `last`
 abbrev pub Meets : ℕ → List ℕ → ℕ → List ℕ → ℕ → Type 0
 Meets floor links word [] last = word ≡ last
-Meets floor links word (r ∷ rs) last = (word ≡ floor + r) × (r < length links) × Meets floor links (slice_index links r) rs last
+Meets floor links word (r ∷ rs) last = (word ≡ floor + r) × (r < length links)
+    × Meets floor links (slice_index links r) rs last
 
 -- the one list ends with the other
 abbrev pub IsEnd : List ℕ → List ℕ → Type 0
@@ -110,7 +108,8 @@ abbrev pub beneath : ℕ → List ℕ → ℕ
 beneath r [] = 0
 beneath r (x ∷ xs) = cond (x == r) (length xs) (beneath r xs)
 
--- an armed record's link is the top of an end of the seen chain, over the word that ended that chain or over the page's first word;
+-- an armed record's link is the top of an end of the seen chain, over the word that ended that chain or over the page's
+-- first word;
 -- that end has at least `lost` records, or one less where it is over the spare
 pub record Armed (w : World) (b : BookView) (u : Under) : Type 0 where
   pub end : List ℕ
@@ -132,14 +131,26 @@ pub record LawfulUnder (w : World) (b : BookView) (u : Under) : Type 0 where
 
 -- the book of a seat that was joined into another
 abbrev pub spent : BookView
-spent = record { live = false; owned = []; posted = []; under = None; seen = []; ends = []; swaps = []; width = 0; told = false }
+spent = record {
+  live = false;
+  owned = [];
+  posted = [];
+  under = None;
+  seen = [];
+  ends = [];
+  swaps = [];
+  width = 0;
+  told = false;
+}
 
 -- what holds of each book, where `fresh p` is the chain of page p and `last p` the word that ends it
 pub record LawfulBook (w : World) (fresh : ℕ → List ℕ) (last : ℕ → ℕ) (b : BookView) : Type 0 where
   -- 3: what was posted is the seat's own
   pub posts_own : (r : ℕ) → posts_in r b.posted ≤ owns r b
-  -- 3 and 5: it was posted on a page that exists, and has lost at most as often as there are records beneath it, or once more over the spare
-  pub posts_page : Each (λ x. (x.page < length w.first) × (x.lost ≤ beneath x.rec (fresh x.page) + late (slice_index w.first x.page) (last x.page))) b.posted
+  -- 3 and 5: it was posted on a page that exists, and has lost at most as often as there are records beneath it, or
+  -- once more over the spare
+  pub posts_page : AllByRecursion (λ x. (x.page < length w.first)
+      × (x.lost ≤ beneath x.rec (fresh x.page) + late (slice_index w.first x.page) (last x.page))) b.posted
   -- 3 and 5, of the record under way
   pub lawful_under : (u : Under) → b.under ≡ Some u → LawfulUnder w b u
   -- 3: a book that isn't live is empty
@@ -150,7 +161,8 @@ pub record LawfulBook (w : World) (fresh : ℕ → List ℕ) (last : ℕ → ℕ
   pub seen_each_page : b.live ≡ true → length b.seen ≡ length w.first
   pub end_each_page : b.live ≡ true → length b.ends ≡ length w.first
   -- 4: it knows each page's first word, or the word that ends the chain now
-  pub ends_is : (p : ℕ) → b.live ≡ true → p < length w.first → (end_at b p ≡ slice_index w.first p) ⊎ (end_at b p ≡ last p)
+  pub ends_is : (p : ℕ) → b.live ≡ true → p < length w.first → (end_at b p ≡ slice_index w.first p)
+      ⊎ (end_at b p ≡ last p)
   -- 4: what it has seen is an end of the chain, and has all that it posted there
   pub seen_end : (p : ℕ) → b.live ≡ true → p < length w.first → IsEnd (seen_at b p) (fresh p)
   pub seen_own : (p r : ℕ) → b.live ≡ true → p < length w.first → posts_at p r b.posted ≤ times r (seen_at b p)
@@ -188,10 +200,12 @@ pub record Lawful (w : World) : Type 0 where
   -- what never changes: first words and spares are below the floor, and a spare isn't its page's first word
   pub low : (p : ℕ) → p < length w.first → slice_index w.first p < w.floor
   pub spare_low : (p x : ℕ) → spare_at w p ≡ Some x → (x < w.floor) × (x ≢ slice_index w.first p)
-  -- 1: the chain is what the links give from the head on; it ends in the page's first word, or in its spare where just one swap was won; no record comes twice
+  -- 1: the chain is what the links give from the head on; it ends in the page's first word, or in its spare where just
+  -- one swap was won; no record comes twice
   pub met : (p : ℕ) → p < length w.first → Meets w.floor w.links (slice_index w.heads p) (fresh p) (last p)
   pub last_is : (p : ℕ) → p < length w.first → IsLast w.first w.spares p (last p)
-  pub swapped : (p : ℕ) → p < length w.first → total (λ b. wins_in p b.swaps) w.books ≡ late (slice_index w.first p) (last p)
+  pub swapped : (p : ℕ) → p < length w.first
+      → total (λ b. wins_in p b.swaps) w.books ≡ late (slice_index w.first p) (last p)
   pub once : (p r : ℕ) → p < length w.first → times r (fresh p) ≤ 1
   -- 2: it has just the records that some book posted there, and no record is posted twice
   pub placed : (p r : ℕ) → p < length w.first → times r (fresh p) ≡ total (λ b. posts_at p r b.posted) w.books
@@ -218,7 +232,8 @@ pub record Onward (w : World) (q : Lawful w) (w' : World) (q' : Lawful w') : Typ
   pub grows : (p : ℕ) → IsEnd (q.fresh p) (q'.fresh p)
   pub lasts : (p : ℕ) → (q.last p ≡ slice_index w.first p) ⊎ (q.last p ≡ q'.last p)
   -- the links of posted records stay
-  pub links_stay : (r : ℕ) → 0 < total (λ b. posts_in r b.posted) w.books → slice_index w'.links r ≡ slice_index w.links r
+  pub links_stay : (r : ℕ) → 0 < total (λ b. posts_in r b.posted) w.books
+      → slice_index w'.links r ≡ slice_index w.links r
   -- what never changes stays
   pub start_stays : SameStart w w'
 

@@ -1,6 +1,7 @@
 //! What one seat holds and knows.
 ghost use Rattle.std.specs.Prelude.{◌≡◌, ◌↔◌, ◌<◌, ◌≤◌, ℕ, ◌+◌, ◌^◌, length, map, IsTrue, IfOk, OnErr, MatchOption, true};
-ghost use Rattle.bw_core.specs.World.{owns, posts_in, tries_in, times, seen_at, end_at, top, Each, spent};
+ghost use Rattle.std.specs.List.{AllByRecursion};
+ghost use Rattle.bw_core.specs.World.{owns, posts_in, tries_in, times, seen_at, end_at, top, spent};
 ghost use Rattle.bw_core.specs.Events.{under, Resumes, looked, linked, won, lost_to, takes_piece, is_told, split_left, split_right, joined, replaced, came_late};
 ghost use Rattle.bw_core.specs.Steps.{first_book};
 ghost use Rattle.bw_core.specs.declared.BookView.{BookView};
@@ -27,7 +28,17 @@ pub struct Book {
 impl Model for Book {
     ghost Value = { BookView };
 
-    ghost view = { λ b. record { live = b.live; owned = b.owned.items; posted = b.posted.items; under = b.under; seen = map (λ v. v.items) b.seen.items; ends = b.ends.items; swaps = b.swaps.items; width = b.width; told = b.told } };
+    ghost view = { λ b. record {
+      live = b.live;
+      owned = b.owned.items;
+      posted = b.posted.items;
+      under = b.under;
+      seen = map (λ v. v.items) b.seen.items;
+      ends = b.ends.items;
+      swaps = b.swaps.items;
+      width = b.width;
+      told = b.told;
+    } };
 }
 
 /// A page's new records, newest first, and the word below the floor that ends them.
@@ -70,7 +81,8 @@ impl Book {
     /// The chain of new records that was last seen at the page, newest first. None where there is no such page, and in a book
     /// that was joined into another.
     pub fn seen(&self, page: u64) -> Option<&[u64]>
-        ensures { MatchOption result (length self.now.seen ≤ page) (λ chain. (page < length self.now.seen) × (chain.now ≡ seen_at self.now page)) }
+        ensures { MatchOption result (length self.now.seen ≤ page)
+            (λ chain. (page < length self.now.seen) × (chain.now ≡ seen_at self.now page)) }
     {
         if (page as usize) < self.seen.len() {
             Some(self.seen[page as usize].as_slice())
@@ -131,7 +143,7 @@ impl Book {
     /// The word that names the first record of the chain that was seen at the page, or the word that ended it.
     pub(crate) fn top(&self, floor: u64, page: u64) -> u64
         requires page { (page < length self.now.seen) × (page < length self.now.ends) }
-        requires fits { Each (λ r. floor + r < 2 ^ 64) (seen_at self.now page) }
+        requires fits { AllByRecursion (λ r. floor + r < 2 ^ 64) (seen_at self.now page) }
         ensures { result ≡ top floor (end_at self.now page) (seen_at self.now page) }
     {
         match self.seen[page as usize].first() {
@@ -153,7 +165,8 @@ impl Book {
 
     /// How often this record has lost, where it is armed under this page.
     pub(crate) fn armed(&self, rec: u64, page: u64) -> Option<u64>
-        ensures { MatchOption result ((lost : ℕ) → self.now.under ≡ Some (under rec page lost true) → ⊥) (λ lost. self.now.under ≡ Some (under rec page lost true)) }
+        ensures { MatchOption result ((lost : ℕ) → self.now.under ≡ Some (under rec page lost true) → ⊥)
+            (λ lost. self.now.under ≡ Some (under rec page lost true)) }
     {
         match self.under {
             Some(under) if under.armed && under.rec == rec && under.page == page => {

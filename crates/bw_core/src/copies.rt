@@ -48,7 +48,8 @@ pub(crate) fn longest(
     others: &[Vec<u64, Alloc>],
 ) -> Result<Chains, Memory>
     requires { length mine.now ≡ length others.now }
-    ensures { IfOk result (λ v. map (λ c. c.items) v.items ≡ longest (map (λ c. c.items) mine.now) (map (λ c. c.items) others.now)) }
+    ensures { IfOk result (λ v. map (λ c. c.items) v.items ≡ longest (map (λ c. c.items) mine.now) (map (λ c. c.items)
+        others.now)) }
 {
     let mut chains = Vec::new(alloc);
     for page in 0..mine.len() {

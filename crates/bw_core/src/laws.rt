@@ -1,7 +1,7 @@
 //! The laws of posting, over plain lists of heads, links and books: one for each kind of step.
 //!
 //! What keeps its own heads and links, as a table of atomic words does, cites them step by step. Each has an empty body: its contract is the law.
-ghost use Rattle.bw_core.specs.Keeping.{FreshIsRead, StartIsLawful, LookKeeps, LinkKeeps, WinKeeps, LoseKeeps, FollowKeeps, ClaimKeepsPiece, ClaimKeepsTold, SplitKeeps, JoinKeeps, ReplaceKeepsWon, ReplaceKeepsLate, LateSawMore, EventKeeps, RunKeeps, SparelessPage, ArmedLinkIs, JoinAdds, ClaimAdds, LossesBound};
+ghost use Rattle.bw_core.specs.Keeping.{FreshIsRead, StartIsLawful, LookKeeps, LinkKeeps, WinKeeps, LoseKeeps, FollowKeeps, ClaimKeepsPiece, ClaimKeepsTold, SplitKeeps, JoinKeeps, ReplaceKeepsWon, ReplaceKeepsLate, LateSawMore, EventKeeps, RunKeeps, SparelessPage, ArmedLinkIs, JoinAdds, JoinSeesBoth, ClaimAdds, ClaimTakesFree, ToldIsClaimed, OwnsAlone, LossesBound};
 
 /// A new world is lawful.
 pub fn start_is_lawful()
@@ -98,9 +98,29 @@ pub fn join_adds()
     ensures { JoinAdds }
 {}
 
+/// What a joined book has seen of a page ends with what either of two seats had seen there.
+pub fn join_sees_both()
+    ensures { JoinSeesBoth }
+{}
+
 /// What a book owns after a claim.
 pub fn claim_adds()
     ensures { ClaimAdds }
+{}
+
+/// The records that a claim takes were no seat's before it.
+pub fn claim_takes_free()
+    ensures { ClaimTakesFree }
+{}
+
+/// Each record has an owner, once a seat was told that no record is left.
+pub fn told_is_claimed()
+    ensures { ToldIsClaimed }
+{}
+
+/// No two seats own one record.
+pub fn owns_alone()
+    ensures { OwnsAlone }
 {}
 
 /// How many exchanges a seat's posted records can have lost in all.

@@ -8,8 +8,8 @@
 mod book;
 mod copies;
 pub mod laws;
-mod playing;
 mod state;
+mod transitions;
 mod world;
 
 pub use book::Book;

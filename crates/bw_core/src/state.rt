@@ -108,7 +108,8 @@ impl State {
     }
 
     pub(crate) fn may_link(&self, seat: u64, rec: u64, page: u64) -> Option<u64>
-        ensures { MatchOption result ((b : BookView) → (lost : ℕ) → MayLink self.now seat rec page b lost → ⊥) (λ lost. (b : BookView) × MayLink self.now seat rec page b lost) }
+        ensures { MatchOption result ((b : BookView) → (lost : ℕ) → MayLink self.now seat rec page b lost → ⊥)
+            (λ lost. (b : BookView) × MayLink self.now seat rec page b lost) }
     {
         let book = self.book(seat)?;
         if self.has_page(page) && book.owns(rec) && !book.has_posted(rec) {
@@ -119,7 +120,8 @@ impl State {
     }
 
     pub(crate) fn may_try(&self, seat: u64, rec: u64, page: u64) -> Option<u64>
-        ensures { MatchOption result ((b : BookView) → (lost : ℕ) → MayTry self.now seat rec page b lost → ⊥) (λ lost. (b : BookView) × MayTry self.now seat rec page b lost) }
+        ensures { MatchOption result ((b : BookView) → (lost : ℕ) → MayTry self.now seat rec page b lost → ⊥)
+            (λ lost. (b : BookView) × MayTry self.now seat rec page b lost) }
     {
         self.book(seat)?.armed(rec, page)
     }
@@ -135,7 +137,8 @@ impl State {
     }
 
     fn idle_book(&self, seat: u64) -> Option<&Book>
-        ensures { MatchOption result ((b : BookView) → IsSeat self.now seat b → b.under ≡ None → ⊥) (λ b. IsSeat self.now seat b.now × (b.now.under ≡ None)) }
+        ensures { MatchOption result ((b : BookView) → IsSeat self.now seat b → b.under ≡ None → ⊥)
+            (λ b. IsSeat self.now seat b.now × (b.now.under ≡ None)) }
     {
         let book = self.book(seat)?;
         match book.under() {
@@ -170,7 +173,8 @@ impl State {
 
     pub(crate) fn may_replace(&self, seat: u64, page: u64) -> Option<u64>
         requires { IsWorld self.now }
-        ensures { MatchOption result ((b : BookView) → (spare : ℕ) → MayReplace self.now seat page b spare → ⊥) (λ spare. (b : BookView) × MayReplace self.now seat page b spare) }
+        ensures { MatchOption result ((b : BookView) → (spare : ℕ) → MayReplace self.now seat page b spare → ⊥)
+            (λ spare. (b : BookView) × MayReplace self.now seat page b spare) }
     {
         let book = self.idle_book(seat)?;
         if self.has_page(page) && !book.has_tried(page) {

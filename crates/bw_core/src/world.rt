@@ -91,7 +91,8 @@ impl World {
     ) -> Result<World, Memory>
         requires { CanStart first.now floor records piece spares.now }
         ensures runs { IfOk result (λ w. Runs (start_world first.now floor records piece spares.now) events.now w) }
-        ensures lawful { IfOk result (λ w. (q : Lawful (start_world first.now floor records piece spares.now)) × Keeps (start_world first.now floor records piece spares.now) q w) }
+        ensures lawful { IfOk result (λ w. (q : Lawful (start_world first.now floor records piece spares.now))
+            × Keeps (start_world first.now floor records piece spares.now) q w) }
     {
         let mut world = World::start(alloc, first, floor, records, piece, spares)?;
         for event in events {

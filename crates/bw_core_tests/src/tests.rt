@@ -2,6 +2,7 @@
 
 mod lawful;
 mod random;
+mod seats;
 
 use bw_core::Event::{Claim, Follow, Join, Link, Look, Replace, Split, Try};
 use bw_core::Played::{Done, Lost, NotAllowed};
@@ -12,7 +13,7 @@ use std::alloc::{AllocError, Global};
 use std::process::Abort;
 use std::test::Fail;
 
-pub(crate) const FLOOR: u64 = 4294967296;
+pub(crate) const FLOOR: u64 = 1 << 32;
 
 pub(crate) fn counted(alloc: Global) -> Result<Alloc, Memory> {
     Ok(Heap::counted(alloc).leak(alloc)?)

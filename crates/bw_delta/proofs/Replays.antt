@@ -1,5 +1,6 @@
 -- A replay at a later stamp, and what its pairs are.
-use Rattle.std.proofs.Common.{◌≡◌, ℕ, zero, suc, ◌+◌, ◌-◌, ◌<◌, ◌≤◌, Ordering, Bool, true, false, cond, not, ◌&&◌, T, List, [], ◌∷◌, ◌++◌, drop, take, nat_le, reverse, Option, Some, None, refl, sym, ap, ◌∙◌, subst, arith}
+use Rattle.std.proofs.Common.{◌≡◌, ℕ, zero, suc, ◌+◌, ◌≤◌, Ordering, Bool, true, false, cond, not, ◌&&◌, T, List, [], ◌∷◌, ◌++◌, drop, length, take, nat_le, Option, Some, None, refl, sym, ap, ◌∙◌, subst, arith}
+use Rattle.std.proofs.lemmas.List.{append_assoc, length-take, take-append-le}
 use Rattle.std.specs.Prelude.{filter}
 use Rattle.std.specs.Ordering.{is_gt, is_le, is_lt, ordering_reverse}
 use Rattle.std.specs.BTreeMap.Range.{entries_between}
@@ -136,16 +137,12 @@ between_none low high es lower = same_filter _ _ es (λ e. by e.0 (is_lt (key_cm
     by k false true e f = absurd (different (sym (below_trans k high low f lower) ∙ e))
 
 -- pairs that are taken one by one
-pub one_taken : {X : Type 0} (taken rest all old : List X) (x : X) (left : ℕ) → 0 < left → taken ++ take left (x ∷ rest) ≡ old ++ all → (taken ++ x ∷ []) ++ take (left - 1) rest ≡ old ++ all
-one_taken taken rest all old x zero more so = absurd (omega (arith, more))
-one_taken taken rest all old x (suc left) more so = ap (λ n. (taken ++ x ∷ []) ++ take n rest) (less left) ∙ moved taken ∙ so
-  where
-    less : (n : ℕ) → suc n - 1 ≡ n
-    less n = omega arith
+pub one_taken : {X : Type 0} (taken rest whole : List X) (x : X) (left : ℕ) → taken ++ take (suc left) (x ∷ rest) ≡ whole → (taken ++ x ∷ []) ++ take left rest ≡ whole
+one_taken taken rest whole x left so = append_assoc taken (x ∷ []) (take left rest) ∙ so
 
-    moved : (taken : List _) → (taken ++ x ∷ []) ++ take left rest ≡ taken ++ x ∷ take left rest
-    moved [] = refl
-    moved (y ∷ ys) = ap (λ (l : List _). y ∷ l) (moved ys)
+-- what stood in front stays there
+pub kept_before : {X : Type 0} (old taken more : List X) → take (length old) taken ≡ old → take (length old) (taken ++ more) ≡ old
+kept_before old taken more kept = take-append-le (length old) taken more (omega (arith, length-take (length old) taken, ap length kept)) ∙ kept
 
 drop_none : {X : Type 0} (n : ℕ) → drop {A = X} n [] ≡ []
 drop_none zero = refl

@@ -7,6 +7,7 @@
 
 mod arena;
 mod deltas;
+mod entries;
 mod folding;
 mod laws;
 mod present;

@@ -1,5 +1,5 @@
 // The pairs that a replay has now.
-ghost use Rattle.std.specs.Prelude.{◌≡◌, ◌≤◌, ◌++◌, [], ◌∷◌, T, drop, filter, length, reverse, take, IfOk, OnOk};
+ghost use Rattle.std.specs.Prelude.{◌≡◌, ◌≤◌, ◌++◌, T, drop, filter, length, reverse, take, IfOk, OnOk};
 ghost use Rattle.std.specs.Option.{option_copied};
 ghost use Rattle.std.specs.FinMap.{find, is_sorted};
 ghost use Rattle.bw_key.specs.Order.{KeyBytes, key_cmp};
@@ -11,6 +11,7 @@ ghost use Rattle.bw_delta.specs.Present.{present_pairs};
 ghost use Rattle.bw_delta.specs.Readings.{from_stamp};
 ghost use Rattle.bw_delta.specs.Rising.{HasRisingStamps};
 
+use crate::entries::Entries;
 use crate::folding::{put_parts, put_writes};
 use crate::writes::Write;
 use bw_key::{Key, Memory};
@@ -19,7 +20,6 @@ use bw_model::Value;
 use bw_page::Leaf;
 use std::collections::BTreeMap;
 use std::collections::btree_map::Range;
-use std::mem;
 
 /// The pairs of a page: on its leaf, until a write changes them, and in an ordered map from then on.
 #[derive(Debug, Drop)]
@@ -54,30 +54,27 @@ impl<'a> Present<'a> {
         }
     }
 
-    /// Lets the writes below a stamp have their effects, and answers how many they are. After `Memory` the pairs are of no
-    /// use.
+    /// The pairs once the writes below a stamp had their effects, and how many these are.
     pub(crate) fn put_writes(
-        &mut self,
+        self,
         alloc: Alloc,
         writes: &[&Write],
         stamp: u64,
-    ) -> Result<usize, Memory>
+    ) -> Result<(Present<'a>, usize), Memory>
         requires { HasRisingStamps 0 (pointed_to writes.now) }
-        ensures values { OnOk result ((q : KeyBytes) → find key_cmp q (present_pairs self.new) ≡ history (find key_cmp q (present_pairs self.old)) (action_at (writes_to q (pointed_to writes.now))) stamp) }
-        ensures rest { IfOk result (λ passed. pointed_to (drop passed writes.now) ≡ from_stamp stamp (pointed_to writes.now)) }
-        ensures bound { IfOk result (λ passed. passed ≤ length writes.now) }
+        ensures values { IfOk result (λ put. (q : KeyBytes) → find key_cmp q (present_pairs put.0) ≡ history (find key_cmp q (present_pairs self.entry)) (action_at (writes_to q (pointed_to writes.now))) stamp) }
+        ensures rest { IfOk result (λ put. pointed_to (drop put.1 writes.now) ≡ from_stamp stamp (pointed_to writes.now)) }
+        ensures bound { IfOk result (λ put. put.1 ≤ length writes.now) }
     {
         let Some(first) = writes.first() else {
-            return Ok(0);
+            return Ok((self, 0));
         };
         if first.stamp >= stamp {
-            return Ok(0);
+            return Ok((self, 0));
         }
-        let present = mem::replace(self, Present::InMap(BTreeMap::new(alloc)));
-        let mut values = present.into_map(alloc)?;
+        let mut values = self.into_map(alloc)?;
         let passed = put_writes(&mut values, writes, stamp)?;
-        *self = Present::InMap(values);
-        Ok(passed)
+        Ok((Present::InMap(values), passed))
     }
 
     /// Adds the first pairs from `low` on and below `high` to a list, no more than `most` of them.
@@ -89,12 +86,14 @@ impl<'a> Present<'a> {
         read: &mut Vec<(Key, Value), Alloc>,
     ) -> Result<(), Memory>
         ensures sorted { T (is_sorted key_cmp (present_pairs self.now)) }
+        ensures kept { take (length read.old.items) read.new.items ≡ read.old.items }
         ensures added { OnOk result (read.new.items ≡ read.old.items ++ take most (filter (is_pair_in_range low.now (option_copied high.entry)) (present_pairs self.now))) }
     {
-        match self {
-            Present::OnLeaf(leaf) => add_first_pairs(leaf.between(low, high), most, read),
-            Present::InMap(values) => add_first_entries(range(values, low, high), most, read),
-        }
+        let entries = match self {
+            Present::OnLeaf(leaf) => Entries::OnLeaf(leaf.between(low, high).iter()),
+            Present::InMap(values) => Entries::InMap(range(values, low, high)),
+        };
+        entries.add_copies(most, read)
     }
 
     /// Adds the last pairs from `low` on and below `high` to a list, the greatest key first, no more than `most` of them.
@@ -106,12 +105,14 @@ impl<'a> Present<'a> {
         read: &mut Vec<(Key, Value), Alloc>,
     ) -> Result<(), Memory>
         ensures sorted { T (is_sorted key_cmp (present_pairs self.now)) }
+        ensures kept { take (length read.old.items) read.new.items ≡ read.old.items }
         ensures added { OnOk result (read.new.items ≡ read.old.items ++ take most (reverse (filter (is_pair_in_range low.now (option_copied high.entry)) (present_pairs self.now)))) }
     {
-        match self {
-            Present::OnLeaf(leaf) => add_last_pairs(leaf.between(low, high), most, read),
-            Present::InMap(values) => add_last_entries(range(values, low, high), most, read),
-        }
+        let entries = match self {
+            Present::OnLeaf(leaf) => Entries::BackOnLeaf(leaf.between(low, high).iter().rev()),
+            Present::InMap(values) => Entries::BackInMap(range(values, low, high).rev()),
+        };
+        entries.add_copies(most, read)
     }
 }
 
@@ -143,88 +144,4 @@ fn range<'v>(
     };
     let end = if *high < *low { low } else { high };
     values.range(low..end)
-}
-
-// Adds a copy of a pair to a list.
-fn push_copy(read: &mut Vec<(Key, Value), Alloc>, key: &Key, value: &Value) -> Result<(), Memory>
-    ensures { OnOk result (read.new.items ≡ read.old.items ++ (key.now, value.now) ∷ []) }
-{
-    read.push((key.copy()?, value.copy()?))?;
-    Ok(())
-}
-
-// Adds copies of the first pairs of a list, no more than `most` of them.
-fn add_first_pairs(
-    pairs: &[(Key, Value)],
-    most: u64,
-    read: &mut Vec<(Key, Value), Alloc>,
-) -> Result<(), Memory>
-    ensures { OnOk result (read.new.items ≡ read.old.items ++ take most pairs.now) }
-{
-    let mut left = most;
-    for pair in pairs {
-        if left == 0 {
-            return Ok(());
-        }
-        push_copy(read, &pair.0, &pair.1)?;
-        left -= 1;
-    }
-    Ok(())
-}
-
-// Adds copies of the last pairs of a list, the last one first, no more than `most` of them.
-fn add_last_pairs(
-    pairs: &[(Key, Value)],
-    most: u64,
-    read: &mut Vec<(Key, Value), Alloc>,
-) -> Result<(), Memory>
-    ensures { OnOk result (read.new.items ≡ read.old.items ++ take most (reverse pairs.now)) }
-{
-    let mut left = most;
-    for pair in pairs.iter().rev() {
-        if left == 0 {
-            return Ok(());
-        }
-        push_copy(read, &pair.0, &pair.1)?;
-        left -= 1;
-    }
-    Ok(())
-}
-
-// The same of a map's entries: the first of them.
-fn add_first_entries(
-    entries: Range<'_, Key, Value>,
-    most: u64,
-    read: &mut Vec<(Key, Value), Alloc>,
-) -> Result<(), Memory>
-    ensures { OnOk result (read.new.items ≡ read.old.items ++ take most entries.entry) }
-{
-    let mut left = most;
-    for (key, value) in entries {
-        if left == 0 {
-            return Ok(());
-        }
-        push_copy(read, key, value)?;
-        left -= 1;
-    }
-    Ok(())
-}
-
-// And the last of them, the last one first.
-fn add_last_entries(
-    entries: Range<'_, Key, Value>,
-    most: u64,
-    read: &mut Vec<(Key, Value), Alloc>,
-) -> Result<(), Memory>
-    ensures { OnOk result (read.new.items ≡ read.old.items ++ take most (reverse entries.entry)) }
-{
-    let mut left = most;
-    for (key, value) in entries.rev() {
-        if left == 0 {
-            return Ok(());
-        }
-        push_copy(read, key, value)?;
-        left -= 1;
-    }
-    Ok(())
 }

@@ -90,21 +90,29 @@ impl<'a> Replay<'a> {
         self.stamp
     }
 
-    /// Goes on to a stamp that isn't below the present one: each write with a smaller one has its effect, in about
-    /// log2 n key comparisons for n pairs. The first of them to do so puts the pairs in a map, as several parts are from
-    /// the start. After `Memory` the replay is of no use.
-    pub fn advance(&mut self, stamp: u64) -> Result<(), Memory>
-        requires { self.old.stamp ≤ stamp }
-        ensures stamp { OnOk result (self.new.stamp ≡ stamp) }
-        ensures replay { OnOk result ((start : KeyBytes → Option ValueBytes) (high : Option KeyBytes) (writes : List WriteView) →
-            IsReplayOf start high writes self.old → IsReplayOf start high writes self.new) }
+    /// The replay as of a stamp that isn't below its own: each write with a smaller one has its effect, in about log2 n key
+    /// comparisons for n pairs. The first of them to do so puts the pairs in a map, as several parts are from the start.
+    /// After `Memory` the replay is gone, and its parts and writes are as they were.
+    pub fn advance(self, stamp: u64) -> Result<Replay<'a>, Memory>
+        requires { self.stamp ≤ stamp }
+        ensures stamp { IfOk result (λ replay. replay.stamp ≡ stamp) }
+        ensures replay { IfOk result (λ replay. (start : KeyBytes → Option ValueBytes) (high : Option KeyBytes) (writes : List WriteView) →
+            IsReplayOf start high writes self.entry → IsReplayOf start high writes replay) }
     {
-        let alloc = *self.writes.allocator();
-        self.passed += self
-            .present
-            .put_writes(alloc, &self.writes[self.passed..], stamp)?;
-        self.stamp = stamp;
-        Ok(())
+        let Replay {
+            stamp: _stamp,
+            present,
+            writes,
+            passed,
+        } = self;
+        let alloc = *writes.allocator();
+        let (present, more) = present.put_writes(alloc, &writes[passed..], stamp)?;
+        Ok(Replay {
+            stamp,
+            present,
+            writes,
+            passed: passed + more,
+        })
     }
 
     /// Adds the first pairs from `low` on and below `high` to a list, no more than `most` of them: a search, and a copy for
@@ -117,6 +125,7 @@ impl<'a> Replay<'a> {
         read: &mut Vec<(Key, Value), Alloc>,
     ) -> Result<(), Memory>
         ensures sorted { T (is_sorted key_cmp self.now.pairs) }
+        ensures kept { take (length read.old.items) read.new.items ≡ read.old.items }
         ensures added { OnOk result (read.new.items ≡ read.old.items ++ take most (filter (is_pair_in_range low.now (option_copied high.entry)) self.now.pairs)) }
     {
         self.present.add_first(low, high, most, read)
@@ -132,6 +141,7 @@ impl<'a> Replay<'a> {
         read: &mut Vec<(Key, Value), Alloc>,
     ) -> Result<(), Memory>
         ensures sorted { T (is_sorted key_cmp self.now.pairs) }
+        ensures kept { take (length read.old.items) read.new.items ≡ read.old.items }
         ensures added { OnOk result (read.new.items ≡ read.old.items ++ take most (reverse (filter (is_pair_in_range low.now (option_copied high.entry)) self.now.pairs))) }
     {
         self.present.add_last(low, high, most, read)

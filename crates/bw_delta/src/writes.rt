@@ -2,6 +2,7 @@
 ghost use Rattle.std.specs.Prelude.{◌≡◌, IfOk};
 
 use bw_key::{Key, Memory};
+use bw_memory::Alloc;
 use bw_model::{Action, Op};
 use std::marker::Model;
 
@@ -28,19 +29,26 @@ impl Write {
     ghost use Rattle.bw_delta.specs.Batches.{stamped, write_of};
     ghost use Rattle.bw_delta.specs.Writes.{one_or_none};
 
-    /// What an operation writes, with this stamp; nothing where it only reads. It copies the key and the values.
-    pub fn from_op(op: &Op, stamp: u64) -> Result<Option<Write>, Memory>
+    /// What an operation writes, with this stamp; nothing where it only reads. It copies the key and the values, with
+    /// `alloc` for the memory of those of more than 24 bytes and of their copies: one growth each. `Memory` is answered
+    /// where one of them is refused.
+    pub fn from_op(alloc: Alloc, op: &Op, stamp: u64) -> Result<Option<Write>, Memory>
         ensures { IfOk result (λ write. one_or_none write ≡ stamped stamp (write_of op.now)) }
     {
         let (key, action) = match op {
             Op::Get(_) | Op::Scan { .. } | Op::Rscan { .. } => return Ok(None),
-            Op::Insert(key, value) => (key, Action::Insert(value.copy()?)),
-            Op::Upsert(key, value) => (key, Action::Upsert(value.copy()?)),
-            Op::Update(key, value) => (key, Action::Update(value.copy()?)),
+            Op::Insert(key, value) => (key, Action::Insert(value.copy_in(alloc)?)),
+            Op::Upsert(key, value) => (key, Action::Upsert(value.copy_in(alloc)?)),
+            Op::Update(key, value) => (key, Action::Update(value.copy_in(alloc)?)),
             Op::Delete(key) => (key, Action::Delete),
-            Op::SwapIf(key, old, new) => (key, Action::SwapIf(old.copy()?, new.copy()?)),
+            Op::SwapIf(key, old, new) => {
+                (
+                    key,
+                    Action::SwapIf(old.copy_in(alloc)?, new.copy_in(alloc)?),
+                )
+            }
         };
-        let key = key.copy()?;
+        let key = key.copy_in(alloc)?;
         Ok(Some(Write { stamp, key, action }))
     }
 }

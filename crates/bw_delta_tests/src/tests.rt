@@ -6,3 +6,4 @@ mod making;
 mod readings;
 mod refused;
 mod replays;
+mod writes;

@@ -67,7 +67,6 @@ impl Drop for Key {
 }
 
 impl Model for Key {
-    ghost use Rattle.bw_key.specs.declared.TheConstants.{KEY_MAX};
     ghost use Rattle.std.specs.Coded.{coded_list, coded_ℕ};
     ghost use Rattle.std.specs.Prelude.{List, ℕ, length, ◌≤◌};
 
@@ -77,7 +76,7 @@ impl Model for Key {
 
     ghost view = { λ k. k.bytes.items };
 
-    ghost invariant = { λ k. length k.bytes.items ≤ KEY_MAX };
+    ghost invariant = { λ k. length k.bytes.items ≤ 64 };
 }
 
 impl Key {
@@ -87,9 +86,9 @@ impl Key {
     /// and are always a key. 25 to 64 bytes take one growth, and answer `Memory` where that is refused.
     pub fn new(alloc: Alloc, bytes: &[u8]) -> Result<Key, KeyFault>
         ensures ok { IfOk result (λ key. key ≡ bytes.now) }
-        ensures long { KEY_MAX < length bytes.now → result ≡ Err (KeyFault.TooLong (length bytes.now)) }
-        ensures fits { length bytes.now ≤ KEY_MAX → IsOkUnless result KeyFault.Memory }
-        ensures short { length bytes.now ≤ KEY_INLINE → IsOk result }
+        ensures long { 64 < length bytes.now → result ≡ Err (KeyFault.TooLong (length bytes.now)) }
+        ensures fits { length bytes.now ≤ 64 → IsOkUnless result KeyFault.Memory }
+        ensures short { length bytes.now ≤ 24 → IsOk result }
     {
         if bytes.len() > KEY_MAX {
             return Err(KeyFault::TooLong(bytes.len()));
@@ -102,16 +101,24 @@ impl Key {
     /// bytes take one growth, and answer `Memory` where that is refused.
     pub fn copy(&self) -> Result<Key, Memory>
         ensures ok { IfOk result (λ key. key ≡ self.now) }
-        ensures short { length self.now ≤ KEY_INLINE → IsOk result }
+        ensures short { length self.now ≤ 24 → IsOk result }
     {
-        let bytes = SmallVec::from_slice(*self.bytes.allocator(), self.bytes())?;
+        self.copy_in(*self.bytes.allocator())
+    }
+
+    /// An equal key, with `alloc` for the memory of it and of its copies. It takes memory as `copy` does.
+    pub fn copy_in(&self, alloc: Alloc) -> Result<Key, Memory>
+        ensures ok { IfOk result (λ key. key ≡ self.now) }
+        ensures short { length self.now ≤ 24 → IsOk result }
+    {
+        let bytes = SmallVec::from_slice(alloc, self.bytes())?;
         Ok(Key { bytes })
     }
 
     /// The bytes, at most 64.
     pub fn bytes(&self) -> &[u8]
         ensures value { result.now ≡ self.now }
-        ensures limit { length self.now ≤ KEY_MAX }
+        ensures limit { length self.now ≤ 64 }
     {
         self.bytes.as_slice()
     }

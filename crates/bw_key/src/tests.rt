@@ -126,6 +126,28 @@ fn a_long_key_has_as_many_bytes_of_memory(rt: HostRuntime) -> Result<(), Fail> {
     Ok(())
 }
 
+// Copies a key of 25 bytes into another heap, and that copy again.
+fn has_room_elsewhere<R: Abort>(rt: &R, key: &Key, other: Alloc) {
+    let copy = key.copy_in(other).expect(rt, "memory");
+    assert!(rt; copy.bytes() == key.bytes());
+    assert_eq!(rt; other.used(), 25);
+    let _second = copy.copy().expect(rt, "memory");
+    assert_eq!(rt; other.used(), 50);
+    assert!(rt; key.copy_in(other).is_err());
+}
+
+#[test]
+fn a_copy_is_in_the_heap_that_it_was_made_with(rt: HostRuntime) -> Result<(), Fail> {
+    let first = heap(&rt, rt.alloc());
+    let other = Heap::within(rt.alloc(), 64).leak(rt.alloc())?;
+    let key = key(&rt, first, &BYTES[..25]);
+    first.refuse(1);
+    has_room_elsewhere(&rt, &key, other);
+    assert_eq!(rt; first.left(), 1);
+    assert_eq!(rt; other.used(), 0);
+    Ok(())
+}
+
 fn one_byte(alloc: Alloc) -> Result<Vec<u8, Alloc>, Memory> {
     let mut bytes = Vec::new(alloc);
     bytes.push(7)?;

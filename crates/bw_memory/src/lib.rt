@@ -10,10 +10,11 @@
 //! growth is refused depends on counts that threads share, of which no contract can speak: the tests show that.
 #![tactic(auto)]
 
-ghost use Rattle.std.specs.Prelude.{◌≡◌, ◌<◌, ℕ, None, Some, true, false, min, IfOk, IsTrue};
+ghost use Rattle.std.specs.Prelude.{◌≡◌, ◌<◌, ◌^◌, ℕ, None, Some, true, false, min, IfOk, IsTrue};
 ghost use Rattle.bw_memory.specs.Limits.{inner_of, limit_of, is_counted, gate_limit, gate_is_counted};
 
 use std::alloc::{AllocError, Allocator, Global};
+use std::mem::size_of;
 use std::sync::atomic::{AtomicU64, Ordering};
 
 /// Where an index, and all that belongs to it, takes its memory from. `Heap::leak` makes one.
@@ -62,7 +63,7 @@ impl<B: Allocator> Heap<B> {
     /// counts for that moment too, so that another which would fit may be refused.
     pub fn within(inner: B, bytes: u64) -> Heap<B>
         ensures inner { inner_of result ≡ inner }
-        ensures limit { limit_of result ≡ Some (min bytes LIMIT_MAX) }
+        ensures limit { limit_of result ≡ Some (min bytes (2 ^ 48)) }
         ensures counted { is_counted result ≡ false }
     {
         Heap {
@@ -191,6 +192,54 @@ unsafe impl<B: Allocator> Allocator for Heap<B> {
     unsafe fn deallocate(&self, ptr: *mut u8, size: usize, align: usize) {
         self.inner.deallocate(ptr, size, align);
         self.gate.release(size);
+    }
+
+    // The old block and the new one both count until the inner allocator is done, as where it holds both.
+    unsafe fn grow<T>(
+        &self,
+        ptr: *mut T,
+        len: usize,
+        old_cap: usize,
+        new_cap: usize,
+    ) -> Result<*mut T, AllocError> {
+        let new_size = new_cap * size_of::<T>();
+        if !self.gate.admit(new_size) {
+            return Err(AllocError);
+        }
+        match self.inner.grow(ptr, len, old_cap, new_cap) {
+            Ok(block) => {
+                self.gate.release(old_cap * size_of::<T>());
+                Ok(block)
+            }
+            Err(error) => {
+                self.gate.release(new_size);
+                Err(error)
+            }
+        }
+    }
+
+    // It counts as a growth does, since the inner allocator may need a new block for it.
+    unsafe fn shrink<T>(
+        &self,
+        ptr: *mut T,
+        len: usize,
+        old_cap: usize,
+        new_cap: usize,
+    ) -> Result<*mut T, AllocError> {
+        let new_size = new_cap * size_of::<T>();
+        if !self.gate.admit(new_size) {
+            return Err(AllocError);
+        }
+        match self.inner.shrink(ptr, len, old_cap, new_cap) {
+            Ok(block) => {
+                self.gate.release(old_cap * size_of::<T>());
+                Ok(block)
+            }
+            Err(error) => {
+                self.gate.release(new_size);
+                Err(error)
+            }
+        }
     }
 }
 

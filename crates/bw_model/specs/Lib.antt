@@ -4,5 +4,6 @@ pub mod Contents
 pub mod Codes
 pub mod Actions
 pub mod Model
+pub mod Verbs
 pub mod Runs
 pub mod Sorted

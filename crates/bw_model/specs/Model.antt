@@ -1,5 +1,5 @@
 -- The index as one thread sees it: an ordered map, and operations that run on it one after another.
-use Rattle.std.specs.Prelude.{List, [], ◌∷◌, Option, Some, None}
+use Rattle.std.specs.Prelude.{◌≡◌, List, [], ◌∷◌, Option, Some, None}
 use Rattle.std.specs.FinMap.{get}
 use Rattle.bw_key.specs.Order.{KeyBytes}
 use Rattle.bw_model.specs.Values.{ValueBytes}
@@ -35,6 +35,21 @@ reply_of (Delete key) m = answer_at m key action.Delete
 reply_of (SwapIf key old new) m = answer_at m key (action.SwapIf old new)
 reply_of (Scan from to most) m = Pairs (first_of_range m from to most)
 reply_of (Rscan from to most) m = Pairs (last_of_range m from to most)
+
+-- the key that an operation reads or writes, where it is one
+abbrev pub key_of : Op → Option KeyBytes
+key_of (Get key) = Some key
+key_of (Insert key v) = Some key
+key_of (Upsert key v) = Some key
+key_of (Update key v) = Some key
+key_of (Delete key) = Some key
+key_of (SwapIf key old new) = Some key
+key_of (Scan from to most) = None
+key_of (Rscan from to most) = None
+
+-- the reply to an operation on a key, by any map that has this value there
+abbrev pub IsReplyAt : Op → Option ValueBytes → Reply → Type 0
+IsReplyAt op value reply = (m : Contents ValueBytes) (key : KeyBytes) → key_of op ≡ Some key → get m key ≡ value → reply ≡ reply_of op m
 
 -- what an operation leaves
 abbrev pub after : Op → Contents ValueBytes → Contents ValueBytes

@@ -10,6 +10,7 @@ mod ranges;
 mod reference;
 mod sorted;
 mod values;
+mod verbs;
 
 pub use lists::{Pairs, Replies};
 pub use operations::{Action, Op, Reply};

@@ -1,8 +1,14 @@
 // The operations of a batch, and the replies to them.
-ghost use Rattle.std.specs.Prelude.{◌≡◌, IfOk};
+ghost use Rattle.std.specs.Prelude.{◌≡◌, IfOk, Option, is_some, true};
+ghost use Rattle.std.specs.Option.{option_copied};
+ghost use Rattle.bw_model.specs.Actions.{effect, answer};
+ghost use Rattle.bw_model.specs.Model.{key_of, IsReplyAt};
+ghost use Rattle.bw_model.specs.Values.{ValueBytes};
+ghost use Rattle.bw_model.specs.Verbs.{IsReplyTo};
 
 use crate::lists::Pairs;
 use crate::values::Value;
+use crate::verbs::Verb;
 use bw_key::{Key, Memory};
 
 /// An operation on the index. Operations of a batch take effect in its order.
@@ -68,10 +74,49 @@ pub enum Reply {
     Pairs(Pairs),
 }
 
-impl Action {
-    ghost use Rattle.std.specs.Option.{option_copied};
-    ghost use Rattle.bw_model.specs.Actions.{effect, answer};
+impl Op {
+    /// The key that it reads or writes, where it is one: a scan has none.
+    pub fn key(&self) -> Option<&Key>
+        ensures { option_copied result ≡ key_of self.now }
+    {
+        match self {
+            Op::Get(key)
+            | Op::Insert(key, _)
+            | Op::Upsert(key, _)
+            | Op::Update(key, _)
+            | Op::Delete(key)
+            | Op::SwapIf(key, _, _) => Some(key),
+            Op::Scan { .. } | Op::Rscan { .. } => None,
+        }
+    }
 
+    // What it does, without the key and the value that it puts.
+    fn verb(&self) -> Verb<'_>
+        requires { is_some (key_of self.now) ≡ true }
+        ensures { (before : Option ValueBytes) (reply : Reply) → IsReplyTo result before reply → IsReplyAt self.now before reply }
+    {
+        match self {
+            Op::Get(_) => Verb::Get,
+            Op::Insert(_, _) => Verb::Insert,
+            Op::Upsert(_, _) => Verb::Upsert,
+            Op::Update(_, _) => Verb::Update,
+            Op::Delete(_) => Verb::Delete,
+            Op::SwapIf(_, old, _) => Verb::SwapIf(old),
+            Op::Scan { .. } | Op::Rscan { .. } => unreachable!(),
+        }
+    }
+
+    /// The reply to this operation where its key has the value `before`, whatever else there is. It isn't a scan.
+    /// `Memory` is answered where a copy of that value finds none.
+    pub fn reply_at(&self, before: Option<&Value>) -> Result<Reply, Memory>
+        requires { is_some (key_of self.now) ≡ true }
+        ensures { IfOk result (IsReplyAt self.now (option_copied before.entry)) }
+    {
+        self.verb().reply(before)
+    }
+}
+
+impl Action {
     /// The value that this write leaves at a key that had the value `before`. It takes no memory.
     pub fn effect<'a>(&'a self, before: Option<&'a Value>) -> Option<&'a Value>
         ensures { option_copied result ≡ effect self.now (option_copied before.entry) }
@@ -94,29 +139,24 @@ impl Action {
         }
     }
 
+    // What it does, without the value that it puts.
+    fn verb(&self) -> Verb<'_>
+        ensures { (before : Option ValueBytes) (reply : Reply) → IsReplyTo result before reply → reply ≡ answer self.now before }
+    {
+        match self {
+            Action::Insert(_) => Verb::Insert,
+            Action::Upsert(_) => Verb::Upsert,
+            Action::Update(_) => Verb::Update,
+            Action::Delete => Verb::Delete,
+            Action::SwapIf(old, _) => Verb::SwapIf(old),
+        }
+    }
+
     /// The reply to this write at a key that had the value `before`. `Memory` is answered where a copy of that
     /// value finds none.
     pub fn answer(&self, before: Option<&Value>) -> Result<Reply, Memory>
         ensures { IfOk result (λ reply. reply ≡ answer self.now (option_copied before.entry)) }
     {
-        let Some(held) = before else {
-            return Ok(match self {
-                Action::Insert(_) => Reply::Inserted,
-                Action::Upsert(_) => Reply::New,
-                Action::Update(_) | Action::Delete | Action::SwapIf(_, _) => Reply::Absent,
-            });
-        };
-        let held = held.copy()?;
-        Ok(match self {
-            Action::Insert(_) => Reply::Held(held),
-            Action::Upsert(_) | Action::Update(_) | Action::Delete => Reply::Was(held),
-            Action::SwapIf(old, _) => {
-                if held == *old {
-                    Reply::Was(held)
-                } else {
-                    Reply::Held(held)
-                }
-            }
-        })
+        self.verb().reply(before)
     }
 }

@@ -60,9 +60,9 @@ impl Value {
     /// 24 bytes alone, where the allocation is refused.
     pub fn new(alloc: Alloc, bytes: &[u8]) -> Result<Value, ValueFault>
         ensures ok { IfOk result (λ value. value ≡ bytes.now) }
-        ensures long { VALUE_MAX < length bytes.now → result ≡ Err (ValueFault.TooLong (length bytes.now)) }
-        ensures fits { length bytes.now ≤ VALUE_MAX → IsOkUnless result ValueFault.Memory }
-        ensures short { length bytes.now ≤ VALUE_INLINE → IsOk result }
+        ensures long { 1024 < length bytes.now → result ≡ Err (ValueFault.TooLong (length bytes.now)) }
+        ensures fits { length bytes.now ≤ 1024 → IsOkUnless result ValueFault.Memory }
+        ensures short { length bytes.now ≤ 24 → IsOk result }
     {
         if bytes.len() > VALUE_MAX {
             return Err(ValueFault::TooLong(bytes.len()));
@@ -73,12 +73,21 @@ impl Value {
         }
     }
 
-    /// An equal value. Up to 24 bytes take no memory.
+    /// An equal value, from the allocator of this one. Up to 24 bytes take no memory, and more take one growth; `Memory`
+    /// is answered where that is refused.
     pub fn copy(&self) -> Result<Value, Memory>
         ensures ok { IfOk result (λ value. value ≡ self.now) }
-        ensures short { length self.now ≤ VALUE_INLINE → IsOk result }
+        ensures short { length self.now ≤ 24 → IsOk result }
     {
-        match SmallVec::from_slice(*self.bytes.allocator(), self.bytes.as_slice()) {
+        self.copy_in(*self.bytes.allocator())
+    }
+
+    /// An equal value, with `alloc` for the memory of it and of its copies. It takes memory as `copy` does.
+    pub fn copy_in(&self, alloc: Alloc) -> Result<Value, Memory>
+        ensures ok { IfOk result (λ value. value ≡ self.now) }
+        ensures short { length self.now ≤ 24 → IsOk result }
+    {
+        match SmallVec::from_slice(alloc, self.bytes.as_slice()) {
             Ok(bytes) => Ok(Value { bytes }),
             Err(_) => Err(Memory),
         }
@@ -87,7 +96,7 @@ impl Value {
     /// The bytes.
     pub fn bytes(&self) -> &[u8]
         ensures value { result.now ≡ self.now }
-        ensures limit { length self.now ≤ VALUE_MAX }
+        ensures limit { length self.now ≤ 1024 }
     {
         self.bytes.as_slice()
     }

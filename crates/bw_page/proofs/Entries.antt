@@ -8,7 +8,7 @@ use Rattle.std.specs.FinMap.Entries.{below_all, by_order, is_sorted-put, is_sort
 use Rattle.std.specs.declared.cmp.Ordering.TheVariants.{Less, Equal, Greater}
 use Rattle.bw_key.specs.Order.{KeyBytes, key_cmp, key_eq, key_cmp_total}
 use Rattle.bw_model.specs.Contents.{is_below_end, is_in_range, is_pair_in_range}
-use Rattle.bw_page.specs.Pages.{IsPage, BeginsAt, first_key}
+use Rattle.bw_page.specs.Pages.{BoundsView, IsPage, BeginsAt, first_key}
 use Rattle.bw_model.specs.Sorted.{place_of}
 use Rattle.bw_model.proofs.PairsLemmas.{put_absent_at, put_found_at}
 use Rattle.bw_page.specs.Inners.{InnerView, IsInner}
@@ -199,9 +199,9 @@ module _ {X : Type 0} where
       ] refl
 
   -- a page by parts that are another's
-  pub same_page : (low low' : KeyBytes) (high high' : Option KeyBytes) (side : Option ℕ) (es es' : List (KeyBytes × X)) → low' ≡ low → high' ≡ high → es' ≡ es → IsPage low high side es → IsPage low' high' side es'
-  same_page low low' high high' side es es' l h e p =
-      subst (λ (fs : List (KeyBytes × X)). IsPage low' high' side fs) (sym e) (subst (λ (t : Option KeyBytes). IsPage low' t side es) (sym h) (subst (λ (k : KeyBytes). IsPage k high side es) (sym l) p))
+  pub same_page : (b d : BoundsView) (es es' : List (KeyBytes × X)) → b ≡ d → es' ≡ es → IsPage d.low d.high d.side es → IsPage b.low b.high b.side es'
+  same_page b d es es' same e p =
+      subst (λ (fs : List (KeyBytes × X)). IsPage b.low b.high b.side fs) (sym e) (subst (λ (k : BoundsView). IsPage k.low k.high k.side es) (sym same) p)
 
   -- an entry that was read at a place has the first key from there on
   pub first_read : (es : List (KeyBytes × X)) (n : ℕ) (x : KeyBytes × X) → n < length es → x ≡ get_or es n x → x.0 ≡ first_key (drop n es)
@@ -210,9 +210,9 @@ module _ {X : Type 0} where
   first_read (e ∷ es) (suc n) x lt is = first_read es n x (omega arith) is
 
 -- an inner page by parts that are another's
-pub same_inner : (level : ℕ) (low low' : KeyBytes) (high high' : Option KeyBytes) (side : Option ℕ) (es es' : List (KeyBytes × ℕ)) → low' ≡ low → high' ≡ high → es' ≡ es → IsInner level low high side es → IsInner level low' high' side es'
-same_inner level low low' high high' side es es' l h e p =
-    subst (λ (fs : List (KeyBytes × ℕ)). IsInner level low' high' side fs) (sym e) (subst (λ (t : Option KeyBytes). IsInner level low' t side es) (sym h) (subst (λ (k : KeyBytes). IsInner level k high side es) (sym l) p))
+pub same_inner : (level : ℕ) (b d : BoundsView) (es es' : List (KeyBytes × ℕ)) → b ≡ d → es' ≡ es → IsInner level d.low d.high d.side es → IsInner level b.low b.high b.side es'
+same_inner level b d es es' same e p =
+    subst (λ (fs : List (KeyBytes × ℕ)). IsInner level b.low b.high b.side fs) (sym e) (subst (λ (k : BoundsView). IsInner level k.low k.high k.side es) (sym same) p)
 
 pub upper_inner_page : (level : ℕ) (low : KeyBytes) (high : Option KeyBytes) (side : Option ℕ) (es : List (KeyBytes × ℕ)) (n : ℕ) → IsInner level low high side es → n < length es → IsInner level (first_key (drop n es)) high side (drop n es)
 upper_inner_page level low high side es n h lt = record { raised = h.raised; page = upper_page low high side es n h.page lt; begins = upper_begins es n lt }

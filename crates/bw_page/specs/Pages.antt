@@ -5,6 +5,12 @@ use Rattle.std.specs.FinMap.{is_sorted}
 use Rattle.bw_key.specs.Order.{KeyBytes, key_cmp}
 use Rattle.bw_model.specs.Contents.{is_below_end, is_pair_in_range}
 
+-- the ends of a range of keys, and the right neighbour
+pub record BoundsView : Type 0 where
+  pub low : KeyBytes
+  pub high : Option KeyBytes
+  pub side : Option ℕ
+
 -- Keys strictly rise inside a range that has a key. A right neighbour is there exactly where an upper end is.
 pub record IsPage {V : Type 0} (low : KeyBytes) (high : Option KeyBytes) (side : Option ℕ) (entries : List (KeyBytes × V)) : Type 0 where
   pub sorted : T (is_sorted key_cmp entries)

@@ -5,6 +5,7 @@ ghost use Rattle.bw_model.specs.Contents.{is_below_end, is_in_range};
 ghost use Rattle.bw_page.specs.Inners.{IsInner, IsLastUpto, IsUpto, joined_inner, upper_inner, with_child, without_child};
 ghost use Rattle.bw_page.specs.Pages.{BeginsAt};
 
+use crate::bounds::Bounds;
 use crate::pages::PageId;
 use crate::sorted;
 use bw_key::{Key, Memory};
@@ -19,9 +20,7 @@ use std::marker::Model;
 #[derive(Debug)]
 pub struct Inner {
     level: u32,
-    low: Key,
-    high: Option<Key>,
-    side: Option<PageId>,
+    bounds: Bounds,
     children: Vec<(Key, PageId), Alloc>,
 }
 
@@ -30,9 +29,7 @@ impl Drop for Inner {
     fn drop(self) {
         let Inner {
             level: _level,
-            low: _low,
-            high: _high,
-            side: _side,
+            bounds: _bounds,
             children: _children,
         } = self;
     }
@@ -46,9 +43,9 @@ impl Model for Inner {
 
     ghost coded = { coded_inner };
 
-    ghost view = { λ p. record { level = p.level; low = p.low; high = p.high; side = p.side; children = p.children.items } };
+    ghost view = { λ p. record { level = p.level; low = p.bounds.low; high = p.bounds.high; side = p.bounds.side; children = p.children.items } };
 
-    ghost invariant = { λ p. IsInner p.level p.low p.high p.side p.children.items };
+    ghost invariant = { λ p. IsInner p.level p.bounds.low p.bounds.high p.bounds.side p.children.items };
 }
 
 impl Inner {
@@ -69,9 +66,7 @@ impl Inner {
     {
         Inner {
             level,
-            low,
-            high,
-            side,
+            bounds: Bounds::new(low, high, side),
             children,
         }
     }
@@ -87,21 +82,21 @@ impl Inner {
     pub fn low(&self) -> &Key
         ensures { result.now ≡ self.now.low }
     {
-        &self.low
+        self.bounds.low()
     }
 
     /// The upper end of the range, which doesn't belong to it.
     pub fn high(&self) -> Option<&Key>
         ensures { option_copied result ≡ self.now.high }
     {
-        self.high.as_ref()
+        self.bounds.high()
     }
 
     /// The right neighbour.
     pub fn side(&self) -> Option<PageId>
         ensures { result ≡ self.now.side }
     {
-        self.side
+        self.bounds.side()
     }
 
     /// The separators with their children, in order.
@@ -116,10 +111,7 @@ impl Inner {
     pub fn past(&self, key: &Key) -> Option<PageId>
         ensures { MatchOption result (is_below_end self.now.high key.now ≡ true) (λ next. (is_below_end self.now.high key.now ≡ false) × (self.now.side ≡ Some next)) }
     {
-        match &self.high {
-            Some(high) if *key >= *high => self.side,
-            _ => None,
-        }
+        self.bounds.past(key)
     }
 
     /// The child with the greatest separator that isn't above the key, in about log2 n key comparisons for n children.
@@ -143,9 +135,7 @@ impl Inner {
     {
         Ok(Inner {
             level: self.level,
-            low: self.children[keep].0.copy()?,
-            high: sorted::copy_end(&self.high)?,
-            side: self.side,
+            bounds: self.bounds.with_low(&self.children[keep].0)?,
             children: sorted::copy_from(*self.children.allocator(), &self.children, keep)?,
         })
     }
@@ -159,9 +149,7 @@ impl Inner {
     {
         Ok(Inner {
             level: self.level,
-            low: self.low.copy()?,
-            high: sorted::copy_end(&right.high)?,
-            side: right.side,
+            bounds: right.bounds.with_low(self.bounds.low())?,
             children: sorted::join(*self.children.allocator(), &self.children, &right.children)?,
         })
     }
@@ -173,9 +161,7 @@ impl Inner {
     {
         Ok(Inner {
             level: self.level,
-            low: self.low.copy()?,
-            high: sorted::copy_end(&self.high)?,
-            side: self.side,
+            bounds: self.bounds.with_low(self.bounds.low())?,
             children,
         })
     }

@@ -7,6 +7,7 @@ ghost use Rattle.bw_model.specs.Contents.{is_below_end, is_pair_in_range};
 ghost use Rattle.bw_page.specs.Leaves.{joined_leaf, upper_leaf};
 ghost use Rattle.bw_page.specs.Pages.{BeginsAt, IsPage};
 
+use crate::bounds::Bounds;
 use crate::pages::PageId;
 use crate::sorted;
 use bw_key::{Key, Memory};
@@ -20,9 +21,7 @@ use std::marker::Model;
 /// neighbour's range begins there.
 #[derive(Debug)]
 pub struct Leaf {
-    low: Key,
-    high: Option<Key>,
-    side: Option<PageId>,
+    bounds: Bounds,
     pairs: Vec<(Key, Value), Alloc>,
 }
 
@@ -30,9 +29,7 @@ pub struct Leaf {
 impl Drop for Leaf {
     fn drop(self) {
         let Leaf {
-            low: _low,
-            high: _high,
-            side: _side,
+            bounds: _bounds,
             pairs: _pairs,
         } = self;
     }
@@ -48,9 +45,9 @@ impl Model for Leaf {
 
     ghost coded = { coded_leaf };
 
-    ghost view = { λ l. record { low = l.low; high = l.high; side = l.side; pairs = l.pairs.items } };
+    ghost view = { λ l. record { low = l.bounds.low; high = l.bounds.high; side = l.bounds.side; pairs = l.pairs.items } };
 
-    ghost invariant = { λ l. IsPage l.low l.high l.side l.pairs.items };
+    ghost invariant = { λ l. IsPage l.bounds.low l.bounds.high l.bounds.side l.pairs.items };
 }
 
 impl Leaf {
@@ -62,9 +59,7 @@ impl Leaf {
         ensures pairs { result.pairs ≡ [] }
     {
         Leaf {
-            low: Key::new(alloc, &[]).unwrap(),
-            high: None,
-            side: None,
+            bounds: Bounds::new(Key::new(alloc, &[]).unwrap(), None, None),
             pairs: Vec::new(alloc),
         }
     }
@@ -78,9 +73,7 @@ impl Leaf {
         ensures pairs { result.pairs ≡ pairs }
     {
         Leaf {
-            low,
-            high,
-            side,
+            bounds: Bounds::new(low, high, side),
             pairs: pairs.into_vec(),
         }
     }
@@ -90,21 +83,21 @@ impl Leaf {
         ensures value { result.now ≡ self.now.low }
         ensures rules { IsPage self.now.low self.now.high self.now.side self.now.pairs }
     {
-        &self.low
+        self.bounds.low()
     }
 
     /// The upper end of the range, which doesn't belong to it.
     pub fn high(&self) -> Option<&Key>
         ensures { option_copied result ≡ self.now.high }
     {
-        self.high.as_ref()
+        self.bounds.high()
     }
 
     /// The right neighbour.
     pub fn side(&self) -> Option<PageId>
         ensures { result ≡ self.now.side }
     {
-        self.side
+        self.bounds.side()
     }
 
     /// The pairs, in the order of their keys.
@@ -135,10 +128,7 @@ impl Leaf {
     pub fn past(&self, key: &Key) -> Option<PageId>
         ensures { MatchOption result (is_below_end self.now.high key.now ≡ true) (λ next. (is_below_end self.now.high key.now ≡ false) × (self.now.side ≡ Some next)) }
     {
-        match &self.high {
-            Some(high) if *key >= *high => self.side,
-            _ => None,
-        }
+        self.bounds.past(key)
     }
 
     /// The pairs from place `keep` on, as a leaf that begins at the first of their keys and ends where this one does.
@@ -152,9 +142,7 @@ impl Leaf {
         ensures kept { IfOk result (λ half. BeginsAt half.low half.pairs) }
     {
         Ok(Leaf {
-            low: self.pairs[keep].0.copy()?,
-            high: sorted::copy_end(&self.high)?,
-            side: self.side,
+            bounds: self.bounds.with_low(&self.pairs[keep].0)?,
             pairs: sorted::copy_from(*self.pairs.allocator(), &self.pairs, keep)?,
         })
     }
@@ -169,9 +157,7 @@ impl Leaf {
         ensures { IfOk result (λ leaf. leaf ≡ joined_leaf self.now right.now) }
     {
         Ok(Leaf {
-            low: self.low.copy()?,
-            high: sorted::copy_end(&right.high)?,
-            side: right.side,
+            bounds: right.bounds.with_low(self.bounds.low())?,
             pairs: sorted::join(*self.pairs.allocator(), &self.pairs, &right.pairs)?,
         })
     }

@@ -3,6 +3,7 @@
 //! edited: a new one takes its place.
 #![tactic(auto)]
 
+mod bounds;
 mod inner;
 mod leaf;
 mod pages;

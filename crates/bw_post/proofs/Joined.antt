@@ -1,5 +1,5 @@
 -- Workers who post side by side, and their seats in one.
-use Rattle.std.proofs.Common.{◌≡◌, ℕ, ◌+◌, ◌-◌, ◌/◌, ◌<◌, ◌≤◌, eqb, leb, ltb, Bool, true, false, ◌&&◌, ◌||◌, List, [], ◌∷◌, ◌++◌, length, map, get_or, take, drop, zero, suc, sym, refl, ap, ◌∙◌, subst, arith, inl, inr}
+use Rattle.std.proofs.Common.{◌≡◌, ℕ, ◌+◌, ◌-◌, ◌<◌, eqb, leb, ltb, ◌&&◌, List, [], ◌∷◌, ◌++◌, length, map, get_or, take, drop, zero, suc, sym, refl, ap, ◌∙◌, subst, arith, inl, inr}
 use Rattle.std.proofs.lemmas.Bool.{cases_lt}
 use Rattle.std.proofs.lemmas.List.{length-append, length-map}
 use Rattle.std.specs.Prelude.{slice_index_or, Option, Some}
@@ -12,9 +12,8 @@ use Rattle.bw_core.specs.Events.{is_told, joined, split_left, split_right}
 use Rattle.bw_core.proofs.Lists.{total-append}
 use Rattle.bw_board.specs.Plays.{lost_in}
 use Rattle.bw_board.specs.Public.{BoardView, SeatView, IsSound}
-use Rattle.bw_board.specs.Working.{HasPostedAll}
 use Rattle.bw_tree.specs.View.{TreeView}
-use Rattle.bw_post.specs.Posting.{ArePostedHome, HasWorked, HasClaimedNothing, IsHomeOfRecord, IsOver, IsTold, width_of}
+use Rattle.bw_post.specs.Posting.{HasFinished, HasWorked, HasClaimedNothing, IsHomeOfRecord, IsBoardOf, width_of}
 use Rattle.bw_post.specs.declared.workers.Worker.{Worker}
 use Rattle.bw_post.proofs.Homes.{none_home, same_home}
 use Rattle.bw_post.proofs.Lost.{lost_both, lost_few}
@@ -38,7 +37,7 @@ told_worked tree board w v told so = record {
 }
 
 -- what two workers did, in one
-pub worked_both : (tree : TreeView) (board : BoardView) (a b w : Worker) → IsOver tree board → HasWorked tree board a → HasWorked tree board b → w.seat ≡ record a.seat { book = joined board.first a.seat.book b.seat.book } → w.lost ≡ a.lost + b.lost → HasWorked tree board w
+pub worked_both : (tree : TreeView) (board : BoardView) (a b w : Worker) → IsBoardOf tree board → HasWorked tree board a → HasWorked tree board b → w.seat ≡ record a.seat { book = joined board.first a.seat.book b.seat.book } → w.lost ≡ a.lost + b.lost → HasWorked tree board w
 worked_both tree board a b w over first second both lost = record {
   board_is = ap (λ (v : SeatView). v.board) both ∙ first.board_is;
   posted = λ r. (
@@ -59,7 +58,7 @@ worked_both tree board a b w over first second both lost = record {
 }
 
 -- and what they lost together fits
-pub lost_together : (tree : TreeView) (board : BoardView) (a b : Worker) (v : SeatView) → IsOver tree board → HasWorked tree board a → HasWorked tree board b → v ≡ record a.seat { book = joined board.first a.seat.book b.seat.book } → IsSound v → a.lost + b.lost < 18446744073709551616
+pub lost_together : (tree : TreeView) (board : BoardView) (a b : Worker) (v : SeatView) → IsBoardOf tree board → HasWorked tree board a → HasWorked tree board b → v ≡ record a.seat { book = joined board.first a.seat.book b.seat.book } → IsSound v → a.lost + b.lost < 18446744073709551616
 lost_together tree board a b v over first second both sound =
     let few = lost_few v board (ap (λ (z : SeatView). z.board) both ∙ first.board_is) over.few over.spareless sound in
     let sum : lost_in v.book.posted ≡ lost_in a.seat.book.posted + lost_in b.seat.book.posted = ap (λ (z : SeatView). lost_in z.book.posted) both ∙ lost_both a.seat.book.posted b.seat.book.posted in
@@ -121,8 +120,8 @@ module _ (board : BoardView) (ws rest : List Worker) (w : Worker) (parts : ws �
       omega (arith, b, ap (λ (v : SeatView). v.book.width) same, ap (total width_of) parts)
 
 -- one more worker's seat joined
-pub all_joined : (tree : TreeView) (board : BoardView) (ws rest : List Worker) (w : Worker) → ws ≡ w ∷ rest → AllByRecursion (HasWorked tree board) ws → HasWorked tree board w × AllByRecursion (HasWorked tree board) rest
-all_joined tree board ws rest w parts all = subst (AllByRecursion (HasWorked tree board)) parts all
+pub all_joined : (tree : TreeView) (board : BoardView) (ws rest : List Worker) (w : Worker) → ws ≡ w ∷ rest → AllByRecursion (HasFinished tree board) ws → HasFinished tree board w × AllByRecursion (HasFinished tree board) rest
+all_joined tree board ws rest w parts all = subst (AllByRecursion (HasFinished tree board)) parts all
 
 -- the last of some workers, and the others
 pub last_popped : {X : Type 0} (P : X → Type 0) (ws rest : List X) (o : Option X) (w : X) → ws ≡ rest ++ option_to_list o → o ≡ Some w → AllByRecursion P ws → AllByRecursion P rest × P w

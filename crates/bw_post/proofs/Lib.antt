@@ -1,4 +1,4 @@
-pub mod Held
+pub mod OwnedCounts
 pub mod Homes
 pub mod Staged
 pub mod Lost

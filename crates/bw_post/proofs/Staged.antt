@@ -10,9 +10,9 @@ use Rattle.bw_model.specs.declared.operations.Op.TheVariants.{Get, Insert, Upser
 use Rattle.bw_delta.specs.Batches.{stamped, write_of, writes_of}
 use Rattle.bw_delta.specs.Writes.{WriteView}
 use Rattle.bw_tree.specs.View.{TreeView, StageView, staged_writes}
-use Rattle.bw_answer.specs.Homes.{AreHomesOf}
-use Rattle.bw_answer.specs.Points.{key_of}
-use Rattle.bw_post.specs.Posting.{AreHomes, HasHome, IsWaiting}
+use Rattle.bw_group.specs.Homes.{AreHomes, HasHome}
+use Rattle.bw_model.specs.Model.{key_of}
+use Rattle.bw_post.specs.Posting.{AreStagedHomes, IsWaiting}
 
 no_write : {w : WriteView} → None ≡ Some w → ⊥
 no_write e = cc
@@ -64,26 +64,19 @@ placed (op ∷ ops) base r w at = by (write_of op) refl r (λ n at. placed ops (
         }
 
 -- so the pages of the operations' keys have those of the staged writes
-pub staged_homes : (tree : TreeView) (ops : List Op) (homes : List ℕ) → IsWaiting tree tree.staged ops → AreHomesOf tree ops homes → AreHomes tree homes
-staged_homes tree ops homes waiting are r w at = by tree.staged waiting at
+pub staged_homes : (tree : TreeView) (ops : List Op) (pages : List ℕ) → IsWaiting tree tree.staged ops → AreHomes tree ops pages → AreStagedHomes tree pages
+staged_homes tree ops pages waiting are r w at = by tree.staged waiting at
   where
-    by : (o : Option StageView) → IsWaiting tree o ops → slice_get (staged_writes o) r ≡ Some w → HasHome tree homes w
+    by : (o : Option StageView) → IsWaiting tree o ops → slice_get (staged_writes o) r ≡ Some w → (tree.next ≤ w.stamp) × HasHome tree pages (w.stamp - tree.next) w.key
     by None none at = absurd none
     by (Some stage) is at =
         let p = placed ops tree.next r w (ap (λ (l : List WriteView). slice_get l r) (sym is.1) ∙ at) in
-        let h = are.each p.place w.key p.key in
-        let less : w.stamp - tree.next ≡ p.place = omega (arith, p.stamp) in
-        record {
-          page = h.0;
-          from = omega (arith, p.stamp);
-          at = ap (slice_get homes) less ∙ h.1;
-          there = h.2;
-          one = h.3;
-        }
+        let less : p.place ≡ w.stamp - tree.next = omega (arith, p.stamp) in
+        (omega (arith, p.stamp), subst (λ n. HasHome tree pages n w.key) less (are.each p.place w.key p.key))
 
 -- the place of a write has a page
-pub home_within : (tree : TreeView) (homes : List ℕ) (w : WriteView) → (h : HasHome tree homes w) → w.stamp - tree.next < length homes
-home_within tree homes w h = slice_get_within homes (w.stamp - tree.next) h.page h.at
+pub home_within : (tree : TreeView) (pages : List ℕ) (place : ℕ) (key : KeyBytes) → HasHome tree pages place key → place < length pages
+home_within tree pages place key h = slice_get_within pages place h.page h.at
 
-pub home_read : (tree : TreeView) (homes : List ℕ) (w : WriteView) (i d : ℕ) → (h : HasHome tree homes w) → i ≡ w.stamp - tree.next → get_or homes i d ≡ h.page
-home_read tree homes w i d h place = ap (λ n. get_or homes n d) place ∙ get_or_from_slice_get homes (w.stamp - tree.next) h.page d h.at
+pub home_read : (tree : TreeView) (pages : List ℕ) (place : ℕ) (key : KeyBytes) (i d : ℕ) → (h : HasHome tree pages place key) → i ≡ place → get_or pages i d ≡ h.page
+home_read tree pages place key i d h is = ap (λ n. get_or pages n d) is ∙ get_or_from_slice_get pages place h.page d h.at

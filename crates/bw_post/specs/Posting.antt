@@ -1,5 +1,6 @@
 -- A seat that posts the records of a staged batch.
-use Rattle.std.specs.Prelude.{◌≡◌, ℕ, ◌-◌, ◌^◌, ◌<◌, ◌≤◌, true, false, List, [], length, Option, Some, None, slice_get, slice_index_or}
+use Rattle.std.specs.Prelude.{◌≡◌, ℕ, ◌-◌, ◌^◌, ◌<◌, ◌≤◌, true, false, List, [], length}
+use Rattle.std.specs.Prelude.{Option, Some, None, slice_get, slice_index_or}
 use Rattle.bw_core.specs.World.{posts_at}
 use Rattle.bw_board.specs.Plays.{lost_in}
 use Rattle.bw_board.specs.Public.{BoardView, SeatView}
@@ -7,6 +8,7 @@ use Rattle.bw_board.specs.Working.{HasPostedAll}
 use Rattle.bw_model.specs.declared.operations.Op.{Op}
 use Rattle.bw_delta.specs.Batches.{writes_of}
 use Rattle.bw_delta.specs.Writes.{WriteView}
+use Rattle.bw_group.specs.Homes.{HasHome}
 use Rattle.bw_tree.specs.Levels.{IsOneHome}
 use Rattle.bw_post.specs.declared.workers.Worker.{Worker}
 use Rattle.bw_tree.specs.View.{TreeView, StageView, staged_writes}
@@ -17,27 +19,21 @@ IsWaiting tree None ops = ⊥
 IsWaiting tree (Some stage) ops = (stage.adopted ≡ false) × (stage.writes ≡ writes_of tree.next ops)
 
 -- the board is over the tree's mapping words, with a record for each staged write, and without spares
-pub record IsOver (tree : TreeView) (board : BoardView) : Type 0 where
+pub record IsBoardOf (tree : TreeView) (board : BoardView) : Type 0 where
   pub first : board.first ≡ tree.heads
   pub records : board.records ≡ length (staged_writes tree.staged)
   pub few : board.records ≤ 2 ^ 32
   pub spareless : (p : ℕ) → slice_index_or board.spares p None ≡ None
 
--- of pages by the places of operations, the one of this write's operation is the home of its key
-pub record HasHome (tree : TreeView) (homes : List ℕ) (w : WriteView) : Type 0 where
-  pub page : ℕ
-  pub from : tree.next ≤ w.stamp
-  pub at : slice_get homes (w.stamp - tree.next) ≡ Some page
-  pub there : page < length tree.heads
-  pub one : IsOneHome tree.slots tree.levels w.key page
-
--- and so it is for each staged write
-abbrev pub AreHomes : TreeView → List ℕ → Type 0
-AreHomes tree homes = (r : ℕ) (w : WriteView) → slice_get (staged_writes tree.staged) r ≡ Some w → HasHome tree homes w
+-- of pages by the places of operations, that of each staged write's operation is the home of its key
+abbrev pub AreStagedHomes : TreeView → List ℕ → Type 0
+AreStagedHomes tree pages = (r : ℕ) (w : WriteView) → slice_get (staged_writes tree.staged) r ≡ Some w →
+    (tree.next ≤ w.stamp) × HasHome tree pages (w.stamp - tree.next) w.key
 
 -- the page is the home of a staged record
 abbrev pub IsHomeOfRecord : TreeView → ℕ → ℕ → Type 0
-IsHomeOfRecord tree r p = (w : WriteView) → slice_get (staged_writes tree.staged) r ≡ Some w → IsOneHome tree.slots tree.levels w.key p
+IsHomeOfRecord tree r p =
+    (w : WriteView) → slice_get (staged_writes tree.staged) r ≡ Some w → IsOneHome tree.slots tree.levels w.key p
 
 -- what the seat posted is at home on its page
 abbrev pub ArePostedHome : TreeView → SeatView → Type 0
@@ -57,9 +53,10 @@ pub record HasWorked (tree : TreeView) (board : BoardView) (worker : Worker) : T
   pub homes : ArePostedHome tree worker.seat
   pub lost : worker.lost ≡ lost_in worker.seat.book.posted
 
--- a worker who was told that no record is left
-abbrev pub IsTold : Worker → Type 0
-IsTold worker = worker.seat.book.told ≡ true
+-- and who was told that no record is left
+pub record HasFinished (tree : TreeView) (board : BoardView) (worker : Worker) : Type 0 where
+  pub worked : HasWorked tree board worker
+  pub told : worker.seat.book.told ≡ true
 
 abbrev pub width_of : Worker → ℕ
 width_of worker = worker.seat.book.width

@@ -1,13 +1,13 @@
-//! Posting a staged batch: each of its records is put before the chain of its key's page, by exchanges on the words of a
-//! board, which workers make side by side.
+//! Posting a staged batch: each of its records is put before the chain of its key's page, by exchanges on the words of
+//! a board, which workers make side by side.
 #![tactic(auto)]
 
+mod batch_posting;
 mod gates;
-mod posting;
 mod workers;
 
+pub use batch_posting::{Posting, post_all};
 pub use gates::{Gate, OpenGate};
-pub use posting::{Posting, post_all};
 
 /// The tree whose batch is posted, and the words that posting leaves for it to adopt.
 pub use bw_board::Closed;

@@ -6,7 +6,8 @@ ghost use Rattle.bw_core.specs.World.{owns, total};
 ghost use Rattle.bw_board.specs.Plays.{lost_in};
 ghost use Rattle.bw_board.specs.Working.{HasLeft, HasPostedAll};
 ghost use Rattle.bw_tree.specs.View.{staged_writes};
-ghost use Rattle.bw_post.specs.Posting.{AreHomes, ArePostedHome, HasWorked, HasClaimedNothing, IsHomeOfRecord, IsOver, IsTold, width_of};
+ghost use Rattle.bw_post.specs.Posting.{AreStagedHomes, ArePostedHome, HasClaimedNothing, HasFinished};
+ghost use Rattle.bw_post.specs.Posting.{IsBoardOf, IsHomeOfRecord, width_of};
 
 use crate::gates::Gate;
 use bw_board::{Board, Seat};
@@ -24,8 +25,8 @@ pub(crate) struct Worker {
     pub(crate) lost: u64,
 }
 
-/// So many workers, of which there is at least one, in the place of one seat. There are fewer where the seat can't be split
-/// so often.
+/// So many workers, of which there is at least one, in the place of one seat. There are fewer where the seat can't be
+/// split so often.
 pub(crate) fn seat_workers(
     alloc: Alloc,
     board: &Board,
@@ -68,17 +69,18 @@ pub(crate) fn post_side_by_side<R: Threads + Sync, G: Gate>(
     gate: &G,
     workers: &mut [Worker],
 )
-    requires over { IsOver tree.now board.now }
-    requires pages { AreHomes tree.now pages.now }
+    requires over { IsBoardOf tree.now board.now }
+    requires pages { AreStagedHomes tree.now pages.now }
     requires some { 0 < length workers.old }
     requires fresh { AllByRecursion (HasClaimedNothing board.now) workers.old }
-    ensures worked { AllByRecursion (HasWorked tree.now board.now) workers.new }
-    ensures told { AllByRecursion IsTold workers.new }
+    ensures finished { AllByRecursion (HasFinished tree.now board.now) workers.new }
     ensures width { map width_of workers.new ≡ map width_of workers.old }
 {
     let post = move |_place: usize, worker: &mut Worker|
-        requires { IsSync G.row × IsOver tree.now board.now × AreHomes tree.now pages.now × HasClaimedNothing board.now worker.now }
-        ensures { HasWorked tree.entry.now board.entry.now worker.exit.now × IsTold worker.exit.now × (width_of worker.exit.now ≡ width_of worker.entry.now) }
+        requires { IsSync G.row × IsBoardOf tree.now board.now × AreStagedHomes tree.now pages.now
+            × HasClaimedNothing board.now worker.now }
+        ensures { HasFinished tree.entry.now board.entry.now worker.exit.now
+            × (width_of worker.exit.now ≡ width_of worker.entry.now) }
     { post_claimed(tree, pages, board, gate, worker) };
     for_each_mut(rt, workers, workers.len(), &post);
 }
@@ -91,11 +93,10 @@ fn post_claimed<G: Gate>(
     gate: &G,
     worker: &mut Worker,
 )
-    requires over { IsOver tree.now board.now }
-    requires pages { AreHomes tree.now pages.now }
+    requires over { IsBoardOf tree.now board.now }
+    requires pages { AreStagedHomes tree.now pages.now }
     requires fresh { HasClaimedNothing board.now worker.old }
-    ensures worked { HasWorked tree.now board.now worker.new }
-    ensures told { IsTold worker.new }
+    ensures finished { HasFinished tree.now board.now worker.new }
     ensures width { width_of worker.new ≡ width_of worker.old }
 {
     while let Some(span) = board.claim(&mut worker.seat) {
@@ -113,8 +114,8 @@ fn post_piece<G: Gate>(
     piece: Range<u64>,
 ) -> u64
     requires board { seat.old.board ≡ board.now }
-    requires over { IsOver tree.now board.now }
-    requires pages { AreHomes tree.now pages.now }
+    requires over { IsBoardOf tree.now board.now }
+    requires pages { AreStagedHomes tree.now pages.now }
     requires left { HasLeft seat.old piece.start piece.end }
     requires homes { ArePostedHome tree.now seat.old }
     requires once { (r : ℕ) → owns r seat.old.book ≤ 1 }
@@ -142,7 +143,7 @@ fn post_piece<G: Gate>(
 
 // The page of a staged record's key. The place of the record's operation is in its stamp.
 fn home_at(tree: &Tree, pages: &[PageId], number: u64) -> PageId
-    requires pages { AreHomes tree.now pages.now }
+    requires pages { AreStagedHomes tree.now pages.now }
     requires there { number < length (staged_writes tree.now.staged) }
     ensures there { result < length tree.now.heads }
     ensures home { IsHomeOfRecord tree.now number result }
@@ -153,12 +154,10 @@ fn home_at(tree: &Tree, pages: &[PageId], number: u64) -> PageId
 
 /// All workers' seats in one, with what they lost together.
 pub(crate) fn join_workers(tree: &Tree, board: &Board, mut workers: Vec<Worker, Alloc>) -> Worker
-    requires over { IsOver tree.now board.now }
+    requires over { IsBoardOf tree.now board.now }
     requires some { 0 < length workers.items }
-    requires worked { AllByRecursion (HasWorked tree.now board.now) workers.items }
-    requires told { AllByRecursion IsTold workers.items }
-    ensures worked { HasWorked tree.now board.now result }
-    ensures told { IsTold result }
+    requires finished { AllByRecursion (HasFinished tree.now board.now) workers.items }
+    ensures finished { HasFinished tree.now board.now result }
     ensures width { width_of result ≡ total width_of workers.entry.items }
 {
     let mut whole = workers.pop().unwrap();

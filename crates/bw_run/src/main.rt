@@ -1,21 +1,19 @@
 //! Runs a trace of operations on an ordered index, and prints the replies or what the index holds at the end.
 #![tactic(auto)]
 
-mod asking;
-mod command;
-mod messages;
-#[cfg(test)]
-mod tests;
+ghost use Rattle.std.specs.Prelude.{◌≡◌, ◌^◌};
 
-use asking::arguments;
+use bw_command::{arguments, no_memory, no_words, run_words};
 use bw_memory::Heap;
 use bw_trace::{FromRead, FromWrite};
-use command::run_words;
-use messages::{no_memory, no_words};
 use std::process::ExitCode;
 
-// How often the input is read at the most: 2^32 times.
-const TURNS: u64 = 4_294_967_296;
+// How often the input is read at the most.
+fn turns() -> u64
+    ensures { result ≡ 2 ^ 32 }
+{
+    4_294_967_296
+}
 
 fn main(rt: HostRuntime) -> ExitCode {
     let mut errors = FromWrite::new(rt.stderr());
@@ -35,5 +33,6 @@ fn main(rt: HostRuntime) -> ExitCode {
     };
     let input = FromRead::new(rt.stdin());
     let mut output = FromWrite::new(rt.stdout());
-    ExitCode::from(run_words(&rt, alloc, &words, input, &mut output, &mut errors, TURNS))
+    let status = run_words(&rt, alloc, &words, input, &mut output, &mut errors, turns());
+    ExitCode::from(status)
 }

@@ -13,7 +13,7 @@ use Rattle.bw_trace.specs.Running.{IsRun, is_of_memory, refusal_in, summary_of}
 use Rattle.bw_trace.specs.Texts.{batches_text, end_text}
 use Rattle.bw_trace.specs.Traces.{Trace}
 
--- 1 where an outcome is a refusal for want of memory
+-- 1 where an outcome is a refusal as out of memory
 abbrev refused : Outcome → ℕ
 refused outcome = cond (is_of_memory (refusal_in outcome)) 1 0
 

@@ -3,7 +3,7 @@ use Rattle.std.proofs.Common.{◌≡◌, ℕ, ◌<◌, ◌≤◌, Bool, true, fa
 use Rattle.std.specs.Prelude.{◌==◌}
 use Rattle.std.proofs.lemmas.Bool.{le-ltb}
 use Rattle.std.specs.List.{onto_first, list_any}
-use Rattle.bw_trace.specs.Lines.{lines_of, onto_whole, whole_lines_of, unfinished_of, judged_lines_of, IsLineOf}
+use Rattle.bw_trace.specs.Lines.{lines_of, onto_whole, whole_lines_of, unfinished_of, parsed_lines_of, IsLineOf}
 
 -- no byte ends a line
 abbrev pub IsOneLine : List ℕ → Type 0
@@ -76,14 +76,14 @@ unfinished_all : (line : List ℕ) → IsOneLine line → unfinished_of line ≡
 unfinished_all [] one = refl
 unfinished_all (b ∷ line) one = ap (λ t. cond t (unfinished_of line) (b ∷ line)) (has_none (b ∷ line) one)
 
-judged_front : (line rest : List ℕ) → IsOneLine line → judged_lines_of (line ++ 10 ∷ rest) ≡ line ∷ judged_lines_of rest
-judged_front line rest one =
+parsed_front : (line rest : List ℕ) → IsOneLine line → parsed_lines_of (line ++ 10 ∷ rest) ≡ line ∷ parsed_lines_of rest
+parsed_front line rest one =
     ap (λ (u : List ℕ). whole_lines_of (line ++ 10 ∷ rest) ++ cond (ltb 8192 (length u)) (u ∷ []) []) (unfinished_front line rest)
     ∙ ap (λ (ls : List (List ℕ)). ls ++ cond (ltb 8192 (length (unfinished_of rest))) (unfinished_of rest ∷ []) []) (whole_front line rest one)
 
--- bytes that no byte 10 ends are no line to judge, unless they are too many
-pub judged_none : (line : List ℕ) → IsOneLine line → length line ≤ 8192 → judged_lines_of line ≡ []
-judged_none line one short =
+-- bytes that no byte 10 ends are no line to parse, unless they are too many
+pub parsed_none : (line : List ℕ) → IsOneLine line → length line ≤ 8192 → parsed_lines_of line ≡ []
+parsed_none line one short =
     ap (λ (u : List ℕ). whole_lines_of line ++ cond (ltb 8192 (length u)) (u ∷ []) []) (unfinished_all line one)
     ∙ ap (λ (ls : List (List ℕ)). ls ++ cond (ltb 8192 (length line)) (line ∷ []) []) (whole_none line one)
     ∙ ap (λ t. cond t (line ∷ []) []) (le-ltb 8192 (length line) short)
@@ -95,7 +95,7 @@ pub ended_line : (line : List ℕ) (ended : Bool) → IsOneLine line → length 
 ended_line line ended one short = record {
   first = λ more at_end.
       (λ le. ap lines_of (append_assoc line (10 ∷ []) more) ∙ lines_front line more one, λ lt. absurd (omega (arith, lt, short)));
-  whole = λ going le more. ap judged_lines_of (append_assoc line (10 ∷ []) more) ∙ judged_front line more one;
+  whole = λ going le more. ap parsed_lines_of (append_assoc line (10 ∷ []) more) ∙ parsed_front line more one;
 }
 
 -- so does the end of the input, where the line isn't empty

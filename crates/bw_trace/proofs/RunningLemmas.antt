@@ -18,7 +18,7 @@ use Rattle.bw_trace.specs.declared.summaries.Summary.{Summary}
 use Rattle.bw_trace.specs.Running.{IsRun, left_by_run, refusal_in, summary_of, is_too_long, is_of_memory}
 use Rattle.bw_trace.specs.Sources.{SourceView}
 use Rattle.bw_trace.specs.Texts.{batch_text, batches_text, end_text}
-use Rattle.bw_trace.specs.declared.running.Job.{Job}
+use Rattle.bw_trace.specs.declared.jobs.Job.{Job}
 use Rattle.bw_trace.specs.Traces.{Trace, trace_from, cut_trace_from, no_trace, faulty, behind, StandFor, IsFaultyAt}
 use Rattle.bw_trace.specs.Writing.{TakesFront}
 use Rattle.bw_trace.proofs.Writing.{flat_map_one}
@@ -224,7 +224,7 @@ runs_to_none job most s contents out summary none zero = record {
   counted = λ i. record { batches = zero.0 i; long = zero.1.0 i; memory = zero.1.1 i };
 }
 
--- for want of memory
+-- out of memory
 pub stops_for_memory : (job : Job) (most : ℕ) (before : Place) (outcomes : List Outcome) (unread old new : Option (List ℕ)) →
     IfSome unread (λ all. (rest : Trace) × IsRun most (trace_from before all) outcomes rest) → TakesFront old new (batches_text job outcomes) →
     IfSome unread (λ all. (outcomes : List Outcome) × ((rest : Trace) × IsRun most (trace_from before all) outcomes rest) × TakesFront old new (batches_text job outcomes))

@@ -1,18 +1,18 @@
--- The text of a run is a function of its trace, of the most operations of a batch, and of the job, where no batch met
--- want of memory.
+-- The text of a run is a function of its trace, of the most operations of a batch, and of the job, where no batch ran
+-- out of memory.
 use Rattle.std.specs.Prelude.{◌≡◌, ℕ, List, [], Option}
 use Rattle.bw_model.specs.Runs.{Outcome}
 use Rattle.bw_trace.specs.Running.{IsRun, left_by_run, summary_of}
 use Rattle.bw_trace.specs.Texts.{batches_text, end_text}
 use Rattle.bw_trace.specs.Traces.{Trace}
 use Rattle.bw_trace.specs.declared.faults.Cause.{Cause}
-use Rattle.bw_trace.specs.declared.running.Job.{Job}
+use Rattle.bw_trace.specs.declared.jobs.Job.{Job}
 
 -- nothing is left to read: the trace ended, or its first faulty line stopped it
 abbrev pub stopped : Option (ℕ × Cause) → Trace
 stopped fault = record { batches = []; fault = fault }
 
--- two runs of one trace that counted no batch as refused for want of memory
+-- two runs of one trace that counted no batch as refused as out of memory
 abbrev pub TextsAreDetermined : Type 0
 TextsAreDetermined = (most : ℕ) (trace : Trace) (fault : Option (ℕ × Cause)) (job : Job) (outcomes others : List Outcome)
     (run : IsRun most trace outcomes (stopped fault)) (other : IsRun most trace others (stopped fault))

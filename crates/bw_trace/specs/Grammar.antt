@@ -11,10 +11,10 @@ use Rattle.bw_trace.specs.Lines.{line_max, IsLineOf}
 use Rattle.bw_trace.specs.Spelling.{spelled_by}
 use Rattle.bw_trace.specs.declared.faults.Cause.{Cause}
 use Rattle.bw_trace.specs.declared.faults.Cause.TheVariants.{LongLine, Verb, Words, KeyText, KeyLength, Number, ValueText, ValueLength}
-use Rattle.bw_trace.specs.declared.judging.Keyword.{Keyword}
-use Rattle.bw_trace.specs.declared.judging.Keyword.TheVariants.{Get, Insert, Upsert, Update, Delete, SwapIf, Scan, Rscan, Go, Bw}
-use Rattle.bw_trace.specs.declared.judging.Meaning.{Meaning}
-use Rattle.bw_trace.specs.declared.judging.Meaning.TheVariants.{Nothing, Operation, EndsBatch, StartsVersion2, Faulty}
+use Rattle.bw_trace.specs.declared.parse.Keyword.{Keyword}
+use Rattle.bw_trace.specs.declared.parse.Keyword.TheVariants.{Get, Insert, Upsert, Update, Delete, SwapIf, Scan, Rscan, Go, Bw}
+use Rattle.bw_trace.specs.declared.parse.Meaning.{Meaning}
+use Rattle.bw_trace.specs.declared.parse.Meaning.TheVariants.{Nothing, Operation, EndsBatch, StartsVersion2, Faulty}
 use Rattle.bw_trace.specs.declared.places.Place.{Place}
 use Rattle.bw_trace.specs.declared.places.Version.{Version}
 use Rattle.bw_trace.specs.declared.places.Version.TheVariants.{First, Second}

@@ -4,7 +4,7 @@ use Rattle.bw_trace.specs.declared.faults.Cause.{Cause}
 use Rattle.bw_trace.specs.declared.words.Misread.{Misread}
 use Rattle.bw_trace.specs.declared.words.Misread.TheVariants.{Faulty, Memory}
 
--- What they say, or what is wrong with them. Where memory was wanting, nothing.
+-- What they say, or what is wrong with them. Where memory ran out, nothing.
 abbrev pub Says : {X : Type 0} → Result X Misread → Result X Cause → Type 0
 Says (Ok x) said = said ≡ Ok x
 Says (Err (Faulty cause)) said = said ≡ Err cause

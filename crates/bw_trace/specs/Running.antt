@@ -35,7 +35,7 @@ is_of_memory None = false
 is_of_memory (Some (TooLong ops most)) = false
 is_of_memory (Some Memory) = true
 
--- how many batches there were, and how many were refused for their length and for want of memory
+-- how many batches there were, and how many were refused for their length and where memory ran out
 abbrev pub summary_of : List Outcome → Summary
 summary_of outcomes = record {
   batches = length outcomes;

@@ -6,7 +6,7 @@ use Rattle.bw_trace.specs.declared.faults.TraceFault.{TraceFault}
 use Rattle.bw_trace.specs.declared.places.Place.{Place}
 
 pub record SourceView : Type 0 where
-  -- the bytes that were not judged yet, where the reader says so
+  -- the bytes that were not parsed yet, where the reader says so
   pub unread : Option (List ℕ)
   -- where its next line stands
   pub place : Place

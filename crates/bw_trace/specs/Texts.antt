@@ -11,8 +11,8 @@ use Rattle.bw_model.specs.declared.operations.Reply.{Reply}
 use Rattle.bw_model.specs.declared.operations.Reply.TheVariants.{Found, Absent, Inserted, Held, New, Was, Pairs}
 use Rattle.bw_model.specs.declared.outcomes.Refusal.{Refusal}
 use Rattle.bw_model.specs.declared.outcomes.Refusal.TheVariants.{TooLong, Memory}
-use Rattle.bw_trace.specs.declared.running.Job.{Job}
-use Rattle.bw_trace.specs.declared.running.Job.TheVariants.{Run, Dump}
+use Rattle.bw_trace.specs.declared.jobs.Job.{Job}
+use Rattle.bw_trace.specs.declared.jobs.Job.TheVariants.{Run, Dump}
 use Rattle.bw_trace.specs.Spelling.{spelled}
 
 -- a line, with the byte that ends it

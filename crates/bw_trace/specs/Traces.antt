@@ -2,10 +2,10 @@
 use Rattle.std.specs.Prelude.{◌≡◌, ℕ, ◌+◌, Bool, true, false, List, [], ◌∷◌, ◌++◌, Option, Some, None}
 use Rattle.bw_model.specs.declared.operations.Op.{Op}
 use Rattle.bw_trace.specs.declared.faults.Cause.{Cause}
-use Rattle.bw_trace.specs.declared.judging.Meaning.{Meaning}
-use Rattle.bw_trace.specs.declared.judging.Meaning.TheVariants.{Nothing, Operation, EndsBatch, StartsVersion2, Faulty}
+use Rattle.bw_trace.specs.declared.parse.Meaning.{Meaning}
+use Rattle.bw_trace.specs.declared.parse.Meaning.TheVariants.{Nothing, Operation, EndsBatch, StartsVersion2, Faulty}
 use Rattle.bw_trace.specs.declared.places.Place.{Place}
-use Rattle.bw_trace.specs.Lines.{lines_of, judged_lines_of}
+use Rattle.bw_trace.specs.Lines.{lines_of, parsed_lines_of}
 use Rattle.bw_trace.specs.Grammar.{meaning_of, place_behind}
 
 -- the batches before the first fault, and that fault with the number of its line
@@ -54,9 +54,9 @@ trace_of_lines finish place ops (line ∷ lines) =
 abbrev pub trace_from : Place → List ℕ → Trace
 trace_from place bytes = trace_of_lines at_end place [] (lines_of bytes)
 
--- what the lines that can be judged say of it, where the input was cut off
+-- what the lines that can be parsed say of it, where the input was cut off
 abbrev pub cut_trace_from : Place → List ℕ → Trace
-cut_trace_from place bytes = trace_of_lines at_cut place [] (judged_lines_of bytes)
+cut_trace_from place bytes = trace_of_lines at_cut place [] (parsed_lines_of bytes)
 
 -- The bytes that were read stand for these batches, from one place to another, and whatever follows them is read from
 -- there on. At the end of the input nothing does.

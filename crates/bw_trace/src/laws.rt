@@ -23,7 +23,7 @@ pub fn number_values_are_read_back()
 {}
 
 /// Two runs of one trace, with the same most operations of a batch and the same job, print the same where none of their
-/// batches was refused for want of memory.
+/// batches was refused as out of memory.
 pub fn texts_are_determined()
     ensures { TextsAreDetermined }
 {}

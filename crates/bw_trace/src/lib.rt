@@ -2,22 +2,22 @@
 #![tactic(auto)]
 
 mod faults;
-mod judging;
+mod jobs;
 pub mod laws;
+mod parse;
 mod places;
 mod ports;
-mod printing;
-mod running;
 mod sources;
 mod spelling;
 mod std_ports;
 mod summaries;
+mod texts;
 mod words;
 
 pub use faults::{Cause, TraceFault};
+pub use jobs::{Job, run_trace, status};
 pub use ports::{Failed, Inlet, Outlet};
-pub use printing::print_replies;
-pub use running::{Job, run_trace, status};
 pub use sources::{Source, TURNS_MAX, read_batch};
 pub use std_ports::{FromRead, FromWrite};
 pub use summaries::Summary;
+pub use texts::print_replies;

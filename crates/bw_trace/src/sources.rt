@@ -1,16 +1,16 @@
-// A reader of bytes, judged line by line.
-ghost use Rattle.std.specs.Prelude.{◌≡◌, ℕ, ◌+◌, ◌<◌, ◌≤◌, ◌^◌, ◌∷◌, [], List, true, false, IfOk, IfErr, OnOk, IfSome, MatchOption, Some, None, IsErrOf, min};
+// A reader of bytes, parsed line by line.
+ghost use Rattle.std.specs.Prelude.{◌≡◌, ℕ, ◌+◌, ◌-◌, ◌<◌, ◌≤◌, ◌^◌, ◌∷◌, [], List, true, false, IfOk, IfErr, OnOk, IfSome, MatchOption, Some, None, IsErrOf, min};
 ghost use Rattle.std.specs.Bool.{MatchBool};
 ghost use Rattle.std.specs.Io.KnownBytes.{Consumes, IsAtEnd};
 ghost use Rattle.bw_trace.specs.Counts.{HasRisenBy};
 ghost use Rattle.bw_trace.specs.Faults.{IsOfBytes, IsOfInput, IsOfReading, IfLine};
-ghost use Rattle.bw_trace.specs.Lines.{IsLineOf, judged_lines_of};
+ghost use Rattle.bw_trace.specs.Lines.{IsLineOf, parsed_lines_of};
 ghost use Rattle.bw_trace.specs.Grammar.{IsLineMeaning, first_place, place_behind};
 ghost use Rattle.bw_trace.specs.Sources.{IsOver, ReadsOn};
 ghost use Rattle.bw_trace.specs.Traces.{StandFor, IsFaultyAt, trace_from, cut_trace_from, no_trace};
 
 use crate::faults::TraceFault;
-use crate::judging::{LINE_MAX, Meaning, judge};
+use crate::parse::{LINE_MAX, Meaning, parse_line};
 use crate::places::{Place, Version};
 use crate::ports::Inlet;
 use bw_batch::{Memory, Op};
@@ -23,7 +23,7 @@ const CHUNK: usize = 4096;
 /// How often a source calls its reader at the most: 2^52 - 1 times, for 16 exbibytes.
 pub const TURNS_MAX: u64 = 4_503_599_627_370_495;
 
-/// A reader, with what was read from it and not judged yet.
+/// A reader, with what was read from it and not parsed yet.
 #[derive(Drop)]
 pub struct Source<R: Inlet> {
     reader: R,
@@ -69,7 +69,7 @@ impl<R: Inlet> Source<R> {
     pub fn new(alloc: Alloc, reader: R, turns: u64) -> Result<Source<R>, Memory>
         ensures unread { IfOk result (λ source. source.unread ≡ R.remaining reader) }
         ensures fresh { IfOk result (λ source. (source.place ≡ first_place) × (source.fault ≡ None) × (source.ended ≡ false)) }
-        ensures turns { IfOk result (λ source. source.turns ≡ min turns TURNS_MAX) }
+        ensures turns { IfOk result (λ source. source.turns ≡ min turns (2 ^ 52 - 1)) }
         ensures reader { IfOk result (λ source. (source.calls ≡ R.calls reader) × (source.failures ≡ R.failures reader) × (source.has_ended ≡ R.has_ended reader)) }
     {
         let buffer = vec![in alloc; 0u8; CHUNK]?;
@@ -153,7 +153,7 @@ impl<R: Inlet> Source<R> {
         ensures none_failed { OnOk result (self.new.failures ≡ self.old.failures) }
         ensures faults { IfErr result (λ fault. IsOfBytes fault) }
         ensures cut { IfErr result (λ fault. IsOfInput fault → (self.old.ended ≡ false)
-            × ((read : List ℕ) × Consumes self.old.unread self.new.remaining read × (judged_lines_of read ≡ []))) }
+            × ((read : List ℕ) × Consumes self.old.unread self.new.remaining read × (parsed_lines_of read ≡ []))) }
         ensures read { IsErrOf result TraceFault.Read → HasRisenBy 1 self.old.failures self.new.failures }
         ensures endless { IsErrOf result TraceFault.Endless → self.new.turns ≡ 0 }
     {
@@ -167,7 +167,7 @@ impl<R: Inlet> Source<R> {
         Ok(true)
     }
 
-    // One more line was judged.
+    // One more line was parsed.
     fn pass(&mut self, meaning: &Meaning)
         requires { self.old.place.lines + 1 + self.old.budget < 2 ^ 64 }
         ensures { self.new ≡ record self.old { place = place_behind self.old.place meaning.now } }
@@ -178,7 +178,7 @@ impl<R: Inlet> Source<R> {
         }
     }
 
-    // Reads a line and judges it. None at the end.
+    // Reads a line and parses it. None at the end.
     fn next_line(&mut self, line: &mut Vec<u8, Alloc>) -> Result<Option<Meaning>, TraceFault>
         requires { self.old.place.lines + self.old.budget < 2 ^ 64 }
         ensures meaning { IfOk result (λ next. (read : List ℕ) × Consumes self.old.unread self.new.unread read × MatchOption next
@@ -187,7 +187,7 @@ impl<R: Inlet> Source<R> {
             × (self.new.ended ≡ true → IsOver self.new))) }
         ensures over { self.old.ended ≡ true → result ≡ Ok None }
         ensures cut { IfErr result (λ fault. IsOfInput fault → (self.old.ended ≡ false)
-            × ((read : List ℕ) × Consumes self.old.unread self.new.remaining read × (judged_lines_of read ≡ []))) }
+            × ((read : List ℕ) × Consumes self.old.unread self.new.remaining read × (parsed_lines_of read ≡ []))) }
         ensures falls { IfOk result (λ next. IfSome next (λ _. self.new.place.lines + self.new.budget < 2 ^ 64 × (self.new.budget < self.old.budget))) }
         ensures on { ReadsOn self.old self.new }
         ensures fault { self.new.fault ≡ self.old.fault }
@@ -200,7 +200,7 @@ impl<R: Inlet> Source<R> {
         if !self.read_line(line)? {
             return Ok(None);
         }
-        let meaning = judge(*line.allocator(), self.place, line)?;
+        let meaning = parse_line(*line.allocator(), self.place, line)?;
         self.pass(&meaning);
         Ok(Some(meaning))
     }

@@ -3,7 +3,7 @@ ghost use Rattle.std.specs.Prelude.{◌≡◌, ◌+◌, ◌<◌, ◌≤◌, ◌^
 
 use bw_batch::Refusal;
 
-/// How many batches were read, and how many of them were refused, for their length and for want of memory.
+/// How many batches were read, and how many of them were refused, for their length and where memory ran out.
 #[derive(Clone, Copy, Debug, Default, PartialEq, Eq)]
 pub struct Summary {
     pub batches: u64,

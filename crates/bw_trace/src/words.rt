@@ -11,7 +11,7 @@ use crate::spelling::{bytes_of_digits, is_spelled_plain};
 use bw_batch::{Key, KeyFault, Memory, Value, ValueFault};
 use bw_memory::Alloc;
 
-/// Why words have no meaning: they are faulty, or memory was wanting.
+/// Why words have no meaning: they are faulty, or memory ran out.
 #[derive(Clone, Copy, Debug)]
 pub(crate) enum Misread {
     Faulty(Cause),

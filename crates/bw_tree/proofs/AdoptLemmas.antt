@@ -1,6 +1,6 @@
 -- Adopting the words that a board was closed with.
 use Rattle.bw_tree.proofs.RowWritesLemmas.{leaf_of, page_has_writes}
-use Rattle.bw_tree.proofs.RowLemmas.{in_row}
+use Rattle.bw_chain.proofs.RowLemmas.{in_row}
 use Rattle.std.proofs.Common.{◌≡◌, ℕ, zero, suc, ◌+◌, ◌<◌, ◌≤◌, ◌^◌, Bool, true, false, ◌&&◌, T, List, [], ◌∷◌, ◌++◌, length, map, take, drop, Some, None, inl, inr, refl, sym, ap, ◌∙◌, subst, arith, length-append}
 use Rattle.std.specs.Prelude.{filter, slice_get, slice_index}
 use Rattle.std.specs.List.{Contains, zip}
@@ -26,19 +26,19 @@ use Rattle.bw_delta.proofs.Filters.{same_filtered}
 use Rattle.bw_delta.proofs.Orders.{distinct_permuted}
 use Rattle.bw_delta.proofs.Stagings.{AreBelow, below_all, distinct_over}
 use Rattle.bw_key.specs.Order.{key_eq}
-use Rattle.bw_tree.specs.Slots.{Slot, PageState, Live, Free, slot_at, has_key, is_leaf}
-use Rattle.bw_tree.specs.Reading.{writes_over}
-use Rattle.bw_tree.specs.Turns.{bare}
-use Rattle.bw_tree.specs.Levels.{AreLevels, IsHome, row}
-use Rattle.bw_tree.specs.Chains.{Bases, Records, Ends, slot_of_word}
-use Rattle.bw_tree.specs.Trees.{IsStanding, put_records, writes_in}
-use Rattle.bw_tree.specs.View.{levels_under, row_pairs, row_writes, slots_of}
+use Rattle.bw_chain.specs.Slots.{Slot, PageState, Live, Free, slot_at, has_key, is_leaf}
+use Rattle.bw_chain.specs.Reading.{writes_over, row_pairs, row_writes}
+use Rattle.bw_chain.specs.Turns.{bare}
+use Rattle.bw_chain.specs.Levels.{AreLevels, IsHome, row, levels_under}
+use Rattle.bw_chain.specs.Chains.{Bases, Records, Ends, slot_of_word, slots_of}
+use Rattle.bw_tree.specs.Trees.{IsStanding}
+use Rattle.bw_chain.specs.Records.{put_records, writes_in}
 use Rattle.bw_tree.proofs.AlikeLemmas.{IsPutOver, AreInside, levels_alike, pairs_alike, put_bare}
-use Rattle.bw_tree.proofs.GrowthLemmas.{take_front}
-use Rattle.bw_tree.proofs.LevelLemmas.{levels_now}
+use Rattle.bw_chain.proofs.GrowthLemmas.{take_front}
+use Rattle.bw_chain.proofs.LevelLemmas.{levels_now}
 use Rattle.bw_tree.proofs.PlacedLemmas.{named_are, named_pass}
 use Rattle.bw_tree.proofs.PostedLemmas.{chain_posted, named, put_over}
-use Rattle.bw_tree.proofs.ReadingLemmas.{slot_of_head}
+use Rattle.bw_chain.proofs.ReadingLemmas.{slot_of_head}
 use Rattle.bw_tree.proofs.RowWritesLemmas.{row_has_all}
 
 -- The records once they have their links.

@@ -9,16 +9,17 @@ use Rattle.bw_core.specs.World.{Meets}
 use Rattle.bw_delta.specs.Arenas.{deltas_of, links_of}
 use Rattle.bw_delta.specs.Writes.{WriteView}
 use Rattle.bw_delta.specs.ContentsAsOf.{contents_as_of}
-use Rattle.bw_tree.specs.Slots.{Slot, slot_at, has_key}
-use Rattle.bw_tree.specs.Reading.{writes_over}
-use Rattle.bw_tree.specs.Turns.{bare}
-use Rattle.bw_tree.specs.Levels.{IsHome, row}
-use Rattle.bw_tree.specs.Chains.{Bases, Records, slot_of_word}
-use Rattle.bw_tree.specs.Trees.{IsStanding, IsTree, StageWords, put_records, stage_of, view_of, writes_in}
+use Rattle.bw_chain.specs.Slots.{Slot, slot_at, has_key}
+use Rattle.bw_chain.specs.Reading.{writes_over, row_pairs, row_writes}
+use Rattle.bw_chain.specs.Turns.{bare}
+use Rattle.bw_chain.specs.Levels.{IsHome, row, levels_under}
+use Rattle.bw_chain.specs.Chains.{Bases, Records, slot_of_word, slots_of}
+use Rattle.bw_tree.specs.Trees.{IsStanding, IsTree, StageWords, stage_of, view_of}
+use Rattle.bw_chain.specs.Records.{put_records, writes_in}
 use Rattle.bw_tree.specs.Stages.{IsPosted, IsPostedStage, adopted}
-use Rattle.bw_tree.specs.View.{TreeView, StageView, contents_at, contents_with, levels_under, row_pairs, row_writes, slots_of}
+use Rattle.bw_tree.specs.View.{TreeView, StageView, contents_at, contents_with}
 use Rattle.bw_tree.proofs.AdoptLemmas.{ChainOf, contents_after_it, levels_after, pages_after, relinked, standing_after, writes_after, writes_put_in}
-use Rattle.bw_tree.proofs.GrowthLemmas.{append_extends, drop_front, same_map, still_ends, take_front}
+use Rattle.bw_chain.proofs.GrowthLemmas.{append_extends, drop_front, same_map, still_ends, take_front}
 use Rattle.bw_tree.proofs.PostedLemmas.{posted_length}
 
 pub take_length : (n : ℕ) (xs : Records) → n ≤ length xs → length (take n xs) ≡ n

@@ -7,14 +7,13 @@ use Rattle.bw_model.specs.Values.{ValueBytes}
 use Rattle.bw_page.specs.Inners.{IsUpto}
 use Rattle.bw_delta.specs.Writes.{WriteView}
 use Rattle.bw_delta.specs.declared.deltas.Delta.TheVariants.{Put}
-use Rattle.bw_tree.specs.Walk.{Leads}
-use Rattle.bw_tree.specs.Slots.{Slot, PageState, Body, Pairs, Children, Free, Gone, Live, slot_at, left_of, left_of_slot, level_of, children_of, IsSoundPage, IsSoundBody}
-use Rattle.bw_tree.specs.Levels.{Stands, SideBySide, AreLevels, StartsWith, LeadsBelow, row}
-use Rattle.bw_tree.specs.Chains.{Bases, body_written, change}
-use Rattle.bw_tree.specs.Reading.{body_pairs, pairs_under}
-use Rattle.bw_tree.specs.View.{row_pairs}
-use Rattle.bw_tree.specs.Turns.{bare}
-use Rattle.bw_tree.proofs.ChainLemmas.{bare_put}
+use Rattle.bw_chain.specs.Walk.{Leads}
+use Rattle.bw_chain.specs.Slots.{Slot, PageState, Body, Pairs, Children, Free, Gone, Live, slot_at, left_of, left_of_slot, level_of, children_of, IsSoundPage, IsSoundBody}
+use Rattle.bw_chain.specs.Levels.{Stands, SideBySide, AreLevels, StartsWith, LeadsBelow, row}
+use Rattle.bw_chain.specs.Chains.{Bases, body_written, change}
+use Rattle.bw_chain.specs.Reading.{body_pairs, pairs_under, row_pairs}
+use Rattle.bw_chain.specs.Turns.{bare}
+use Rattle.bw_chain.proofs.ChainLemmas.{bare_put}
 use Rattle.bw_tree.proofs.PostedLemmas.{put_over}
 
 one_state : {s t : PageState} → Live s ≡ Live t → s ≡ t

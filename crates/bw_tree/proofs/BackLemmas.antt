@@ -11,12 +11,12 @@ use Rattle.bw_model.specs.Contents.{Contents, is_below_end, is_in_range, pairs_o
 use Rattle.bw_model.specs.Values.{ValueBytes}
 use Rattle.bw_page.proofs.KeyLemmas.{below_back, below_self, upto_trans}
 use Rattle.bw_delta.proofs.Maps.{sorted_in_range}
-use Rattle.bw_tree.specs.Slots.{Slot, PageState, Free, Gone, Live, slot_at, has_key}
-use Rattle.bw_tree.specs.Levels.{row}
-use Rattle.bw_tree.specs.Scans.{Reaches}
-use Rattle.bw_tree.specs.Before.{IsBefore, low_of}
+use Rattle.bw_chain.specs.Slots.{Slot, PageState, Free, Gone, Live, slot_at, has_key}
+use Rattle.bw_chain.specs.Levels.{row}
+use Rattle.bw_chain.specs.Scans.{Reaches}
+use Rattle.bw_chain.specs.Before.{IsBefore, low_of}
 use Rattle.bw_tree.proofs.RangeLemmas.{one_then_other, all_of_those, none_of_those, first_of_front}
-use Rattle.bw_tree.proofs.BeforeLemmas.{upto_end}
+use Rattle.bw_chain.proofs.EndLemmas.{upto_end}
 
 holds : (b : Bool) → T b → b ≡ true
 holds true t = refl

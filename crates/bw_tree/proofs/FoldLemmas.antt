@@ -17,17 +17,18 @@ use Rattle.bw_page.proofs.KeyLemmas.{below_back, below_self, below_trans, upto_t
 use Rattle.bw_delta.specs.History.{HasDistinctStamps}
 use Rattle.bw_delta.proofs.ContentsAsOf.{same_contents}
 use Rattle.bw_delta.proofs.Maps.{sorted_in_range}
-use Rattle.bw_tree.specs.Slots.{Slot, Body, Pairs, Children, slot_at, side_of, side_of_slot, IsSoundBody, has_key}
-use Rattle.bw_tree.specs.Levels.{AreLevels, IsHome, Stands, SideBySide, row}
-use Rattle.bw_tree.specs.Before.{low_of}
-use Rattle.bw_tree.specs.Scans.{ArePairsOn, Reaches, high_of}
+use Rattle.bw_chain.specs.Slots.{Slot, Body, Pairs, Children, slot_at, side_of, side_of_slot, IsSoundBody, has_key}
+use Rattle.bw_chain.specs.Levels.{AreLevels, IsHome, Stands, SideBySide, row}
+use Rattle.bw_chain.specs.Before.{low_of}
+use Rattle.bw_chain.specs.Scans.{ArePairsOn, Reaches, high_of}
 use Rattle.bw_tree.specs.Making.{AreAbutting, HasRules, IsOverLeaves, count_from, leaf_slot, pairs_in}
 use Rattle.bw_tree.specs.Folding.{IsFolded, folded_leaf, folded_at, folded_from}
-use Rattle.bw_tree.specs.View.{TreeView, contents_at, row_writes}
-use Rattle.bw_tree.proofs.WalkLemmas.{way_fits}
-use Rattle.bw_tree.proofs.RowLemmas.{InRow, first_stands, row_way}
-use Rattle.bw_tree.proofs.RouteLemmas.{home_leaf, side_bounded}
-use Rattle.bw_tree.proofs.LeafRowLemmas.{HasKey, low_below, one_has, wide_of}
+use Rattle.bw_tree.specs.View.{TreeView, contents_at}
+use Rattle.bw_chain.specs.Reading.{row_writes}
+use Rattle.bw_chain.proofs.WalkLemmas.{way_fits}
+use Rattle.bw_chain.proofs.RowLemmas.{InRow, first_stands, row_way}
+use Rattle.bw_chain.proofs.RouteLemmas.{home_leaf, side_bounded}
+use Rattle.bw_chain.proofs.LeafRowLemmas.{HasKey, low_below, one_has, wide_of}
 use Rattle.bw_tree.proofs.RangeLemmas.{all_of_those, one_then_other}
 use Rattle.bw_tree.proofs.ScanLemmas.{leaf_in_row, leaf_pairs, own_home}
 use Rattle.bw_tree.proofs.MakingLemmas.{counted_length, from_none}

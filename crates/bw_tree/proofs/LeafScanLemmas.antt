@@ -5,15 +5,15 @@ use Rattle.std.specs.List.{Contains}
 use Rattle.bw_key.specs.Order.{KeyBytes}
 use Rattle.bw_model.specs.Contents.{is_below_end}
 use Rattle.bw_delta.specs.History.{HasDistinctStamps}
-use Rattle.bw_tree.specs.Slots.{Slot, slot_at, is_leaf, side_of_slot}
-use Rattle.bw_tree.specs.Levels.{AreLevels, row}
-use Rattle.bw_tree.specs.Reading.{writes_over}
-use Rattle.bw_tree.specs.Scans.{Reaches, high_of}
-use Rattle.bw_tree.specs.Chains.{Bases, Records, Ends, slot_of_word}
-use Rattle.bw_tree.specs.View.{TreeView, slots_of, row_writes}
+use Rattle.bw_chain.specs.Slots.{Slot, slot_at, is_leaf, side_of_slot}
+use Rattle.bw_chain.specs.Levels.{AreLevels, row}
+use Rattle.bw_chain.specs.Reading.{writes_over, row_writes}
+use Rattle.bw_chain.specs.Scans.{Reaches, high_of}
+use Rattle.bw_chain.specs.Chains.{Bases, Records, Ends, slot_of_word, slots_of}
+use Rattle.bw_tree.specs.View.{TreeView}
 use Rattle.bw_tree.specs.Trees.{IsStanding, StageWords, view_of}
-use Rattle.bw_tree.proofs.RowLemmas.{InRow}
-use Rattle.bw_tree.proofs.RouteLemmas.{home_leaf}
+use Rattle.bw_chain.proofs.RowLemmas.{InRow}
+use Rattle.bw_chain.proofs.RouteLemmas.{home_leaf}
 use Rattle.bw_tree.proofs.ContentsLemmas.{found_at}
 use Rattle.bw_tree.proofs.ScanLemmas.{page_distinct, leaf_in_row, own_home}
 

@@ -13,13 +13,12 @@ use Rattle.bw_page.specs.Inners.{IsInner}
 use Rattle.bw_page.specs.Pages.{BeginsAt}
 use Rattle.bw_page.specs.declared.pages.Page.{Page}
 use Rattle.bw_page.proofs.KeyLemmas.{below_trans}
-use Rattle.bw_tree.specs.Walk.{walked, ended}
-use Rattle.bw_tree.specs.Slots.{Slot, PageState, Pairs, Live, slot_at}
-use Rattle.bw_tree.specs.Levels.{SideBySide, Stands}
-use Rattle.bw_tree.specs.Chains.{Bases, based, slot_of_word}
+use Rattle.bw_chain.specs.Walk.{walked, ended}
+use Rattle.bw_chain.specs.Slots.{Slot, PageState, Pairs, Live, slot_at}
+use Rattle.bw_chain.specs.Levels.{SideBySide, Stands}
+use Rattle.bw_chain.specs.Chains.{Bases, based, slot_of_word, slots_of}
 use Rattle.bw_tree.specs.Making.{AreAbutting, HasRules, base_of_leaf, count_from, pairs_in, terms_from}
-use Rattle.bw_tree.specs.Reading.{pairs_under, writes_over}
-use Rattle.bw_tree.specs.View.{slots_of, row_pairs, row_writes}
+use Rattle.bw_chain.specs.Reading.{pairs_under, writes_over, row_pairs, row_writes}
 
 no_entry : {X : Type 0} {x : X} → None ≡ Some x → ⊥
 no_entry e = cc

@@ -15,7 +15,7 @@ use Rattle.bw_delta.proofs.Filters.{kept, was_there, distinct_filter}
 use Rattle.bw_delta.proofs.Orders.{same_members}
 use Rattle.bw_delta.proofs.Stagings.{rising_distinct}
 use Rattle.bw_tree.proofs.PostedLemmas.{named, write_before}
-use Rattle.bw_tree.proofs.ReadingLemmas.{read_is}
+use Rattle.bw_chain.proofs.ReadingLemmas.{read_is}
 
 no_write : {w : WriteView} → None ≡ Some w → ⊥
 no_write e = cc

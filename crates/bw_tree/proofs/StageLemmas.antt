@@ -1,57 +1,25 @@
 -- Staging a batch.
-use Rattle.std.proofs.Common.{◌≡◌, ℕ, ◌+◌, ◌<◌, ◌≤◌, ◌^◌, Bool, cond, false, List, [], ◌∷◌, ◌++◌, length, map, take, drop, get_or, Option, Some, None, is_some, refl, sym, ap, ◌∙◌, subst, arith, length-append}
+use Rattle.std.proofs.Common.{◌≡◌, ℕ, ◌+◌, ◌≤◌, ◌^◌, false, List, ◌++◌, length, map, take, drop, Option, Some, None, sym, ap, ◌∙◌, subst, arith, length-append}
 use Rattle.std.specs.FinMap.{from_entries}
-use Rattle.std.proofs.lemmas.List.{map-append, length-map}
-use Rattle.bw_key.specs.Order.{KeyBytes}
+use Rattle.std.proofs.lemmas.List.{length-map}
 use Rattle.bw_model.specs.Model.{contents_after}
-use Rattle.bw_model.specs.declared.operations.Action.{Action}
 use Rattle.bw_model.specs.declared.operations.Op.{Op}
 use Rattle.bw_delta.specs.Writes.{WriteView}
-use Rattle.bw_delta.specs.Batches.{write_of, stamped, writes_of}
+use Rattle.bw_delta.specs.Batches.{writes_of}
 use Rattle.bw_delta.specs.History.{HasDistinctStamps}
 use Rattle.bw_delta.specs.declared.deltas.Delta.TheVariants.{Put}
 use Rattle.bw_delta.proofs.Batches.{rising_batch}
-use Rattle.bw_delta.proofs.Stagings.{AreBelow, batch_below, below_all, over_read, writes_further}
-use Rattle.bw_tree.specs.Slots.{Slot}
-use Rattle.bw_tree.specs.Levels.{AreLevels, row}
-use Rattle.bw_tree.specs.Chains.{Bases, Records, slot_of_word}
-use Rattle.bw_tree.specs.Trees.{IsStanding, IsTree, StageWords, put_records, unlinked, view_of, writes_in}
+use Rattle.bw_delta.proofs.Stagings.{AreBelow, batch_below, below_all, over_read}
+use Rattle.bw_chain.specs.Slots.{Slot}
+use Rattle.bw_chain.specs.Levels.{AreLevels, row, levels_under}
+use Rattle.bw_chain.specs.Chains.{Bases, Records, slot_of_word, slots_of}
+use Rattle.bw_chain.proofs.RecordLemmas.{unlinked_put, writes_unlinked}
+use Rattle.bw_tree.specs.Trees.{IsStanding, IsTree, StageWords, view_of}
+use Rattle.bw_chain.specs.Records.{unlinked, writes_in}
 use Rattle.bw_tree.specs.Stages.{staged_on}
-use Rattle.bw_tree.specs.View.{TreeView, StageView, contents_at, contents_with, levels_under, row_pairs, row_writes, slots_of}
-use Rattle.bw_tree.proofs.GrowthLemmas.{Extends, append_extends, drop_front, same_map, still_ends, take_front}
-
-parted : (xs ys zs : Records) → (xs ++ ys) ++ zs ≡ xs ++ (ys ++ zs)
-parted [] ys zs = refl
-parted (x ∷ xs) ys zs = ap (λ l. x ∷ l) (parted xs ys zs)
-
--- an operation more
-pub appended_more : (before old new : Records) (n : ℕ) (ops : List Op) (i : ℕ) (op : Op) → i < length ops → op ≡ get_or ops i op → old ≡ before ++ unlinked (writes_of n (take i ops)) → new ≡ old ++ unlinked (stamped (n + i) (write_of op)) →
-    new ≡ before ++ unlinked (writes_of n (take (i + 1) ops))
-appended_more before old new n ops i op lt is so more =
-    more ∙ ap (λ l. l ++ unlinked (stamped (n + i) (write_of op))) so
-    ∙ parted before (unlinked (writes_of n (take i ops))) (unlinked (stamped (n + i) (write_of op)))
-    ∙ ap (λ l. before ++ l) (sym (map-append (λ (w : WriteView). (Put w, 0)) (writes_of n (take i ops)) (stamped (n + i) (write_of op))))
-    ∙ ap (λ l. before ++ unlinked l) (sym (writes_further n ops i op lt is))
-
--- the number of writes with those of an operation more
-pub counted_more : (ops : List Op) (i : ℕ) (op : Op) (writes : Bool) (old new : ℕ) → i < length ops → op ≡ get_or ops i op → writes ≡ is_some (write_of op) → new ≡ old + cond writes 1 0 → old ≡ length (writes_of 0 (take i ops)) → new ≡ length (writes_of 0 (take (i + 1) ops))
-counted_more ops i op writes old new lt is result more so =
-    let whole : length (writes_of 0 (take (i + 1) ops)) ≡ length (writes_of 0 (take i ops)) + length (stamped (0 + i) (write_of op)) =
-    ap length (writes_further 0 ops i op lt is) ∙ length-append (writes_of 0 (take i ops)) (stamped (0 + i) (write_of op)) in
-    omega (arith, whole, so, more ∙ ap (λ b. old + cond b 1 0) result, one (write_of op))
-  where
-    one : (write : Option (KeyBytes × Action)) → length (stamped (0 + i) write) ≡ cond (is_some write) 1 0
-    one None = refl
-    one (Some write) = refl
-
--- records without links yet
-unlinked_put : (ws : List WriteView) → unlinked ws ≡ put_records ws (map (λ w. 0) ws)
-unlinked_put [] = refl
-unlinked_put (w ∷ ws) = ap (λ (l : Records). (Put w, 0) ∷ l) (unlinked_put ws)
-
-pub writes_unlinked : (ws : List WriteView) → writes_in (unlinked ws) ≡ ws
-writes_unlinked [] = refl
-writes_unlinked (w ∷ ws) = ap (λ (l : List WriteView). w ∷ l) (writes_unlinked ws)
+use Rattle.bw_tree.specs.View.{TreeView, StageView, contents_at, contents_with}
+use Rattle.bw_chain.specs.Reading.{row_pairs, row_writes}
+use Rattle.bw_chain.proofs.GrowthLemmas.{Extends, append_extends, drop_front, same_map, still_ends, take_front}
 
 -- the same pages, with room for later stamps
 pub stands_on : (heads : List ℕ) (bases : Bases) (old new : Records) (root bound later : ℕ) → IsStanding heads bases old root bound → Extends old new → length old ≤ length new → bound ≤ later → later ≤ 2 ^ 40 → length new ≤ 2 ^ 32 →

@@ -7,15 +7,16 @@ use Rattle.std.proofs.lemmas.Option.{slice_get_within}
 use Rattle.bw_delta.specs.Writes.{WriteView}
 use Rattle.bw_delta.specs.declared.deltas.Delta.{Delta}
 use Rattle.bw_delta.specs.declared.deltas.Delta.TheVariants.{Put}
-use Rattle.bw_tree.specs.Chains.{Bases, Records, Ends, EndsAt, record_at}
-use Rattle.bw_tree.specs.Trees.{IsTree, IsStaged, StageWords, put_records, stage_of, view_of, words_before, writes_in}
+use Rattle.bw_chain.specs.Chains.{Bases, Records, Ends, EndsAt, record_at}
+use Rattle.bw_tree.specs.Trees.{IsTree, IsStaged, StageWords, stage_of, view_of, words_before}
+use Rattle.bw_chain.specs.Records.{put_records, writes_in}
 use Rattle.bw_tree.specs.Stages.{IsStagedAs}
 use Rattle.bw_tree.specs.View.{TreeView, staged_writes}
 use Rattle.bw_tree.specs.declared.staging.Staged.{Staged}
 use Rattle.bw_tree.proofs.AdoptLemmas.{writes_put_in}
 use Rattle.bw_tree.proofs.AdoptedLemmas.{take_length}
-use Rattle.bw_tree.proofs.ChainLemmas.{linked}
-use Rattle.bw_tree.proofs.GrowthLemmas.{drop_front}
+use Rattle.bw_chain.proofs.ChainLemmas.{linked}
+use Rattle.bw_chain.proofs.GrowthLemmas.{drop_front}
 use Rattle.bw_tree.proofs.PostedLemmas.{posted_length, read_behind, read_both}
 
 -- a word that leads to a base page names that page or a record

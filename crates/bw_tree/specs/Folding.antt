@@ -5,10 +5,10 @@ use Rattle.bw_key.specs.Order.{KeyBytes}
 use Rattle.bw_model.specs.Contents.{pairs_of_range}
 use Rattle.bw_model.specs.Values.{ValueBytes}
 use Rattle.bw_page.specs.Leaves.{LeafView}
-use Rattle.bw_tree.specs.Slots.{slot_at, side_of}
-use Rattle.bw_tree.specs.Levels.{row}
-use Rattle.bw_tree.specs.Before.{low_of}
-use Rattle.bw_tree.specs.Scans.{high_of}
+use Rattle.bw_chain.specs.Slots.{slot_at, side_of}
+use Rattle.bw_chain.specs.Levels.{row}
+use Rattle.bw_chain.specs.Before.{low_of}
+use Rattle.bw_chain.specs.Scans.{high_of}
 use Rattle.bw_tree.specs.Making.{IsOverLeaves}
 use Rattle.bw_tree.specs.View.{TreeView, contents_at}
 
@@ -20,7 +20,8 @@ leaf_ranges tree = map (λ p. (low_of (slot_at tree.slots p), high_of (slot_at t
 abbrev pub folded_leaf : TreeView → ℕ → Option ℕ → LeafView ValueBytes
 folded_leaf tree p side =
     let page = slot_at tree.slots p in
-    record { low = low_of page; high = high_of page; side = side; pairs = pairs_of_range (contents_at tree tree.next) (low_of page) (high_of page) }
+    let pairs = pairs_of_range (contents_at tree tree.next) (low_of page) (high_of page) in
+    record { low = low_of page; high = high_of page; side = side; pairs = pairs }
 
 -- the same of a leaf that will be at this place: its right neighbour, where it has one, will be at the next
 abbrev pub folded_at : TreeView → ℕ → ℕ → LeafView ValueBytes

@@ -1,5 +1,6 @@
 -- Trees that are made of leaves.
-use Rattle.std.specs.Prelude.{◌≡◌, ℕ, zero, suc, ◌+◌, ◌-◌, List, [], ◌∷◌, ◌++◌, length, map, flat_map, Option, Some, None}
+use Rattle.std.specs.Prelude.{◌≡◌, ℕ, zero, suc, ◌+◌, ◌-◌, Option, Some, None}
+use Rattle.std.specs.Prelude.{List, [], ◌∷◌, ◌++◌, length, map, flat_map}
 use Rattle.std.specs.FinMap.{from_entries}
 use Rattle.bw_key.specs.Order.{KeyBytes}
 use Rattle.bw_model.specs.Values.{ValueBytes}
@@ -7,17 +8,19 @@ use Rattle.bw_page.specs.Leaves.{LeafView}
 use Rattle.bw_page.specs.Pages.{IsPage}
 use Rattle.bw_page.specs.declared.pages.Page.{Page}
 use Rattle.bw_page.specs.declared.pages.Page.TheVariants.{Leaf as LeafPage}
-use Rattle.bw_tree.specs.Slots.{Slot, Children, Live}
-use Rattle.bw_tree.specs.Chains.{Bases, plain}
-use Rattle.bw_tree.specs.Levels.{row}
-use Rattle.bw_tree.specs.View.{TreeView, contents_at, slots_of, levels_under}
+use Rattle.bw_chain.specs.Slots.{Slot, Children, Live}
+use Rattle.bw_chain.specs.Chains.{Bases, plain, slots_of}
+use Rattle.bw_chain.specs.Levels.{row, levels_under}
+use Rattle.bw_tree.specs.View.{TreeView, contents_at}
 
 -- Leaves side by side from a low key on, the first at this place: each ends where the next begins and names it, by its
 -- place, as its right neighbour, and the last has no end.
 abbrev pub AreAbutting : ℕ → KeyBytes → List (LeafView ValueBytes) → Type 0
 AreAbutting n low [] = ⊥
 AreAbutting n low (leaf ∷ []) = (leaf.low ≡ low) × (leaf.high ≡ None) × (leaf.side ≡ None)
-AreAbutting n low (leaf ∷ next ∷ leaves) = (leaf.low ≡ low) × (leaf.high ≡ Some next.low) × (leaf.side ≡ Some (n + 1)) × AreAbutting (n + 1) next.low (next ∷ leaves)
+AreAbutting n low (leaf ∷ next ∷ leaves) =
+    (leaf.low ≡ low) × (leaf.high ≡ Some next.low) × (leaf.side ≡ Some (n + 1)) ×
+    AreAbutting (n + 1) next.low (next ∷ leaves)
 
 abbrev pub HasRules : LeafView ValueBytes → Type 0
 HasRules leaf = IsPage leaf.low leaf.high leaf.side leaf.pairs
@@ -52,13 +55,24 @@ leaf_slot leaf = plain (LeafPage leaf)
 abbrev pub root_slots : List (LeafView ValueBytes) → List Slot
 root_slots [] = []
 root_slots (leaf ∷ []) = []
-root_slots (leaf ∷ next ∷ leaves) = Live (record { low = []; high = None; side = None; body = Children 1 (terms_from 0 (leaf ∷ next ∷ leaves)) }) ∷ []
+root_slots (leaf ∷ next ∷ leaves) =
+    let children = terms_from 0 (leaf ∷ next ∷ leaves) in
+    Live (record { low = []; high = None; side = None; body = Children 1 children }) ∷ []
 
 -- the tree whose pages are base pages, each named by its place, with this next stamp
 abbrev pub tree_over : Bases → ℕ → TreeView
 tree_over bases stamp =
     let slots = slots_of (count_from 0 (length bases)) bases [] in
-    record { slots = slots; root = length bases - 1; levels = levels_under slots (length bases - 1); heads = count_from 0 (length bases); records = 0; next = stamp; staged = None }
+    let root = length bases - 1 in
+    record {
+      slots = slots;
+      root = root;
+      levels = levels_under slots root;
+      heads = count_from 0 (length bases);
+      records = 0;
+      next = stamp;
+      staged = None;
+    }
 
 -- The tree over leaves, each of which is the page of its place, with this next stamp. It has no writes.
 pub record IsOverLeaves (tree : TreeView) (given : List (LeafView ValueBytes)) (stamp : ℕ) : Type 0 where

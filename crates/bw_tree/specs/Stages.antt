@@ -1,13 +1,17 @@
 -- The life of a batch: staged, adopted, and then accepted or undone.
-use Rattle.std.specs.Prelude.{◌≡◌, ℕ, ◌+◌, ◌^◌, ◌<◌, ◌≤◌, Bool, true, false, List, ◌++◌, length, filter, Option, Some, None, slice_get, slice_index}
+use Rattle.std.specs.Prelude.{◌≡◌, ℕ, ◌+◌, ◌^◌, ◌<◌, ◌≤◌, Bool, true, false, Option, Some, None}
+use Rattle.std.specs.Prelude.{List, ◌++◌, length, filter, take, slice_get, slice_index}
+use Rattle.std.specs.List.{Contains}
+use Rattle.std.specs.List.Sorted.{IsPermutation}
+use Rattle.bw_model.specs.Model.{contents_after}
 use Rattle.bw_model.specs.declared.operations.Op.{Op}
 use Rattle.bw_core.specs.World.{Meets, times}
 use Rattle.bw_delta.specs.Writes.{WriteView}
 use Rattle.bw_delta.specs.Batches.{writes_of}
-use Rattle.bw_tree.specs.Levels.{IsHome}
-use Rattle.bw_tree.specs.Reading.{writes_over}
-use Rattle.bw_tree.specs.Slots.{slot_at, has_key}
-use Rattle.bw_tree.specs.View.{TreeView, StageView, staged_writes}
+use Rattle.bw_chain.specs.Levels.{IsHome, row}
+use Rattle.bw_chain.specs.Reading.{writes_over}
+use Rattle.bw_chain.specs.Slots.{slot_at, has_key}
+use Rattle.bw_tree.specs.View.{TreeView, StageView, contents_at, contents_with, staged_writes}
 use Rattle.bw_tree.specs.declared.staging.Staged.{Staged}
 
 -- the tree with a batch staged: there are records for its writes, and all else is as before
@@ -16,7 +20,15 @@ staged_on tree ops =
     let writes = writes_of tree.next ops in
     record tree {
       records = tree.records + length writes;
-      staged = Some (record { slots = tree.slots; levels = tree.levels; heads = tree.heads; records = tree.records; ops = length ops; writes = writes; adopted = false });
+      staged = Some (record {
+        slots = tree.slots;
+        levels = tree.levels;
+        heads = tree.heads;
+        records = tree.records;
+        ops = length ops;
+        writes = writes;
+        adopted = false;
+      });
     }
 
 abbrev pub is_adopted : Option StageView → Bool
@@ -33,6 +45,11 @@ pub record IsStagedAs (tree : TreeView) (batch : Staged) : Type 0 where
   pub fits : batch.floor + batch.records ≤ 2 ^ 33
   pub low : stage.adopted ≡ false → (p : ℕ) → p < length tree.heads → slice_index tree.heads p < batch.floor
 
+-- with the staged writes among them, a read as of the stamp of an operation sees the map before it
+abbrev pub IsReadInTurn : TreeView → TreeView → List Op → Type 0
+IsReadInTurn old new ops =
+    (i : ℕ) → contents_with new (old.next + i) ≡ contents_after (take i ops) (contents_at old old.next)
+
 -- the stage once its writes stand in the chains
 abbrev pub adopted : Option StageView → Option StageView
 adopted None = None
@@ -41,7 +58,14 @@ adopted (Some stage) = Some (record stage { adopted = true })
 -- the tree as it was before the batch
 abbrev pub undone : TreeView → Option StageView → TreeView
 undone tree None = tree
-undone tree (Some stage) = record tree { slots = stage.slots; levels = stage.levels; heads = stage.heads; records = stage.records; staged = None }
+undone tree (Some stage) =
+    record tree {
+      slots = stage.slots;
+      levels = stage.levels;
+      heads = stage.heads;
+      records = stage.records;
+      staged = None;
+    }
 
 -- the tree behind the batch
 abbrev pub accepted : TreeView → Option StageView → TreeView
@@ -50,15 +74,25 @@ accepted tree (Some stage) = record tree { next = tree.next + stage.ops; staged 
 
 -- of the staged writes, those of a page's range, with the writes that the page has
 abbrev pub writes_with : TreeView → ℕ → List WriteView
-writes_with tree p = let page = slot_at tree.slots p in filter (λ w. has_key page w.key) (staged_writes tree.staged) ++ writes_over page
+writes_with tree p =
+    let page = slot_at tree.slots p in
+    filter (λ w. has_key page w.key) (staged_writes tree.staged) ++ writes_over page
+
+-- once they stand in the chains, each leaf has them, in some order
+abbrev pub LeavesHaveAll : TreeView → TreeView → Type 0
+LeavesHaveAll old new =
+    (p : ℕ) → Contains (row old.levels 0) p →
+    IsPermutation (writes_with old p) (writes_over (slot_at new.slots p))
 
 -- The new part of a page's chain is some order of the staged records whose keys are at home there, over the word before.
 pub record IsPostedTo (tree : TreeView) (stage : StageView) (links : List ℕ) (head p : ℕ) : Type 0 where
   pub chain : List ℕ
   pub way : Meets (2 ^ 32 + stage.records) links head chain (slice_index tree.heads p)
   pub once : (r : ℕ) → times r chain ≤ 1
-  pub here : (r : ℕ) (w : WriteView) → slice_get stage.writes r ≡ Some w → IsHome tree.slots tree.levels w.key p → 0 < times r chain
-  pub only : (r : ℕ) (w : WriteView) → slice_get stage.writes r ≡ Some w → 0 < times r chain → IsHome tree.slots tree.levels w.key p
+  pub here : (r : ℕ) (w : WriteView) → slice_get stage.writes r ≡ Some w → IsHome tree.slots tree.levels w.key p →
+      0 < times r chain
+  pub only : (r : ℕ) (w : WriteView) → slice_get stage.writes r ≡ Some w → 0 < times r chain →
+      IsHome tree.slots tree.levels w.key p
 
 -- the words that a board was closed with have the staged records posted, each to the page of its key
 pub record IsPosted (tree : TreeView) (stage : StageView) (heads links : List ℕ) : Type 0 where

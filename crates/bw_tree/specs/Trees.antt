@@ -1,26 +1,27 @@
 -- The rules that every tree keeps.
-use Rattle.std.specs.Prelude.{◌≡◌, ℕ, ◌+◌, ◌^◌, ◌<◌, ◌≤◌, List, [], ◌∷◌, ◌++◌, length, map, take, drop, flat_map, Option, Some, None, is_some, slice_get}
-use Rattle.std.specs.List.{AllByRecursion, zip}
+use Rattle.std.specs.Prelude.{◌≡◌, ℕ, ◌+◌, ◌^◌, ◌<◌, ◌≤◌, List, ◌++◌, length, take, drop, Option, Some, None, is_some}
+use Rattle.std.specs.List.{AllByRecursion}
 use Rattle.std.specs.Option.{option_map}
 use Rattle.bw_delta.specs.Writes.{WriteView}
 use Rattle.bw_delta.specs.History.{HasDistinctStamps}
 use Rattle.bw_delta.specs.Rising.{HasRisingStamps}
-use Rattle.bw_delta.specs.declared.deltas.Delta.{Delta}
-use Rattle.bw_delta.specs.declared.deltas.Delta.TheVariants.{Put, Split, Absorb, Removed, AddChild, DropChild}
-use Rattle.bw_tree.specs.Levels.{AreLevels, row}
-use Rattle.bw_tree.specs.Chains.{Bases, Records, Ends}
-use Rattle.bw_tree.specs.View.{TreeView, StageView, levels_under, slots_of, row_writes}
+use Rattle.bw_chain.specs.Slots.{Slot}
+use Rattle.bw_chain.specs.Levels.{AreLevels, row, levels_under}
+use Rattle.bw_chain.specs.Chains.{AllEnd, Bases, Records, slots_of}
+use Rattle.bw_chain.specs.Records.{put_records, writes_in}
+use Rattle.bw_chain.specs.Reading.{row_writes}
+use Rattle.bw_tree.specs.View.{TreeView, StageView}
 
--- each mapping word leads by links to a base page
-abbrev pub AllEnd : Bases → Records → List ℕ → Type 0
-AllEnd bases records heads = (p word : ℕ) → slice_get heads p ≡ Some word → Ends bases records word
+-- the writes over all leaves of a tree
+abbrev pub leaf_writes : List Slot → ℕ → List WriteView
+leaf_writes slots root = row_writes slots (row (levels_under slots root) 0)
 
 -- Pages that form levels, with writes whose stamps are distinct and below a bound.
 pub record IsStanding (heads : List ℕ) (bases : Bases) (records : Records) (root bound : ℕ) : Type 0 where
   pub ends : AllEnd bases records heads
   pub lawful : AreLevels (slots_of heads bases records) root (levels_under (slots_of heads bases records) root)
-  pub distinct : HasDistinctStamps (row_writes (slots_of heads bases records) (row (levels_under (slots_of heads bases records) root) 0))
-  pub past : AllByRecursion (λ w. w.stamp < bound) (row_writes (slots_of heads bases records) (row (levels_under (slots_of heads bases records) root) 0))
+  pub distinct : HasDistinctStamps (leaf_writes (slots_of heads bases records) root)
+  pub past : AllByRecursion (λ w. w.stamp < bound) (leaf_writes (slots_of heads bases records) root)
   pub fits : bound ≤ 2 ^ 40
   pub few_records : length records ≤ 2 ^ 32
   pub few_pages : length heads ≤ 2 ^ 32
@@ -37,46 +38,48 @@ abbrev pub words_before : Option (List ℕ) → List ℕ → List ℕ
 words_before None heads = heads
 words_before (Some before) heads = before
 
--- the records of writes, with these links
-abbrev pub put_records : List WriteView → List ℕ → Records
-put_records writes links = zip (map Put writes) links
-
--- the same without links yet
-abbrev pub unlinked : List WriteView → Records
-unlinked = map (λ w. (Put w, 0))
-
-abbrev pub writes_put : Delta → List WriteView
-writes_put (Put w) = w ∷ []
-writes_put (Split k to) = []
-writes_put (Absorb k base high side) = []
-writes_put (Removed left) = []
-writes_put (AddChild k child) = []
-writes_put (DropChild k) = []
-
--- the writes among records
-abbrev pub writes_in : Records → List WriteView
-writes_in = flat_map (λ r. writes_put r.0)
-
 abbrev pub stage_of : List ℕ → Bases → Records → ℕ → StageWords → StageView
 stage_of heads bases records root stage =
     let words = words_before stage.before heads in
     let slots = slots_of words bases (take stage.records records) in
-    record { slots = slots; levels = levels_under slots root; heads = words; records = stage.records; ops = stage.ops; writes = writes_in (drop stage.records records); adopted = is_some stage.before }
+    record {
+      slots = slots;
+      levels = levels_under slots root;
+      heads = words;
+      records = stage.records;
+      ops = stage.ops;
+      writes = writes_in (drop stage.records records);
+      adopted = is_some stage.before;
+    }
 
 -- what contracts see of a tree
 abbrev pub view_of : List ℕ → Bases → Records → ℕ → ℕ → Option StageWords → TreeView
 view_of heads bases records root next staged =
     let slots = slots_of heads bases records in
-    record { slots = slots; root = root; levels = levels_under slots root; heads = heads; records = length records; next = next; staged = option_map (stage_of heads bases records root) staged }
+    record {
+      slots = slots;
+      root = root;
+      levels = levels_under slots root;
+      heads = heads;
+      records = length records;
+      next = next;
+      staged = option_map (stage_of heads bases records root) staged;
+    }
 
 -- the stamp behind the staged ones
 abbrev pub end_of : ℕ → Option StageWords → ℕ
 end_of next None = next
 end_of next (Some stage) = next + stage.ops
 
+-- the levels of what stood before a batch was staged
+abbrev pub levels_before : StageWords → List ℕ → Bases → Records → ℕ → List (List ℕ)
+levels_before stage heads bases records root =
+    levels_under (slots_of (words_before stage.before heads) bases (take stage.records records)) root
+
 -- The records behind the earlier ones are the writes of a batch, in its order, with stamps from the next one on. What
 -- stood before is a tree, with the same levels.
-pub record IsStaged (heads : List ℕ) (bases : Bases) (records : Records) (root next : ℕ) (stage : StageWords) : Type 0 where
+pub record IsStaged (heads : List ℕ) (bases : Bases) (records : Records) (root next : ℕ)
+    (stage : StageWords) : Type 0 where
   pub writes : List WriteView
   pub links : List ℕ
   pub parts : records ≡ take stage.records records ++ put_records writes links
@@ -85,13 +88,14 @@ pub record IsStaged (heads : List ℕ) (bases : Bases) (records : Records) (root
   pub rising : HasRisingStamps next writes
   pub below : AllByRecursion (λ w. w.stamp < next + stage.ops) writes
   pub before : IsStanding (words_before stage.before heads) bases (take stage.records records) root next
-  pub same : levels_under (slots_of (words_before stage.before heads) bases (take stage.records records)) root ≡ levels_under (slots_of heads bases records) root
+  pub same : levels_before stage heads bases records root ≡ levels_under (slots_of heads bases records) root
 
 abbrev pub IsStage : List ℕ → Bases → Records → ℕ → ℕ → Option StageWords → Type 0
 IsStage heads bases records root next None = Unit {0}
 IsStage heads bases records root next (Some stage) = IsStaged heads bases records root next stage
 
 -- the pages stand, with writes below the end of what is staged, and so does what stood before a staged batch
-pub record IsTree (heads : List ℕ) (bases : Bases) (records : Records) (root next : ℕ) (staged : Option StageWords) : Type 0 where
+pub record IsTree (heads : List ℕ) (bases : Bases) (records : Records) (root next : ℕ)
+    (staged : Option StageWords) : Type 0 where
   pub now : IsStanding heads bases records root (end_of next staged)
   pub stage : IsStage heads bases records root next staged

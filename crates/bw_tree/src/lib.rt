@@ -5,7 +5,6 @@
 //! A mapping word below 2^32 names a base page of the tree, and one from there on a delta record.
 #![tactic(auto)]
 
-mod chains;
 mod making;
 mod scans;
 mod staging;

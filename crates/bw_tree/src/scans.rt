@@ -1,20 +1,19 @@
 // Scans of a tree.
-ghost use Rattle.std.specs.Prelude.{◌≡◌, ◌-◌, ◌≤◌, ◌++◌, [], true, false, Some, T, length, reverse, take, IfOk, IfSome, MatchOption, OnOk};
+ghost use Rattle.std.specs.Prelude.{◌≡◌, ◌≤◌, ◌++◌, [], true, false, T, reverse, take, filter, IfOk, IfSome, OnOk};
 ghost use Rattle.std.specs.List.{Contains};
 ghost use Rattle.std.specs.Option.{option_copied};
-ghost use Rattle.std.specs.FinMap.Entries.{where_key};
+ghost use Rattle.std.specs.FinMap.{is_sorted};
 ghost use Rattle.bw_key.specs.Order.{key_cmp};
-ghost use Rattle.bw_model.specs.Contents.{Contents, first_of_range, is_below_end, last_of_range, pairs_of_range};
-ghost use Rattle.bw_model.specs.Values.{ValueBytes};
-ghost use Rattle.bw_tree.specs.Slots.{side_of_slot, slot_at, has_key};
-ghost use Rattle.bw_tree.specs.Before.{IsBefore, low_of};
-ghost use Rattle.bw_tree.specs.Levels.{IsHome, row};
-ghost use Rattle.bw_tree.specs.Replaying.{IsKept, IsReadLeaf};
-ghost use Rattle.bw_tree.specs.Scans.{Reaches, high_of};
-ghost use Rattle.bw_tree.specs.View.{contents_at};
+ghost use Rattle.bw_model.specs.Contents.{is_below_end, is_pair_in_range};
+ghost use Rattle.bw_chain.specs.Slots.{Slot, slot_at};
+ghost use Rattle.bw_chain.specs.Before.{IsBefore, low_of};
+ghost use Rattle.bw_chain.specs.Levels.{IsHome, row};
+ghost use Rattle.bw_chain.specs.Scans.{IsAfter};
+ghost use Rattle.bw_tree.specs.Replaying.{HasNoPairs, IsKept, IsReadLeaf, filled, in_order, pairs_on, wanted_on};
+ghost use Rattle.bw_tree.specs.View.{first_pairs, last_pairs};
 
-use crate::chains::{lower_end, reaches};
 use crate::tree::Tree;
+use bw_chain::{lower_end, reaches};
 use bw_delta::Replay;
 use bw_key::{Key, Memory};
 use bw_memory::Alloc;
@@ -64,6 +63,44 @@ pub(crate) struct ReadLeaf<'a> {
     pub(crate) replay: Replay<'a>,
 }
 
+impl<'a> ReadLeaf<'a> {
+    // The leaf with its pairs as of a stamp that isn't below theirs.
+    fn as_of(self, stamp: u64) -> Result<ReadLeaf<'a>, Memory>
+        requires { self.replay.stamp ≤ stamp }
+        ensures stamp { IfOk result (λ leaf. leaf.replay.stamp ≡ stamp) }
+        ensures leaf { IfOk result (λ leaf. (slot : Slot) → IsReadLeaf slot self.entry → IsReadLeaf slot leaf) }
+    {
+        let ReadLeaf {
+            low,
+            end,
+            side,
+            replay,
+        } = self;
+        let replay = replay.advance(stamp)?;
+        Ok(ReadLeaf {
+            low,
+            end,
+            side,
+            replay,
+        })
+    }
+}
+
+/// The order in which a scan reads.
+#[derive(Clone, Copy, Debug)]
+enum Order {
+    Rising,
+    Falling,
+}
+
+/// How a scan reads: in this order, until there are so many pairs, as of a stamp.
+#[derive(Clone, Copy, Debug)]
+pub(crate) struct Scan {
+    order: Order,
+    most: u64,
+    stamp: u64,
+}
+
 impl<'a> Model for Scans<'a> {
     ghost use Rattle.bw_tree.specs.Replaying.{AreReadLeaves, ScansView};
 
@@ -111,7 +148,7 @@ impl<'a> Scans<'a> {
         stamp: u64,
     ) -> Result<Pairs, Memory>
         ensures tree { self.new.tree ≡ self.old.tree }
-        ensures pairs { IfOk result (λ pairs. pairs ≡ first_of_range (contents_at self.old.tree stamp) from.now (option_copied to.entry) most) }
+        ensures pairs { IfOk result (λ pairs. pairs ≡ first_pairs self.old.tree from.now (option_copied to.entry) most stamp) }
     {
         let mut read = Vec::new(self.alloc);
         if asks_for_none(from, to, most) {
@@ -130,36 +167,6 @@ impl<'a> Scans<'a> {
         }
     }
 
-    // Adds the pairs of a range that lie on a leaf, as of a stamp, until there are so many in all. It answers the right
-    // neighbour, where the leaf doesn't reach the end of the range.
-    fn read_leaf(
-        &mut self,
-        page: PageId,
-        from: &Key,
-        to: Option<&Key>,
-        most: u64,
-        stamp: u64,
-        read: &mut Vec<(Key, Value), Alloc>,
-    ) -> Result<Option<PageId>, Memory>
-        requires { Contains (row self.old.tree.levels 0) page }
-        ensures tree { self.new.tree ≡ self.old.tree }
-        ensures read { OnOk result (read.new.items ≡ read.old.items ++ take (most - length read.old.items) (where_key key_cmp (has_key (slot_at self.old.tree.slots page)) (pairs_of_range (contents_at self.old.tree stamp) from.now (option_copied to.entry)))) }
-        ensures next { IfOk result (λ next. MatchOption next (Reaches (high_of (slot_at self.old.tree.slots page)) (option_copied to.entry)) (λ next. side_of_slot (slot_at self.old.tree.slots page) ≡ Some next)) }
-    {
-        self.tree.know_levels();
-        let left = most.saturating_sub(read.len() as u64);
-        let leaf = self.take_leaf(page, stamp)?;
-        let end = lower_end(leaf.end, to);
-        leaf.replay.add_first(from, end, left, read)?;
-        let next = if reaches(leaf.end, to) {
-            None
-        } else {
-            leaf.side
-        };
-        self.keep(page, leaf)?;
-        Ok(next)
-    }
-
     /// The last pairs of a range of keys as of a stamp, the greatest key first: those of the tree's `rscan_at`. `Memory`
     /// is answered as by `scan`.
     pub fn scan_back(
@@ -170,7 +177,7 @@ impl<'a> Scans<'a> {
         stamp: u64,
     ) -> Result<Pairs, Memory>
         ensures tree { self.new.tree ≡ self.old.tree }
-        ensures pairs { IfOk result (λ pairs. pairs ≡ last_of_range (contents_at self.old.tree stamp) from.now (option_copied to.entry) most) }
+        ensures pairs { IfOk result (λ pairs. pairs ≡ last_pairs self.old.tree from.now (option_copied to.entry) most stamp) }
     {
         let mut read = Vec::new(self.alloc);
         if asks_for_none(from, to, most) {
@@ -190,8 +197,37 @@ impl<'a> Scans<'a> {
         }
     }
 
-    // Adds the pairs of a range that lie on a leaf, as of a stamp, the greatest key first, until there are so many in all.
-    // It answers where the leaf's range begins.
+    // Adds the pairs of a range that lie on a leaf, as of a stamp, until there are so many in all. It answers the right
+    // neighbour, where the leaf doesn't reach the end of the range.
+    fn read_leaf(
+        &mut self,
+        page: PageId,
+        from: &Key,
+        to: Option<&Key>,
+        most: u64,
+        stamp: u64,
+        read: &mut Vec<(Key, Value), Alloc>,
+    ) -> Result<Option<PageId>, Memory>
+        requires { Contains (row self.old.tree.levels 0) page }
+        ensures tree { self.new.tree ≡ self.old.tree }
+        ensures read { let there = pairs_on self.old.tree stamp from.now (option_copied to.entry) page in
+            OnOk result (read.new.items ≡ filled most read.old.items there) }
+        ensures next { IfOk result (IsAfter (slot_at self.old.tree.slots page) (option_copied to.entry)) }
+    {
+        self.tree.know_levels();
+        let order = Order::Rising;
+        let scan = Scan { order, most, stamp };
+        let leaf = self.read_pairs(scan, page, from, to, read)?;
+        let next = if reaches(leaf.end, to) {
+            None
+        } else {
+            leaf.side
+        };
+        self.keep(page, leaf)?;
+        Ok(next)
+    }
+
+    // The same of the last pairs, the greatest key first. It answers where the leaf's range begins.
     fn read_leaf_back(
         &mut self,
         page: PageId,
@@ -203,17 +239,39 @@ impl<'a> Scans<'a> {
     ) -> Result<&'a Key, Memory>
         requires { Contains (row self.old.tree.levels 0) page }
         ensures tree { self.new.tree ≡ self.old.tree }
-        ensures read { OnOk result (read.new.items ≡ read.old.items ++ take (most - length read.old.items) (reverse (where_key key_cmp (has_key (slot_at self.old.tree.slots page)) (pairs_of_range (contents_at self.old.tree stamp) from.now (option_copied to.entry))))) }
+        ensures read { let there = pairs_on self.old.tree stamp from.now (option_copied to.entry) page in
+            OnOk result (read.new.items ≡ filled most read.old.items (reverse there)) }
         ensures low { IfOk result (λ low. low.now ≡ low_of (slot_at self.old.tree.slots page)) }
     {
-        self.tree.know_levels();
-        let left = most.saturating_sub(read.len() as u64);
-        let leaf = self.take_leaf(page, stamp)?;
-        let end = lower_end(leaf.end, to);
-        leaf.replay.add_last(from, end, left, read)?;
+        let order = Order::Falling;
+        let scan = Scan { order, most, stamp };
+        let leaf = self.read_pairs(scan, page, from, to, read)?;
         let low = leaf.low;
         self.keep(page, leaf)?;
         Ok(low)
+    }
+
+    // The same in the order of a scan. It answers the leaf, which is no longer kept.
+    fn read_pairs(
+        &mut self,
+        scan: Scan,
+        page: PageId,
+        from: &Key,
+        to: Option<&Key>,
+        read: &mut Vec<(Key, Value), Alloc>,
+    ) -> Result<ReadLeaf<'a>, Memory>
+        requires { Contains (row self.old.tree.levels 0) page }
+        ensures tree { self.new.tree ≡ self.old.tree }
+        ensures read { let there = wanted_on self.old.tree scan from.now (option_copied to.entry) page in
+            OnOk result (read.new.items ≡ filled scan.most read.old.items there) }
+        ensures leaf { IfOk result (IsReadLeaf (slot_at self.old.tree.slots page)) }
+    {
+        self.tree.know_levels();
+        let left = scan.most.saturating_sub(read.len() as u64);
+        let leaf = self.take_leaf(page, scan.stamp)?;
+        let end = lower_end(leaf.end, to);
+        add_pairs(&leaf.replay, scan.order, from, end, left, read)?;
+        Ok(leaf)
     }
 
     // The leaf whose range has a key: one that is kept, or else the tree's route.
@@ -285,12 +343,11 @@ impl<'a> Scans<'a> {
         ensures stamp { IfOk result (λ leaf. leaf.replay.stamp ≡ stamp) }
         ensures leaf { IfOk result (IsReadLeaf (slot_at self.old.tree.slots page)) }
     {
-        let mut leaf = match self.take_kept(page, stamp) {
+        let leaf = match self.take_kept(page, stamp) {
             Some(leaf) => leaf,
             None => self.new_leaf(page)?,
         };
-        leaf.replay.advance(stamp)?;
-        Ok(leaf)
+        leaf.as_of(stamp)
     }
 
     // The same as of an earlier stamp, or of this one, if it was kept so.
@@ -321,10 +378,28 @@ impl<'a> Scans<'a> {
     }
 }
 
+// Adds the pairs of a leaf from a key on and below another, in this order, no more than `most` of them.
+fn add_pairs(
+    replay: &Replay<'_>,
+    order: Order,
+    low: &Key,
+    high: Option<&Key>,
+    most: u64,
+    read: &mut Vec<(Key, Value), Alloc>,
+) -> Result<(), Memory>
+    ensures sorted { T (is_sorted key_cmp replay.now.pairs) }
+    ensures added { let there = filter (is_pair_in_range low.now (option_copied high.entry)) replay.now.pairs in
+        OnOk result (read.new.items ≡ read.old.items ++ take most (in_order order there)) }
+{
+    match order {
+        Order::Rising => replay.add_first(low, high, most, read),
+        Order::Falling => replay.add_last(low, high, most, read),
+    }
+}
+
 // Whether no pair is asked for: none at all, or those of a range that doesn't begin below its end.
 fn asks_for_none(from: &Key, to: Option<&Key>, most: u64) -> bool
-    ensures none { result ≡ true → (all : Contents ValueBytes) →
-        (first_of_range all from.now (option_copied to.entry) most ≡ []) × (last_of_range all from.now (option_copied to.entry) most ≡ []) }
+    ensures none { result ≡ true → HasNoPairs from.now (option_copied to.entry) most }
     ensures begins { result ≡ false → T (is_below_end (option_copied to.entry) from.now) }
 {
     most == 0 || !is_below(from, to)

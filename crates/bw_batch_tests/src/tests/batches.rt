@@ -1,6 +1,6 @@
 // Batches by hand: what they are answered, and what they leave.
-use super::making::{LONG, Maker};
-use super::tracing::{Trace, compare};
+use super::maker::{LONG, Maker};
+use super::trace::{Trace, compare};
 use bw_batch::{Gate, OpenGate, Reply};
 
 // The decimal text of the greatest 64-bit word.

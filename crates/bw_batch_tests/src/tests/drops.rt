@@ -1,5 +1,5 @@
 // An index that is dropped gives its memory back.
-use super::making::LONG;
+use super::maker::LONG;
 use bw_batch::{Index, Key, Op, OpenGate, Options, Value};
 use bw_memory::{Alloc, Heap};
 use std::process::Abort;

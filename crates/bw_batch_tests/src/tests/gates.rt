@@ -1,5 +1,5 @@
 // Workers that wait for one another at a gate.
-use super::making::{Maker, same};
+use super::maker::{Maker, same};
 use bw_batch::{Gate, Index, Reply};
 use std::sync::atomic::{AtomicU64, Ordering};
 

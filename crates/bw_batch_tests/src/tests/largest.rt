@@ -1,5 +1,5 @@
 // The largest batches: all writes on one key, each on a key of its own, and many scans beside many writes of one leaf.
-use super::making::Maker;
+use super::maker::Maker;
 use bw_batch::{Index, Key, Op, OpenGate, Reply, Value};
 use bw_memory::Alloc;
 use std::process::Abort;

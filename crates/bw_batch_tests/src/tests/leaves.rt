@@ -3,8 +3,8 @@ ghost use Rattle.std.specs.Prelude.{◌≡◌, ◌<◌, ◌≤◌, [], ◌∷◌
 ghost use Rattle.bw_model.specs.Contents.{is_below_end};
 ghost use Rattle.bw_tree.specs.Making.{AreAbutting};
 
-use super::making::{LONG, Maker, WORKERS, put, same};
-use super::randomly::Random;
+use super::maker::{LONG, Maker, WORKERS, put, same};
+use super::random::Random;
 use bw_batch::{Index, Key, Leaf, Op, OpenGate, Options, PageId, Pairs, Tree, Value};
 use bw_memory::Alloc;
 use bw_model::ReferenceMap;
@@ -40,18 +40,27 @@ fn leaf_of<R: Abort>(
     Leaf::from_pairs(low, high, side, pairs)
 }
 
-// Of so many leaves the one at this place, which begins at the low key, and all behind it. The leaf at place i begins at
-// the key of the byte i * step, and the first one at the least key.
+// Where the leaf at a place begins, unless it is the first: at the key of the number place * step, of one byte where the
+// step is below 256, and else of four.
+fn low_of<R: Abort>(rt: &R, make: &Maker<R>, place: u32, step: u32) -> Key {
+    let bytes = place.wrapping_mul(step).to_be_bytes();
+    match step {
+        0..256 => key(rt, make, &bytes[3..]),
+        _ => key(rt, make, &bytes),
+    }
+}
+
+// Of so many leaves the one at this place, which begins at the low key, and all behind it. The first one begins at the
+// least key.
 fn leaves_from<R: Abort>(
     rt: &R,
     make: &Maker<R>,
     low: Key,
     place: u32,
     count: u32,
-    step: u8,
+    step: u32,
 ) -> Vec<Leaf, Alloc>
-    requires place { place < count }
-    requires few { count ≤ 256 }
+    requires { place < count }
     ensures { AreAbutting place low result.items }
 {
     let next = place + 1;
@@ -59,7 +68,7 @@ fn leaves_from<R: Abort>(
         let last = leaf_of(rt, make, low, None, None);
         return vec![in make.alloc; last].expect(rt, "a leaf");
     }
-    let high = key(rt, make, &[(next as u8).wrapping_mul(step)]);
+    let high = low_of(rt, make, next, step);
     assert!(rt; low < high);
     let begins = high.copy().expect(rt, "a key");
     let leaf = leaf_of(rt, make, low, Some(high), Some(PageId(next)));
@@ -69,9 +78,8 @@ fn leaves_from<R: Abort>(
 }
 
 /// A tree over so many leaves of one pair, with a root.
-pub fn tree_of<R: Abort>(rt: &R, make: &Maker<R>, count: u32, step: u8) -> Tree
-    requires some { 0 < count }
-    requires few { count ≤ 256 }
+pub fn tree_of<R: Abort>(rt: &R, make: &Maker<R>, count: u32, step: u32) -> Tree
+    requires { 0 < count }
     ensures { result.staged ≡ None }
 {
     let leaves = leaves_from(rt, make, key(rt, make, &[]), 0, count, step);
@@ -81,13 +89,11 @@ pub fn tree_of<R: Abort>(rt: &R, make: &Maker<R>, count: u32, step: u8) -> Tree
 }
 
 // The plain program's map of the pairs of such a tree.
-fn map_of<R: Abort>(rt: &R, make: &Maker<R>, count: u32, step: u8) -> ReferenceMap
-    requires few { count ≤ 256 }
-{
+fn map_of<R: Abort>(rt: &R, make: &Maker<R>, count: u32, step: u32) -> ReferenceMap {
     let mut map = ReferenceMap::new(make.alloc);
     put(rt, &mut map, key(rt, make, &[]), make.value("1"));
     for place in 1..count {
-        let low = key(rt, make, &[(place as u8).wrapping_mul(step)]);
+        let low = low_of(rt, make, place, step);
         put(rt, &mut map, low, make.value("1"));
     }
     map
@@ -105,11 +111,10 @@ fn over_leaves<R: Abort>(
     rt: &R,
     make: &Maker<R>,
     count: u32,
-    step: u8,
+    step: u32,
     options: Options,
 ) -> Compared
-    requires some { 0 < count }
-    requires few { count ≤ 256 }
+    requires { 0 < count }
 {
     let tree = tree_of(rt, make, count, step);
     Compared {

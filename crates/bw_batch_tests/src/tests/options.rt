@@ -1,5 +1,5 @@
 // The ranges of the options, and the texts of their faults.
-use super::making::Maker;
+use super::maker::Maker;
 use bw_batch::{OptionFault, Options};
 
 // What is wrong with these options, given in the order of `Options::new`.

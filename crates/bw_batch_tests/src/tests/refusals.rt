@@ -1,6 +1,6 @@
 // Batches that are refused for their length.
-use super::making::{Maker, same};
-use super::tracing::compare_done;
+use super::maker::{Maker, same};
+use super::trace::compare_done;
 use bw_batch::{Op, OpenGate, Refusal, Reply};
 use bw_memory::Alloc;
 use std::process::Abort;
@@ -80,7 +80,7 @@ fn batches_go_on_after_one_that_is_too_long(rt: HostRuntime) {
 }
 
 #[test]
-fn a_length_is_judged_before_memory_is_asked_for(rt: HostRuntime) {
+fn a_length_is_tested_before_memory_is_asked_for(rt: HostRuntime) {
     let make = Maker::new(&rt, rt.alloc());
     let mut index = make.index(1);
     let ops = [make.upsert("a", "1"), make.get("a")];

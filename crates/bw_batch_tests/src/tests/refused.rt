@@ -1,6 +1,6 @@
 // Each growth of memory refused in turn.
 use super::leaves::tree_of;
-use super::making::{LONG, Maker, Pair, put, same};
+use super::maker::{LONG, Maker, Pair, put, same};
 use bw_batch::{Done, Index, Memory, Op, OpenGate, Pairs, Refusal, Reply};
 use bw_memory::Alloc;
 use bw_model::ReferenceMap;

@@ -1,5 +1,5 @@
 // Many writes of one key, posted by many workers.
-use super::making::{Maker, WORKERS};
+use super::maker::{Maker, WORKERS};
 use bw_batch::{Index, Op, OpenGate, Options, Reply};
 use bw_memory::Alloc;
 use std::process::Abort;

@@ -1,5 +1,5 @@
 // The tree below an index.
-use super::making::{Maker, same};
+use super::maker::{Maker, same};
 use bw_batch::{Key, Op, OpenGate};
 use bw_memory::Alloc;
 use std::process::Abort;

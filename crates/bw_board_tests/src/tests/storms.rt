@@ -182,7 +182,7 @@ fn post_all(
 }
 
 // One seat of two that have posted all that they own.
-fn merged(board: &Board, first: Seat, second: Seat) -> Seat
+pub(crate) fn merged(board: &Board, first: Seat, second: Seat) -> Seat
     requires board { (first.board ≡ board.now) × (second.board ≡ board.now) }
     requires first { HasPostedAll first }
     requires second { HasPostedAll second }

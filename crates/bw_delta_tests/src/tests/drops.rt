@@ -19,8 +19,8 @@ fn drop_replay<R: Abort>(rt: &R, alloc: Alloc) {
     let leaf = leaf_of(rt, alloc, long());
     let write = insert(rt, alloc, 0, b"b", long());
     let kept = alloc.used();
-    let mut replay = Replay::new(alloc, &[&leaf], None, &[&write]).expect(rt, "memory");
-    replay.advance(1).expect(rt, "memory");
+    let replay = Replay::new(alloc, &[&leaf], None, &[&write]).expect(rt, "memory");
+    let replay = replay.advance(1).expect(rt, "memory");
     assert!(rt; alloc.used() > kept);
     drop(replay);
     assert_eq!(rt; alloc.used(), kept);

@@ -72,8 +72,8 @@ fn a_leaf_under_a_write_is_read_from_both_ends(rt: HostRuntime) {
     let alloc = heap(&rt, rt.alloc());
     let leaf = leaf_of(&rt, alloc, b"1");
     let insert = insert(&rt, alloc, 0, b"b", b"2");
-    let mut replay = Replay::new(alloc, &[&leaf], None, &[&insert]).expect(&rt, "memory");
-    replay.advance(1).expect(&rt, "memory");
+    let replay = Replay::new(alloc, &[&leaf], None, &[&insert]).expect(&rt, "memory");
+    let replay = replay.advance(1).expect(&rt, "memory");
     compare_firsts(&rt, alloc, &replay);
     compare_lasts(&rt, alloc, &replay);
 }
@@ -83,8 +83,8 @@ fn a_leaf_without_writes_is_read_where_it_stands(rt: HostRuntime) {
     let alloc = heap(&rt, rt.alloc());
     let leaf = a_and_b(&rt, alloc);
     alloc.refuse(1);
-    let mut replay = Replay::new(alloc, &[&leaf], None, &[]).expect(&rt, "memory");
-    replay.advance(9).expect(&rt, "memory");
+    let replay = Replay::new(alloc, &[&leaf], None, &[]).expect(&rt, "memory");
+    let _replay = replay.advance(9).expect(&rt, "memory");
     assert_eq!(rt; alloc.left(), 1);
 }
 
@@ -93,9 +93,9 @@ fn a_leaf_is_read_where_it_stands_up_to_its_first_write(rt: HostRuntime) {
     let alloc = heap(&rt, rt.alloc());
     let leaf = leaf_of(&rt, alloc, b"1");
     let delete = delete(&rt, alloc, 5);
-    let mut replay = Replay::new(alloc, &[&leaf], None, &[&delete]).expect(&rt, "memory");
+    let replay = Replay::new(alloc, &[&leaf], None, &[&delete]).expect(&rt, "memory");
     alloc.refuse(1);
-    replay.advance(5).expect(&rt, "memory");
+    let _replay = replay.advance(5).expect(&rt, "memory");
     assert_eq!(rt; alloc.left(), 1);
 }
 
@@ -114,8 +114,8 @@ fn below_its_end_a_leaf_is_read_with_its_writes(rt: HostRuntime) {
     let alloc = heap(&rt, rt.alloc());
     let (leaf, end) = (a_and_b(&rt, alloc), key(&rt, alloc, b"b"));
     let insert = insert(&rt, alloc, 0, b"aa", b"3");
-    let mut replay = Replay::new(alloc, &[&leaf], Some(&end), &[&insert]).expect(&rt, "memory");
-    replay.advance(1).expect(&rt, "memory");
+    let replay = Replay::new(alloc, &[&leaf], Some(&end), &[&insert]).expect(&rt, "memory");
+    let replay = replay.advance(1).expect(&rt, "memory");
     let pairs = last(alloc, &replay, &end, 9).expect(&rt, "memory");
     assert!(rt; are(&pairs, &[(b"aa", b"3"), (b"a", b"1")]));
 }
@@ -154,10 +154,11 @@ fn replay_of<'a, R: Abort>(
 }
 
 // Takes a replay on to a stamp.
-fn advance<R: Abort>(rt: &R, replay: &mut Replay, stamp: u64) {
+fn advanced<'a, R: Abort>(rt: &R, replay: Replay<'a>, stamp: u64) -> Replay<'a> {
     assert!(rt; replay.stamp() <= stamp);
-    replay.advance(stamp).expect(rt, "memory");
+    let replay = replay.advance(stamp).expect(rt, "memory");
     assert_eq!(rt; replay.stamp(), stamp);
+    replay
 }
 
 // Compares a replay of the three writes as of each stamp.
@@ -170,7 +171,7 @@ fn compare<'a, R: Abort>(
     let least = key(rt, alloc, b"");
     let mut replay = replay_of(rt, alloc, leaf, writes).expect(rt, "memory");
     for (stamp, wanted) in LEFT {
-        advance(rt, &mut replay, stamp);
+        replay = advanced(rt, replay, stamp);
         let pairs = first(alloc, &replay, &least, 9).expect(rt, "memory");
         assert!(rt; is_left(&pairs, wanted));
     }
@@ -195,8 +196,7 @@ fn read_at<'a, R: Abort>(
     least: &Key,
     writes: (&'a Write, &'a Write, &'a Write),
 ) -> Result<Pairs, Memory> {
-    let mut replay = replay_of(rt, alloc, leaf, writes)?;
-    replay.advance(9)?;
+    let replay = replay_of(rt, alloc, leaf, writes)?.advance(9)?;
     first(alloc, &replay, least, 9)
 }
 

@@ -1,6 +1,6 @@
 // What each write answers and leaves.
 use super::making::Maker;
-use bw_model::{Action, Reply, Value};
+use bw_model::{Action, Op, Reply, Value};
 use std::process::Abort;
 
 // Compares what a write answers and leaves at a key that had this value.
@@ -59,4 +59,41 @@ fn each_write_where_there_is_no_value(rt: HostRuntime) {
     compare(&rt, &make, (Action::Delete, None), (Reply::Absent, None));
     let swap_if = Action::SwapIf(make.value("1"), make.value("2"));
     compare(&rt, &make, (swap_if, None), (Reply::Absent, None));
+}
+
+// Compares what an operation on `k` answers where that has a 1, and where it has no value.
+fn compare_replies<R: Abort>(rt: &R, make: &Maker<R>, op: &Op, wanted: (Reply, Reply)) {
+    let Some(key) = op.key() else {
+        panic!(rt; "an operation on a key");
+    };
+    assert!(rt; key.bytes() == b"k".as_slice());
+    let one = make.value("1");
+    assert!(rt; op.reply_at(Some(&one)).expect(rt, "memory") == wanted.0);
+    assert!(rt; op.reply_at(None).expect(rt, "memory") == wanted.1);
+}
+
+#[test]
+fn each_operation_answers_by_the_value_at_its_key(rt: HostRuntime) {
+    let make = Maker::new(&rt, rt.alloc());
+    let get = make.get("k");
+    compare_replies(&rt, &make, &get, (make.found("1"), Reply::Absent));
+    let insert = make.insert("k", "2");
+    compare_replies(&rt, &make, &insert, (make.held("1"), Reply::Inserted));
+    let delete = make.delete("k");
+    compare_replies(&rt, &make, &delete, (make.was("1"), Reply::Absent));
+}
+
+#[test]
+fn a_swap_answers_by_the_value_at_its_key(rt: HostRuntime) {
+    let make = Maker::new(&rt, rt.alloc());
+    let swap = make.swap_if("k", "1", "2");
+    compare_replies(&rt, &make, &swap, (make.was("1"), Reply::Absent));
+    let swap = make.swap_if("k", "3", "2");
+    compare_replies(&rt, &make, &swap, (make.held("1"), Reply::Absent));
+}
+
+#[test]
+fn a_scan_has_no_key(rt: HostRuntime) {
+    let make = Maker::new(&rt, rt.alloc());
+    assert!(rt; make.scan("k", None, 1).key().is_none());
 }

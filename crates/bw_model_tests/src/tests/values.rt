@@ -54,6 +54,21 @@ fn a_longer_value_is_refused_for_want_of_memory(rt: HostRuntime) {
 }
 
 #[test]
+fn a_copy_is_in_the_heap_that_it_was_made_with(rt: HostRuntime) -> Result<(), Fail> {
+    let make = Maker::new(&rt, rt.alloc());
+    let other = Heap::within(rt.alloc(), 30).leak(rt.alloc())?;
+    let long = Value::new(make.alloc, &[b'v'; 25]).expect(&rt, "a value");
+    make.alloc.refuse(1);
+    let copy = long.copy_in(other).expect(&rt, "a copy");
+    assert!(rt; copy == long);
+    assert_eq!(rt; other.used(), 25);
+    assert!(rt; long.copy_in(other).is_err());
+    assert!(rt; copy.copy().is_err());
+    assert_eq!(rt; make.alloc.left(), 1);
+    Ok(())
+}
+
+#[test]
 fn a_copy_of_a_longer_value_is_refused_for_want_of_memory(rt: HostRuntime) {
     let make = Maker::new(&rt, rt.alloc());
     let long = Value::new(make.alloc, &[b'v'; 25]).expect(&rt, "a value");

@@ -3,7 +3,7 @@ ghost use Rattle.std.specs.Prelude.{◌≡◌, ◌<◌, ◌≤◌, ◌+◌, ◌^
 ghost use Rattle.bw_tree.specs.Making.{AreAbutting};
 ghost use Rattle.bw_tree.specs.Stages.{IsPostedStage, staged_on};
 
-use bw_answer::Grouping;
+use bw_group::Grouping;
 use bw_key::Key;
 use bw_memory::{Alloc, Heap};
 use bw_model::{Op, Pairs, Value};

@@ -5,7 +5,7 @@ ghost use Rattle.bw_tree.specs.Levels.{row};
 ghost use Rattle.bw_tree.specs.Stages.{is_adopted};
 
 use super::making::{FLOOR, batch, has, heap, holds, key, post, stands, three, upsert, value};
-use bw_answer::Grouping;
+use bw_group::Grouping;
 use bw_key::Memory;
 use bw_memory::{Alloc, Heap};
 use bw_page::PageId;

@@ -2,7 +2,7 @@
 ghost use Rattle.std.specs.Prelude.{◌<◌, ◌≤◌};
 
 use super::making::{FLOOR, has, heap, key, upsert};
-use bw_answer::Grouping;
+use bw_group::Grouping;
 use bw_memory::Alloc;
 use bw_model::Op;
 use bw_post::{Gate, OpenGate, Posting, Tree, post_all};

@@ -12,8 +12,8 @@ use bw_page::{Leaf, PageId};
 
 impl Tree {
     ghost use Rattle.bw_tree.specs.Folding.{IsFolded, folded_from, folded_leaf};
-    ghost use Rattle.bw_tree.specs.Levels.{IsHome, row};
-    ghost use Rattle.bw_tree.specs.Slots.{side_of};
+    ghost use Rattle.bw_chain.specs.Levels.{IsHome, row};
+    ghost use Rattle.bw_chain.specs.Slots.{side_of};
     ghost use Rattle.bw_tree.specs.View.{contents_at};
 
     /// Folds the writes of every leaf's chain into a new base page, and answers how many pairs the tree has, or

@@ -1,21 +1,18 @@
-use Rattle.std.proofs.Common.{arith, refl, sym, ap, ◌∙◌, ◌+◌, length}
-use Rattle.bw_board.specs.declared.table.Sight.{Sight}
+use Rattle.std.proofs.Common.{arith, refl, ◌+◌}
 use Rattle.bw_board.proofs.Kept.{looks}
+use Rattle.bw_board.proofs.Seated.{stays_seated}
 use Rattle.bw_board.proofs.steps.look.Goals as goal
 
 pub overflow_add-page : goal.overflow_add-page
-overflow_add-page c = omega arith
+overflow_add-page c = let h = c.requires.seat in let words = h.words in let fit = h.words_fit in let p = c.requires.page in omega arith
 
 pub load-requires : goal.load-requires
-load-requires c = let h = c.requires.seat in (h.0, omega arith, looks _ _ _ _ _ _ _ _ _ h.4 c.requires.page)
+load-requires c = let h = c.requires.seat in let words = h.words in let p = c.requires.page in (h.table, omega arith, looks _ _ _ _ _ _ _ _ _ h.live c.requires.page)
 
-pub returns-clause-seat : goal.returns-clause-seat
-returns-clause-seat c = let h = c.requires.seat in let t = c.load.ensures.2.1 c.args.page refl c.requires.page in
-    (c.load.ensures.0 ∙ h.0, h.1 ∙ ap (λ (v : Sight). 1 + (length v.first + v.records)) (sym t.2), h.2, c.load.ensures.2.0.0 ∙ h.3, ap (λ (v : Sight). v.book.live) t.2 ∙ h.4)
-
-pub returns-clause-seen : goal.returns-clause-seen
-returns-clause-seen c = let h = c.requires.seat in let t = c.load.ensures.2.1 c.args.page refl c.requires.page in
-    (t.0, t.1, (λ j. (t.2 j, (c.load.ensures.2.0.0 ∙ h.3) j)), t.3, t.4, t.5)
-
-pub returns-clause-sane : goal.returns-clause-sane
-returns-clause-sane c = c.load.ensures.2.0.1
+pub returns : goal.returns
+returns c = let t = c.load.ensures.2 in let k = t.seen c.args.page refl c.requires.page in record {
+  seat = stays_seated _ _ _ _ c.requires.seat c.load.ensures.0 t.stays k.after refl refl refl;
+  seen = k;
+  head = t.head c.args.page refl c.requires.page;
+  sane = t.stays.sane;
+}

@@ -1,13 +1,12 @@
 use Rattle.std.proofs.Common.{◌≡◌, ◌+◌}
 use Rattle.std.specs.List.{AllByRecursion}
 use Rattle.bw_core.specs.World.{total}
-use Rattle.bw_post.specs.Posting.{HasWorked, IsTold, width_of}
+use Rattle.bw_post.specs.Posting.{HasFinished, width_of}
 use Rattle.bw_post.proofs.workers.join_workers.Given as goal
 
 abbrev pub invariant-loop-worker : goal.invariant-loop-worker
 invariant-loop-worker l = record {
-  worked : HasWorked l.tree l.board l.whole;
-  told : IsTold l.whole;
-  others : AllByRecursion (HasWorked l.tree l.board) l.worker-iterator.rest.items;
+  finished : HasFinished l.tree l.board l.whole;
+  others : AllByRecursion (HasFinished l.tree l.board) l.worker-iterator.rest.items;
   width : width_of l.whole + total width_of l.worker-iterator.rest.items ≡ total width_of l.fn.workers.items;
 }

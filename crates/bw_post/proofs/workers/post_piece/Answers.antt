@@ -1,35 +1,38 @@
 use Rattle.std.proofs.Common.{arith, ap, sym, subst, ◌∙◌, length}
-use Rattle.bw_board.specs.Public.{posted_over}
+use Rattle.bw_board.specs.Public.{Posts}
 use Rattle.bw_board.proofs.WorkingLemmas.{left_next, left_over}
 use Rattle.bw_post.proofs.Homes.{home_more}
 use Rattle.bw_post.proofs.Lost.{lost_few, lost_more}
 use Rattle.bw_post.proofs.workers.post_piece.Goals as goal
 
 pub post-lost-requires-clause-own : goal.post-lost-requires-clause-own
-post-lost-requires-clause-own g c = let i = c.loop-record.invariant in left_next c.loop-record.seat c.loop-record.record c.args.piece.end i.once i.left (omega (arith, c.loop-record-test.true))
+post-lost-requires-clause-own g c = let i = c.loop-record.invariant in (left_next c.loop-record.seat c.loop-record.record c.args.piece.end i.once i.left (omega (arith, c.loop-record-test.true))).0
+
+pub post-lost-requires-clause-unposted : goal.post-lost-requires-clause-unposted
+post-lost-requires-clause-unposted g c = let i = c.loop-record.invariant in (left_next c.loop-record.seat c.loop-record.record c.args.piece.end i.once i.left (omega (arith, c.loop-record-test.true))).1
 
 pub overflow_add-lost : goal.overflow_add-lost
 overflow_add-lost g c =
     let i = c.loop-record.invariant in
     let t = c.post-lost.ensures.posted in
-    let more = lost_more c.loop-record.seat c.post-lost.new.seat c.loop-record.record _ c.post-lost.result.lost t.0 t.1 t.2 in
-    let few = lost_few c.post-lost.new.seat c.args.board.now (ap (λ z. z.board) t.2 ∙ i.board) c.requires.over.few c.requires.over.spareless c.post-lost.ensures.sound in
+    let more = lost_more c.loop-record.seat c.post-lost.new.seat c.loop-record.record _ c.post-lost.result.lost t in
+    let few = lost_few c.post-lost.new.seat c.args.board.now (ap (λ z. z.board) t.after ∙ i.board) c.requires.over.few c.requires.over.spareless c.post-lost.ensures.sound in
     omega (arith, i.lost, more, few.1)
 
 pub loop-record-preserved : goal.loop-record-preserved
 loop-record-preserved g c =
     let i = c.loop-record.invariant in
     let t = c.post-lost.ensures.posted in
-    let more = lost_more c.loop-record.seat c.post-lost.new.seat c.loop-record.record _ c.post-lost.result.lost t.0 t.1 t.2 in
-    let few = lost_few c.post-lost.new.seat c.args.board.now (ap (λ z. z.board) t.2 ∙ i.board) c.requires.over.few c.requires.over.spareless c.post-lost.ensures.sound in
+    let more = lost_more c.loop-record.seat c.post-lost.new.seat c.loop-record.record _ c.post-lost.result.lost t in
+    let few = lost_few c.post-lost.new.seat c.args.board.now (ap (λ z. z.board) t.after ∙ i.board) c.requires.over.few c.requires.over.spareless c.post-lost.ensures.sound in
     record {
-      board = ap (λ z. z.board) t.2 ∙ i.board;
-      width = ap (λ z. z.book.width) t.2 ∙ i.width;
-      owned = ap (λ z. z.book.owned) t.2 ∙ i.owned;
-      once = c.post-lost.ensures.sound.0;
-      left = left_over c.loop-record.seat c.post-lost.new.seat c.loop-record.record c.args.piece.end _ c.post-lost.result.lost t.0 t.1 i.left (omega (arith, c.loop-record-test.true)) t.2;
-      homes = home_more c.args.tree.now c.loop-record.seat c.post-lost.new.seat c.loop-record.record c.home_at-page.result c.post-lost.result.lost t.0 t.1
-          (t.2 ∙ ap (λ p. posted_over c.loop-record.seat c.loop-record.record p c.post-lost.result.lost t.0 t.1) c.page.view_is) c.home_at-page.ensures.home i.homes;
+      board = ap (λ z. z.board) t.after ∙ i.board;
+      width = ap (λ z. z.book.width) t.after ∙ i.width;
+      owned = ap (λ z. z.book.owned) t.after ∙ i.owned;
+      once = c.post-lost.ensures.sound.own_once;
+      left = left_over c.loop-record.seat c.post-lost.new.seat c.loop-record.record c.args.piece.end _ c.post-lost.result.lost i.left (omega (arith, c.loop-record-test.true)) t;
+      homes = home_more c.args.tree.now c.loop-record.seat c.post-lost.new.seat c.loop-record.record c.home_at-page.result c.post-lost.result.lost
+          (subst (λ p. Posts c.loop-record.seat c.post-lost.new.seat c.loop-record.record p c.post-lost.result.lost) c.page.view_is t) c.home_at-page.ensures.home i.homes;
       lost = omega (arith, i.lost, more);
       few = few.1;
     }

@@ -1,7 +1,8 @@
 use Rattle.std.proofs.Common.{arith, sym, ap, subst, inl, ◌∙◌, ◌≡◌, ◌<◌, ◌+◌, ◌^◌, length, set}
 use Rattle.bw_core.specs.declared.BookView.{BookView}
 use Rattle.bw_core.specs.declared.Played.TheVariants.{Done}
-use Rattle.bw_core.specs.World.{World, Each, seen_at, end_at, top}
+use Rattle.std.specs.List.{AllByRecursion}
+use Rattle.bw_core.specs.World.{World, seen_at, end_at, top}
 use Rattle.bw_core.specs.Events.{moved, linked}
 use Rattle.bw_core.specs.Inside.{view_of}
 use Rattle.bw_core.specs.Steps.{IsWorld, MayLink, Links}
@@ -23,7 +24,7 @@ pub top-word-requires-clause-fits : goal.top-word-requires-clause-fits
 top-word-requires-clause-fits c = let w : World = view_of c.self.inside in let k : IsWorld w = subst IsWorld (sym c.self.view_is) c.requires in
     let may = subst (λ (z : World). (b : BookView) × MayLink z c.args.seat c.args.rec c.args.page b c.in-Some.lost) (sym c.self.view_is) c.in-Some.ensures in
     let same : c.index_mut-book.result.now ≡ may.0 = read_seat w c.args.seat may.0 c.index_mut-book.result.now may.1.0 c.index_mut-book.ensures.value in
-    subst (λ (z : BookView). Each (λ r. w.floor + r < 2 ^ 64) (seen_at z c.args.page)) (sym same) (seen_words w k c.args.seat may.0 c.args.page may.1.0 may.1.1)
+    subst (λ (z : BookView). AllByRecursion (λ r. w.floor + r < 2 ^ 64) (seen_at z c.args.page)) (sym same) (seen_words w k c.args.seat may.0 c.args.page may.1.0 may.1.1)
 
 pub index_mut-requires : goal.index_mut-requires
 index_mut-requires c = let i = c.self.inside in let ok = i.links.ok in let w : World = view_of i in let k : IsWorld w = subst IsWorld (sym c.self.view_is) c.requires in

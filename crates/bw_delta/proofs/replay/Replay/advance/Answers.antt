@@ -1,4 +1,4 @@
-use Rattle.std.proofs.Common.{◌≡◌, ◌+◌, ◌-◌, ◌≤◌, List, drop, length, length-drop, refl, sym, ap, subst, ◌∙◌, take, arith}
+use Rattle.std.proofs.Common.{◌≡◌, ◌+◌, ◌-◌, List, drop, length, length-drop, sym, ap, subst, ◌∙◌, take, arith}
 use Rattle.std.proofs.lemmas.List.{take_all}
 use Rattle.std.specs.Borrow.{Bor}
 use Rattle.bw_key.specs.Order.{key_cmp}
@@ -6,38 +6,38 @@ use Rattle.bw_delta.specs.Writes.{WriteView}
 use Rattle.bw_delta.specs.Batches.{writes_to}
 use Rattle.bw_delta.specs.History.{history, action_at, pointed_to}
 use Rattle.bw_delta.specs.Readings.{from_stamp}
-use Rattle.bw_delta.specs.Replays.{ReplayView, IsReplayOf, replayed_value}
+use Rattle.bw_delta.specs.Replays.{ReplayView, replayed_value}
 use Rattle.bw_delta.specs.Rising.{HasRisingStamps}
 use Rattle.std.specs.FinMap.{find}
 use Rattle.bw_delta.specs.Present.{present_pairs}
 use Rattle.bw_delta.proofs.Readings.{left_rises}
 use Rattle.bw_delta.proofs.Replays.{drop_more, goes_on}
 use Rattle.bw_delta.proofs.replay.Replay.advance.Goals as goal
-use Rattle.bw_delta.proofs.replay.Replay.advance.Goals.{After-self-3-1}
+use Rattle.bw_delta.proofs.replay.Replay.advance.Goals.{In_ok-present}
 
 -- the writes that are left before
-rest : (c : After-self-3-1) → take (length c.deref.result.now - c.self.inside.passed) (drop c.self.inside.passed c.deref.result.now) ≡ drop c.self.inside.passed c.self.inside.writes.items
+rest : (c : In_ok-present) → take (length c.deref.result.now - c.self.inside.passed) (drop c.self.inside.passed c.deref.result.now) ≡ drop c.self.inside.passed c.self.inside.writes.items
 rest c =
     let size = length-drop c.self.inside.passed c.deref.result.now in
     take_all _ (drop c.self.inside.passed c.deref.result.now) (omega (arith, size)) ∙ ap (drop c.self.inside.passed) c.deref.ensures.value
 
-left : (c : After-self-3-1) → pointed_to (drop (c.self.inside.passed + c.in_ok-self-inside.field-0) c.self.inside.writes.items) ≡ from_stamp c.args.stamp (pointed_to (drop c.self.inside.passed c.self.inside.writes.items))
+left : (c : In_ok-present) → pointed_to (drop (c.self.inside.passed + c.in_ok-present.more) c.self.inside.writes.items) ≡ from_stamp c.args.stamp (pointed_to (drop c.self.inside.passed c.self.inside.writes.items))
 left c =
-    ap pointed_to (drop_more c.self.inside.passed c.in_ok-self-inside.field-0 c.self.inside.writes.items ∙ ap (drop c.in_ok-self-inside.field-0) (sym (rest c)))
-    ∙ c.in_ok-self-inside.ensures.rest
+    ap pointed_to (drop_more c.self.inside.passed c.in_ok-present.more c.self.inside.writes.items ∙ ap (drop c.in_ok-present.more) (sym (rest c)))
+    ∙ c.in_ok-present.ensures.rest
     ∙ ap (λ (l : List (Bor WriteView)). from_stamp c.args.stamp (pointed_to l)) (rest c)
 
-pub invariant_of-self-2 : goal.invariant_of-self-2
-invariant_of-self-2 c = (
-  omega (arith, c.in_ok-self-inside.ensures.bound, ap length (rest c), length-drop c.self.inside.passed c.self.inside.writes.items, c.self.invariant.0),
+pub invariant_of-result : goal.invariant_of-result
+invariant_of-result c = (
+  omega (arith, c.in_ok-present.ensures.bound, ap length (rest c), length-drop c.self.inside.passed c.self.inside.writes.items, c.self.invariant.0),
   subst (HasRisingStamps c.args.stamp) (sym (left c)) (left_rises c.args.stamp c.self.inside.stamp (pointed_to (drop c.self.inside.passed c.self.inside.writes.items)) c.self.invariant.1),
 )
 
 pub returns-clause-replay : goal.returns-clause-replay
 returns-clause-replay c start high writes so =
-    goes_on start high writes c.args.self.now _ c.requires
+    goes_on start high writes c.args.self _ c.requires
     (λ key.
-    c.in_ok-self-inside.ensures.values key
+    c.in_ok-present.ensures.values key
     ∙ ap (λ (l : List (Bor WriteView)). history (find key_cmp key (present_pairs c.self.inside.present)) (action_at (writes_to key (pointed_to l))) c.args.stamp) (rest c)
     ∙ ap (λ (v : ReplayView). replayed_value v c.args.stamp key) c.self.view_is)
     (left c ∙ ap (λ (v : ReplayView). from_stamp c.args.stamp v.rest) c.self.view_is)

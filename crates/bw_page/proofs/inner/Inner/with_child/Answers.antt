@@ -2,13 +2,15 @@ use Rattle.std.proofs.Common.{◌≡◌, ◌∙◌, ap, refl}
 use Rattle.std.specs.FinMap.{put}
 use Rattle.bw_key.specs.Order.{key_cmp}
 use Rattle.bw_page.specs.Inners.{InnerView}
+use Rattle.bw_page.specs.Pages.{BoundsView}
 use Rattle.bw_page.proofs.Entries.{put_inner_page, rules_of_view, same_inner}
 use Rattle.bw_page.proofs.inner.Inner.with_child.Goals as goal
 
 pub over-requires : goal.over-requires
 over-requires c =
     let inner = c.args.self.now in
+    let bounds : BoundsView = record { low = inner.low; high = inner.high; side = inner.side } in
     let rules = rules_of_view _ _ c.self.view_is c.self.invariant in
     let there : c.in_ok-copy_with.field-0.items ≡ put key_cmp c.args.sep.now c.args.child inner.children =
     c.in_ok-copy_with.ensures ∙ ap (put key_cmp c.args.sep.now c.args.child) (c.deref.ensures.value ∙ ap (λ (v : InnerView). v.children) c.self.view_is) in
-    same_inner inner.level _ _ _ _ inner.side _ _ refl refl there (put_inner_page inner.level inner.low inner.high inner.side c.args.sep.now c.args.child inner.children c.requires rules)
+    same_inner inner.level bounds bounds _ _ refl there (put_inner_page inner.level inner.low inner.high inner.side c.args.sep.now c.args.child inner.children c.requires rules)

@@ -22,13 +22,13 @@ loop-line-preserved-in-Nothing g c =
     let ops = c.loop-line.ops.items in
     let meaning = c.in-Some.meaning in
     let said = rw c.in-Some.is at c.in_ok-meaning.ensures.meaning in
-    let judged = one_line before.place mid.place now.place before.ended before.unread mid.unread now.unread ops mid.ended now.ended meaning said.0
+    let parsed = one_line before.place mid.place now.place before.ended before.unread mid.unread now.unread ops mid.ended now.ended meaning said.0
     c.loop-line.invariant.so_far said.2.2 said.2.1 said.2.0 said.1 in
     let over = was_going before.ended mid.ended (λ e. (c.loop-line.invariant.over e).0) said.2.2 in
     let falls = rw c.in-Some.is at c.in_ok-meaning.ensures.falls in
     let goes_on : GoesOn meaning ops ops = inl (c.in-Nothing.is, refl) in
     record {
-      so_far = gathered before.place now.place before.ended before.unread now.unread ops ops now.ended meaning over goes_on judged;
+      so_far = gathered before.place now.place before.ended before.unread now.unread ops ops now.ended meaning over goes_on parsed;
       over = λ e. absurd (cc (e, over));
       on = reads_on_more before mid now c.loop-line.invariant.on c.in_ok-meaning.ensures.on;
       fault = c.in_ok-meaning.ensures.fault ∙ c.loop-line.invariant.fault;
@@ -45,13 +45,13 @@ loop-line-preserved-in-StartsVersion2 g c =
     let ops = c.loop-line.ops.items in
     let meaning = c.in-Some.meaning in
     let said = rw c.in-Some.is at c.in_ok-meaning.ensures.meaning in
-    let judged = one_line before.place mid.place now.place before.ended before.unread mid.unread now.unread ops mid.ended now.ended meaning said.0
+    let parsed = one_line before.place mid.place now.place before.ended before.unread mid.unread now.unread ops mid.ended now.ended meaning said.0
     c.loop-line.invariant.so_far said.2.2 said.2.1 said.2.0 said.1 in
     let over = was_going before.ended mid.ended (λ e. (c.loop-line.invariant.over e).0) said.2.2 in
     let falls = rw c.in-Some.is at c.in_ok-meaning.ensures.falls in
     let goes_on : GoesOn meaning ops ops = inr (inl (c.in-StartsVersion2.is, refl)) in
     record {
-      so_far = gathered before.place now.place before.ended before.unread now.unread ops ops now.ended meaning over goes_on judged;
+      so_far = gathered before.place now.place before.ended before.unread now.unread ops ops now.ended meaning over goes_on parsed;
       over = λ e. absurd (cc (e, over));
       on = reads_on_more before mid now c.loop-line.invariant.on c.in_ok-meaning.ensures.on;
       fault = c.in_ok-meaning.ensures.fault ∙ c.loop-line.invariant.fault;
@@ -68,13 +68,13 @@ loop-line-preserved g c =
     let ops = c.loop-line.ops.items in
     let meaning = c.in-Some.meaning in
     let said = rw c.in-Some.is at c.in_ok-meaning.ensures.meaning in
-    let judged = one_line before.place mid.place now.place before.ended before.unread mid.unread now.unread ops mid.ended now.ended meaning said.0
+    let parsed = one_line before.place mid.place now.place before.ended before.unread mid.unread now.unread ops mid.ended now.ended meaning said.0
     c.loop-line.invariant.so_far said.2.2 said.2.1 said.2.0 said.1 in
     let over = was_going before.ended mid.ended (λ e. (c.loop-line.invariant.over e).0) said.2.2 in
     let falls = rw c.in-Some.is at c.in_ok-meaning.ensures.falls in
     let goes_on : GoesOn meaning ops c.push.new.self.items = inr (inr (c.in-Operation.op, c.in-Operation.is, c.in_ok-push-in-Operation.ensures.items)) in
     record {
-      so_far = gathered before.place now.place before.ended before.unread now.unread ops c.push.new.self.items now.ended meaning over goes_on judged;
+      so_far = gathered before.place now.place before.ended before.unread now.unread ops c.push.new.self.items now.ended meaning over goes_on parsed;
       over = λ e. absurd (cc (e, over));
       on = reads_on_more before mid now c.loop-line.invariant.on c.in_ok-meaning.ensures.on;
       fault = c.in_ok-meaning.ensures.fault ∙ c.loop-line.invariant.fault;
@@ -91,12 +91,12 @@ returns-in-EndsBatch-clause-batch g c =
     let ops = c.loop-line.ops.items in
     let meaning = c.in-Some.meaning in
     let said = rw c.in-Some.is at c.in_ok-meaning.ensures.meaning in
-    let judged = one_line before.place mid.place now.place before.ended before.unread mid.unread now.unread ops mid.ended now.ended meaning said.0
+    let parsed = one_line before.place mid.place now.place before.ended before.unread mid.unread now.unread ops mid.ended now.ended meaning said.0
     c.loop-line.invariant.so_far said.2.2 said.2.1 said.2.0 said.1 in (
-      judged.0,
-      judged.1,
+      parsed.0,
+      parsed.1,
       (
-        after_go before.place now.place judged.0 ops now.ended meaning c.in-EndsBatch.is judged.2,
+        after_go before.place now.place parsed.0 ops now.ended meaning c.in-EndsBatch.is parsed.2,
         was_going before.ended mid.ended (λ e. (c.loop-line.invariant.over e).0) said.2.2,
         said.2.3,
       ),
@@ -110,10 +110,10 @@ returns-in-Faulty-clause-line g c =
     let ops = c.loop-line.ops.items in
     let meaning = c.in-Some.meaning in
     let said = rw c.in-Some.is at c.in_ok-meaning.ensures.meaning in
-    let judged = one_line before.place mid.place now.place before.ended before.unread mid.unread now.unread ops mid.ended now.ended meaning said.0
+    let parsed = one_line before.place mid.place now.place before.ended before.unread mid.unread now.unread ops mid.ended now.ended meaning said.0
     c.loop-line.invariant.so_far said.2.2 said.2.1 said.2.0 said.1 in
     let number = ap (λ (s : SourceView). s.place.lines) c.self-in-loop-line.view_is in
-    (judged.0, judged.1, rw number (after_fault before.place now.place judged.0 ops c.in-Faulty.cause now.ended meaning c.in-Faulty.is judged.2), said.2.3)
+    (parsed.0, parsed.1, rw number (after_fault before.place now.place parsed.0 ops c.in-Faulty.cause now.ended meaning c.in-Faulty.is parsed.2), said.2.3)
 
 pub returns-clause-batch : goal.returns-clause-batch
 returns-clause-batch g c =

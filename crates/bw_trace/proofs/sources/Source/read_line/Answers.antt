@@ -6,7 +6,7 @@ use Rattle.std.specs.Bool.{MatchBool}
 use Rattle.std.specs.Io.KnownBytes.{Consumes}
 use Rattle.bw_trace.specs.Lines.{IsLineOf}
 use Rattle.bw_trace.specs.Sources.{SourceView, IsOver}
-use Rattle.bw_trace.proofs.LinesLemmas.{IsOneLine, one_line_more, ended_line, last_line, long_line, judged_none}
+use Rattle.bw_trace.proofs.LinesLemmas.{IsOneLine, one_line_more, ended_line, last_line, long_line, parsed_none}
 use Rattle.bw_trace.proofs.Reading.{reads_on_none, reads_on_more, takes_none_after}
 use Rattle.bw_trace.proofs.sources.Source.read_line.Goals as goal
 
@@ -41,7 +41,7 @@ returns-in_err-next_byte-clause-cut g c =
       (
         c.loop.line.items,
         takes_none_after c.args.self.now.unread c.loop.self.unread c.next_byte.new.self.remaining c.loop.line.items c.loop.invariant.taken failed.2,
-        judged_none c.loop.line.items c.loop.invariant.one (omega (arith, c.loop.invariant.count, c.loop-test.true)),
+        parsed_none c.loop.line.items c.loop.invariant.one (omega (arith, c.loop.invariant.count, c.loop-test.true)),
       ),
     ))
 

@@ -1,9 +1,8 @@
 use Rattle.std.proofs.Common.{sym, subst}
+use Rattle.std.proofs.lemmas.Result.{IfOk-weaker}
 use Rattle.bw_tree.specs.declared.scans.ReadLeaf.{ReadLeaf}
-use Rattle.bw_tree.specs.Slots.{slot_at}
-use Rattle.bw_tree.specs.Reading.{base_of, writes_over}
+use Rattle.bw_chain.specs.Slots.{slot_at}
 use Rattle.bw_tree.specs.Replaying.{IsReadLeaf}
-use Rattle.bw_tree.specs.Scans.{high_of}
 use Rattle.bw_tree.specs.View.{TreeView}
 use Rattle.bw_tree.proofs.scans.Scans.take_leaf.Goals as goal
 use Rattle.bw_tree.proofs.scans.Scans.take_leaf.Goals.{in-Some, in-None+in_ok-leaf-in-None}
@@ -16,9 +15,4 @@ returns-clause-leaf c =
       | in-Some w ↦ subst (λ (l : ReadLeaf). IsReadLeaf slot l) (sym w.leaf-is) w.in-Some.ensures.leaf
       | in-None+in_ok-leaf-in-None w ↦ subst (λ (l : ReadLeaf). IsReadLeaf slot l) (sym w.leaf-is) (subst (λ (t : TreeView). IsReadLeaf (slot_at t.slots c.args.page) w.in_ok-leaf-in-None.leaf) c.take_kept.ensures.tree w.in_ok-leaf-in-None.ensures.leaf)
     ] in
-    record {
-      low = taken.low;
-      end = taken.end;
-      side = taken.side;
-      replay = c.in_ok-advance.ensures.replay (base_of slot) (high_of slot) (writes_over slot) taken.replay;
-    }
+    IfOk-weaker c.as_of.result _ _ (λ leaf keeps. keeps slot taken) c.as_of.ensures.leaf

@@ -1,6 +1,6 @@
 use Rattle.std.proofs.Common.{◌∙◌, sym, ap, get_or, arith}
-use Rattle.bw_tree.specs.Before.{low_of}
-use Rattle.bw_tree.specs.Reading.{base_of}
+use Rattle.bw_chain.specs.Before.{low_of}
+use Rattle.bw_chain.specs.Reading.{base_of}
 use Rattle.bw_tree.proofs.ContentsLemmas.{found_at}
 use Rattle.bw_tree.proofs.LeafScanLemmas.{leaf_held, leaf_at}
 use Rattle.bw_tree.proofs.tree.Tree.base.Goals as goal

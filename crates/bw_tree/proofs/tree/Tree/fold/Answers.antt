@@ -3,7 +3,7 @@ use Rattle.bw_model.specs.Values.{ValueBytes}
 use Rattle.bw_key.specs.Order.{KeyBytes}
 use Rattle.bw_page.specs.Leaves.{LeafView}
 use Rattle.bw_tree.specs.Folding.{IsFolded, folded_from}
-use Rattle.bw_tree.specs.Levels.{row}
+use Rattle.bw_chain.specs.Levels.{row}
 use Rattle.bw_tree.specs.Making.{AreAbutting, IsOverLeaves, pairs_in}
 use Rattle.bw_tree.specs.View.{TreeView}
 use Rattle.bw_tree.proofs.LeafScanLemmas.{lawful_here}

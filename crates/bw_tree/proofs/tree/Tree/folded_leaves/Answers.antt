@@ -1,6 +1,6 @@
 use Rattle.std.proofs.Common.{◌≡◌, ◌∙◌, ◌+◌, Some, is_some, length, ap, sym, arith}
 use Rattle.std.proofs.lemmas.List.{length-map}
-use Rattle.bw_tree.specs.Chains.{slot_of_word}
+use Rattle.bw_chain.specs.Chains.{slot_of_word}
 use Rattle.bw_tree.specs.Folding.{folded_leaf}
 use Rattle.bw_tree.specs.View.{TreeView}
 use Rattle.bw_tree.proofs.LeafScanLemmas.{lawful_here}

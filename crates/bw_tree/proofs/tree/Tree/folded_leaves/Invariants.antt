@@ -1,5 +1,5 @@
 use Rattle.std.proofs.Common.{length, ◌-◌}
-use Rattle.bw_tree.specs.Levels.{row}
+use Rattle.bw_chain.specs.Levels.{row}
 use Rattle.bw_tree.proofs.FoldLemmas.{AreFolding}
 use Rattle.bw_tree.proofs.tree.Tree.folded_leaves.Given as goal
 

@@ -1,8 +1,7 @@
 use Rattle.std.proofs.Common.{◌∙◌, sym, ap, subst, get_or, arith}
-use Rattle.bw_tree.specs.Before.{low_of}
-use Rattle.bw_tree.specs.Replaying.{IsLeafReplay}
-use Rattle.bw_tree.specs.Scans.{high_of}
-use Rattle.bw_tree.specs.Slots.{Slot, side_of_slot}
+use Rattle.bw_chain.specs.Before.{low_of}
+use Rattle.bw_chain.specs.Scans.{IsLeafReplay, high_of}
+use Rattle.bw_chain.specs.Slots.{Slot, side_of_slot}
 use Rattle.bw_tree.proofs.LeafScanLemmas.{leaf_held, leaf_at}
 use Rattle.bw_tree.proofs.tree.Tree.read_leaf.Goals as goal
 

@@ -1,7 +1,7 @@
 use Rattle.std.proofs.Common.{◌≡◌, ◌∙◌, sym, ap, subst, get_or, arith}
 use Rattle.std.specs.Prelude.{IfOk}
-use Rattle.bw_tree.specs.Reading.{writes_over}
-use Rattle.bw_tree.specs.Slots.{Slot}
+use Rattle.bw_chain.specs.Reading.{writes_over}
+use Rattle.bw_chain.specs.Slots.{Slot}
 use Rattle.bw_delta.specs.History.{pointed_to}
 use Rattle.bw_tree.proofs.LeafScanLemmas.{leaf_held, leaf_at}
 use Rattle.bw_tree.proofs.tree.Tree.writes.Goals as goal

@@ -1,7 +1,0 @@
-use Rattle.std.proofs.Common.{◌-◌, take, drop, get_or}
-use Rattle.bw_answer.specs.declared.points.Point.{Point}
-use Rattle.bw_answer.proofs.Entries.{IsOfKey}
-use Rattle.bw_answer.proofs.points.group_end.Given as goal
-
-abbrev pub invariant-loop-end : goal.invariant-loop-end
-invariant-loop-end l = (d : Point) → IsOfKey (get_or l.points l.start d).key.now (take (l.end - l.start) (drop l.start l.points))

@@ -1,9 +1,0 @@
-use Rattle.std.proofs.Common.{◌-◌}
-use Rattle.bw_answer.proofs.RunLemmas.{run_homes}
-use Rattle.bw_answer.proofs.runs.run_from.Goals as goal
-
-pub returns-clause-homes : goal.returns-clause-homes
-returns-clause-homes c =
-    let tree = c.args.tree.now in
-    run_homes tree.slots tree.levels c.args.points.now c.args.start (c.run_end.result - c.args.start) c.index-points-start.result c.route-page.result _ c.requires.sorted c.requires.start
-    c.route-page.ensures.home c.know_homes.ensures.one c.end.ensures c.run_end.ensures.below

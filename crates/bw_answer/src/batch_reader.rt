@@ -1,0 +1,222 @@
+// What answers the operations of a batch whose writes stand in a tree.
+ghost use Rattle.std.specs.Prelude.{◌≡◌, ◌<◌, ◌++◌, length, IfOk, OnOk, Some, None, is_some, true, slice_get, flat_map};
+ghost use Rattle.std.specs.List.{AllByRecursion, Contains};
+ghost use Rattle.std.specs.Option.{option_copied};
+ghost use Rattle.bw_model.specs.Model.{reply_of};
+ghost use Rattle.bw_delta.specs.History.{pointed_to};
+ghost use Rattle.bw_delta.specs.Rising.{HasRisingStamps};
+ghost use Rattle.bw_tree.specs.Levels.{IsHome, row};
+ghost use Rattle.bw_tree.specs.View.{contents_at};
+ghost use Rattle.bw_group.specs.Points.{entries_of, HasRisingPlaces, IsEntryOf, IsScanOf};
+ghost use Rattle.bw_model.specs.Model.{key_of};
+ghost use Rattle.bw_answer.specs.Parts.{IsPartOf, places_in};
+ghost use Rattle.bw_answer.specs.Replies.{answers_to, point_places, ArePointsOf, IsReadBy};
+ghost use Rattle.bw_model.specs.Model.{IsReplyAt};
+
+use crate::parts::Part;
+use crate::write_groups::{group_of, writes_by_key};
+use bw_delta::{Reading, Write};
+use bw_group::{Point, group_end, run_from};
+use bw_key::Memory;
+use bw_memory::Alloc;
+use bw_model::{Op, Reply, Value};
+use bw_tree::{PageId, Scans, Tree};
+use rayon::prelude::*;
+use std::marker::Model;
+use std::thread::Threads;
+
+/// Answers the operations of a batch by reading a tree in which its writes stand: as of the stamp of an operation the
+/// tree has the map that the operations before it leave.
+#[derive(Drop)]
+pub(crate) struct BatchReader<'a> {
+    pub(crate) tree: &'a Tree,
+    pub(crate) ops: &'a [Op],
+    pub(crate) base: u64,
+}
+
+impl<'a> Model for BatchReader<'a> {
+    ghost use Rattle.bw_answer.specs.Replies.{IsReadInTurn, ReaderView};
+
+    ghost Value = { ReaderView };
+
+    ghost view = { λ b. record { tree = b.tree.now; ops = b.ops.now; base = b.base } };
+
+    ghost invariant = { λ b. IsReadInTurn (record { tree = b.tree.now; ops = b.ops.now; base = b.base }) };
+}
+
+/// The reply to the operation at a place of a batch.
+#[derive(Drop)]
+pub(crate) struct Answer {
+    pub(crate) place: usize,
+    pub(crate) reply: Reply,
+}
+
+impl<'a> BatchReader<'a> {
+    /// The answers to the points and scans of each part, in lists of their own. The parts are shared out among threads.
+    pub(crate) fn answer_parts<R: Threads + Sync>(
+        &self,
+        rt: &R,
+        alloc: Alloc,
+        points: &[Point<'_>],
+        scans: &[usize],
+        parts: &[Part],
+    ) -> Result<Vec<Vec<Answer, Alloc>, Alloc>, Memory>
+        requires points { ArePointsOf self.now.ops (entries_of points.now) }
+        requires scans { AllByRecursion (IsScanOf self.now.ops) scans.now }
+        requires within { AllByRecursion (IsPartOf (length points.now) (length scans.now)) parts.now }
+        ensures { let places = flat_map (places_in (point_places points.now) scans.now) parts.now in
+            IfOk result (λ lists. flat_map (λ list. list.items) lists.items ≡ answers_to self.now places) }
+    {
+        parts
+            .par_iter()
+            .with_min_len(1)
+            .map(
+                move |part: &Part| -> Result<Vec<Answer, Alloc>, Memory>
+                    requires { ArePointsOf self.now.ops (entries_of points.now)
+                        × AllByRecursion (IsScanOf self.now.ops) scans.now
+                        × IsPartOf (length points.now) (length scans.now) part.now }
+                    ensures { let places = places_in (point_places points.entry.now) scans.entry.now part.entry.now in
+                        IfOk result (λ answers. answers.items ≡ answers_to self.entry.now places) }
+                { self.answer_part(alloc, points, scans, *part) },
+            )
+            .collect::<Result<Vec<Vec<Answer, Alloc>, Alloc>, Memory>>(rt, alloc)?
+    }
+
+    // The answers to the points and the scans of a part.
+    fn answer_part(
+        &self,
+        alloc: Alloc,
+        points: &[Point<'_>],
+        scans: &[usize],
+        part: Part,
+    ) -> Result<Vec<Answer, Alloc>, Memory>
+        requires points { ArePointsOf self.now.ops (entries_of points.now) }
+        requires scans { AllByRecursion (IsScanOf self.now.ops) scans.now }
+        requires within { IsPartOf (length points.now) (length scans.now) part }
+        ensures { let places = places_in (point_places points.now) scans.now part in
+            IfOk result (λ answers. answers.items ≡ answers_to self.now places) }
+    {
+        let points = &points[part.points.start..part.points.end];
+        let scans = &scans[part.scans.start..part.scans.end];
+        let mut answers = Vec::new(alloc);
+        self.answer_points(alloc, points, &mut answers)?;
+        self.answer_scans(alloc, scans, &mut answers)?;
+        Ok(answers)
+    }
+
+    // Adds the answers to operations on one key each, a run of them for each leaf.
+    fn answer_points(
+        &self,
+        alloc: Alloc,
+        points: &[Point<'_>],
+        answers: &mut Vec<Answer, Alloc>,
+    ) -> Result<(), Memory>
+        requires points { ArePointsOf self.now.ops (entries_of points.now) }
+        ensures { OnOk result (answers.new.items ≡ answers.old.items ++ answers_to self.now (point_places points.now)) }
+    {
+        let mut start = 0;
+        while start < points.len() {
+            let (page, end) = run_from(self.tree, points, start);
+            self.answer_run(alloc, page, &points[start..end], answers)?;
+            start = end;
+        }
+        Ok(())
+    }
+
+    // Adds the answers to operations on the keys of one leaf.
+    fn answer_run(
+        &self,
+        alloc: Alloc,
+        page: PageId,
+        points: &[Point<'_>],
+        answers: &mut Vec<Answer, Alloc>,
+    ) -> Result<(), Memory>
+        requires leaf { Contains (row self.now.tree.levels 0) page }
+        requires homes { let tree = self.now.tree in
+            AllByRecursion (λ e. IsHome tree.slots tree.levels e.0 page) (entries_of points.now) }
+        requires points { ArePointsOf self.now.ops (entries_of points.now) }
+        ensures { OnOk result (answers.new.items ≡ answers.old.items ++ answers_to self.now (point_places points.now)) }
+    {
+        self.tree.know_homes();
+        let leaf = self.tree.base(page);
+        let found = self.tree.writes(alloc, page)?;
+        let writes = writes_by_key(alloc, &found)?;
+        let mut start = 0;
+        while start < points.len() {
+            let end = group_end(points, start);
+            let key = points[start].key;
+            let group = &points[start..end];
+            self.answer_group(leaf.find(key), group_of(&writes, key), group, answers)?;
+            start = end;
+        }
+        Ok(())
+    }
+
+    // Adds the answers to operations on one key, in the order of the batch, by the value and the writes that the tree
+    // has there.
+    fn answer_group<'b>(
+        &self,
+        start: Option<&'b Value>,
+        writes: &'b [&'b Write],
+        points: &[Point<'_>],
+        answers: &mut Vec<Answer, Alloc>,
+    ) -> Result<(), Memory>
+        requires stamps { HasRisingStamps 0 (pointed_to writes.now) }
+        requires reads { let is_read = IsReadBy self.now.tree (option_copied start) (pointed_to writes.now) in
+            AllByRecursion (λ e. is_read e.0) (entries_of points.now) }
+        requires entries { AllByRecursion (IsEntryOf self.now.ops) (entries_of points.now) }
+        requires rising { HasRisingPlaces 0 (entries_of points.now) }
+        ensures { OnOk result (answers.new.items ≡ answers.old.items ++ answers_to self.now (point_places points.now)) }
+    {
+        let mut reading = Reading::new(start, writes);
+        for point in points {
+            let place = point.place;
+            reading.advance(self.base + place as u64);
+            let reply = op_at(self.ops, place).reply_at(reading.value())?;
+            answers.push(Answer { place, reply })?;
+        }
+        Ok(())
+    }
+
+    // Adds the answers to scans. They are in the order of the batch, so the stamps of the reads rise.
+    fn answer_scans(
+        &self,
+        alloc: Alloc,
+        scans: &[usize],
+        answers: &mut Vec<Answer, Alloc>,
+    ) -> Result<(), Memory>
+        requires { AllByRecursion (IsScanOf self.now.ops) scans.now }
+        ensures { OnOk result (answers.new.items ≡ answers.old.items ++ answers_to self.now scans.now) }
+    {
+        let mut reading = Scans::new(alloc, self.tree);
+        for scan in scans {
+            let place = *scan;
+            let stamp = self.base + place as u64;
+            let reply = scan_reply(&mut reading, op_at(self.ops, place), stamp)?;
+            answers.push(Answer { place, reply })?;
+        }
+        Ok(())
+    }
+}
+
+// The reply to a scan as of a stamp.
+fn scan_reply(scans: &mut Scans<'_>, op: &Op, stamp: u64) -> Result<Reply, Memory>
+    requires { key_of op.now ≡ None }
+    ensures tree { scans.new.tree ≡ scans.old.tree }
+    ensures reply { IfOk result (λ reply. reply ≡ reply_of op.now (contents_at scans.old.tree stamp)) }
+{
+    let pairs = match op {
+        Op::Scan { from, to, most } => scans.scan(from, to.as_ref(), *most, stamp)?,
+        Op::Rscan { from, to, most } => scans.scan_back(from, to.as_ref(), *most, stamp)?,
+        _ => unreachable!(),
+    };
+    Ok(Reply::Pairs(pairs))
+}
+
+// The operation at a place of a batch.
+fn op_at(ops: &[Op], place: usize) -> &Op
+    requires { place < length ops.now }
+    ensures { slice_get ops.now place ≡ Some result.now }
+{
+    &ops[place]
+}

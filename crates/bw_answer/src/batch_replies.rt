@@ -1,0 +1,102 @@
+// The replies to a batch.
+ghost use Rattle.std.specs.Prelude.{◌≡◌, ◌+◌, ◌<◌, ◌≤◌, ◌^◌, length, IfOk, flat_map};
+ghost use Rattle.std.specs.List.{AllByRecursion};
+ghost use Rattle.bw_model.specs.Model.{replies_of};
+ghost use Rattle.bw_tree.specs.View.{contents_at};
+ghost use Rattle.bw_answer.specs.Replies.{HasContentsInTurn, with_answers};
+
+use crate::batch_reader::{Answer, BatchReader};
+use crate::parts::{count_parts, parts};
+use bw_group::Grouping;
+use bw_key::Memory;
+use bw_memory::Alloc;
+use bw_model::{Replies, Reply};
+use bw_tree::Tree;
+use std::thread::Threads;
+
+/// The replies to a batch, in its order, by a tree in which its writes stand: as of `base + i` the tree has the map
+/// that the first i operations leave.
+///
+/// A reply depends on the tree as of its operation's stamp alone. So the operations on one key each, grouped by key,
+/// are cut into at most `workers` parts alike in length, and so are the scans; the parts are answered side by side. A
+/// batch of under 2,048 operations on keys and under 128 scans is one part, and starts no thread.
+///
+/// In a part each leaf that has a key of it is searched for once. The writes over it are sorted by key, and each key's
+/// are then passed once, beside the operations on the key. So the cost doesn't depend on how many of them are on one
+/// key. The scans of a part are read one after another, a leaf with writes in an ordered map that is made once
+/// (`Scans`). A leaf that lies in several parts has its writes sorted, or its map made, in each. `Memory` is answered
+/// where a list, a map or a reply finds none, in any part.
+pub fn replies<R: Threads + Sync>(
+    rt: &R,
+    alloc: Alloc,
+    tree: &Tree,
+    base: u64,
+    batch: &Grouping<'_>,
+    workers: u64,
+) -> Result<Replies, Memory>
+    requires reads { HasContentsInTurn tree.now base batch.now.ops }
+    requires fits { base + length batch.now.ops ≤ 2 ^ 40 }
+    ensures { IfOk result (λ replies. replies ≡ replies_of batch.now.ops (contents_at tree.now base)) }
+{
+    let count = count_parts(batch.points().len(), batch.scans().len(), workers);
+    replies_in_parts(rt, alloc, tree, base, batch, count)
+}
+
+/// The replies to a batch, as `replies` gives them, where it is cut into at most so many parts, however few its
+/// operations are. With one part no thread is started.
+pub fn replies_in_parts<R: Threads + Sync>(
+    rt: &R,
+    alloc: Alloc,
+    tree: &Tree,
+    base: u64,
+    batch: &Grouping<'_>,
+    count: usize,
+) -> Result<Replies, Memory>
+    requires reads { HasContentsInTurn tree.now base batch.now.ops }
+    requires fits { base + length batch.now.ops ≤ 2 ^ 40 }
+    requires count { 0 < count }
+    ensures { IfOk result (λ replies. replies ≡ replies_of batch.now.ops (contents_at tree.now base)) }
+{
+    let reader = BatchReader {
+        tree,
+        ops: batch.ops(),
+        base,
+    };
+    let (points, scans) = (batch.points(), batch.scans());
+    let parts = parts(alloc, points.len(), scans.len(), count)?;
+    let lists = reader.answer_parts(rt, alloc, points, scans, &parts)?;
+    let mut replies = absent_replies(alloc, batch.ops().len())?;
+    place_lists(&mut replies, lists);
+    Ok(Replies::from_vec(replies))
+}
+
+// So many replies in whose places those of the batch are to be put.
+fn absent_replies(alloc: Alloc, len: usize) -> Result<Vec<Reply, Alloc>, Memory>
+    ensures { IfOk result (λ replies. length replies.items ≡ len) }
+{
+    let mut replies = Vec::with_capacity(alloc, len)?;
+    for _ in 0..len {
+        replies.push(Reply::Absent)?;
+    }
+    Ok(replies)
+}
+
+// Puts the answers of each list at their places.
+fn place_lists(replies: &mut [Reply], lists: Vec<Vec<Answer, Alloc>, Alloc>)
+    requires { AllByRecursion (λ a. a.place < length replies.old) (flat_map (λ list. list.items) lists.items) }
+    ensures { replies.new ≡ with_answers replies.old (flat_map (λ list. list.items) lists.entry.items) }
+{
+    for list in lists {
+        place_answers(replies, list);
+    }
+}
+
+// Puts answers at their places.
+fn place_answers(replies: &mut [Reply], answers: Vec<Answer, Alloc>)
+    requires { AllByRecursion (λ a. a.place < length replies.old) answers.items }
+    ensures { replies.new ≡ with_answers replies.old answers.entry.items }
+{
+    for answer in answers {
+        replies[answer.place] = answer.reply;
+    }
+}

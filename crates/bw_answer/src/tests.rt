@@ -1,3 +1,0 @@
-// Worked examples: that the calls succeed, which no contract says, and each growth of memory refused in turn.
-mod making;
-mod reads;

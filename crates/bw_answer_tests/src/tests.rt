@@ -1,0 +1,5 @@
+// Worked examples: that the calls succeed, which no contract says, and each growth of memory refused in turn.
+mod counts;
+mod homes;
+mod making;
+mod reads;

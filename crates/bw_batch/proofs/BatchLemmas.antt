@@ -1,0 +1,126 @@
+-- A batch on a tree, from its staging to its end.
+use Rattle.std.proofs.Common.{◌≡◌, ℕ, ◌+◌, true, false, List, [], ◌∷◌, length, map, take, Option, Some, None, refl, sym, ap, ◌∙◌, subst, arith}
+use Rattle.std.proofs.lemmas.List.{take_all}
+use Rattle.bw_key.specs.Order.{KeyBytes}
+use Rattle.bw_model.specs.Model.{contents_after}
+use Rattle.bw_model.specs.declared.operations.Op.{Op}
+use Rattle.bw_delta.specs.Batches.{writes_of}
+use Rattle.bw_tree.specs.Before.{low_of}
+use Rattle.bw_tree.specs.Folding.{leaf_ranges}
+use Rattle.bw_tree.specs.Levels.{row}
+use Rattle.bw_tree.specs.Scans.{high_of}
+use Rattle.bw_tree.specs.Slots.{Slot, Free, Gone, Live, slot_at}
+use Rattle.bw_tree.specs.Stages.{accepted, adopted, is_adopted, staged_on, undone}
+use Rattle.bw_tree.specs.Turns.{bare}
+use Rattle.bw_tree.specs.View.{TreeView, StageView, contents_at, contents_with}
+use Rattle.bw_post.specs.Posting.{IsWaiting}
+use Rattle.bw_batch.specs.Stages.{operations_staged}
+
+-- a batch that was staged waits to be posted
+pub staged_waits : (before tree : TreeView) (ops : List Op) → tree ≡ staged_on before ops → IsWaiting tree tree.staged ops
+staged_waits before tree ops is = subst (λ (t : TreeView). IsWaiting t t.staged ops) (sym is) (refl, refl)
+
+module _ (before tree : TreeView) (ops : List Op) (is : tree ≡ staged_on before ops) (reads : (i : ℕ) → contents_with tree (before.next + i) ≡ contents_after (take i ops) (contents_at before before.next)) where
+  next_is : tree.next ≡ before.next
+  next_is = ap (λ (t : TreeView). t.next) is
+
+  -- as of the first stamp of the batch nothing is changed
+  pub first_read : contents_with tree tree.next ≡ contents_at before before.next
+  first_read = ap (contents_with tree) (omega (arith, next_is)) ∙ reads 0
+
+  pub reads_on : (i : ℕ) → contents_with tree (tree.next + i) ≡ contents_after (take i ops) (contents_with tree tree.next)
+  reads_on i = ap (λ n. contents_with tree (n + i)) next_is ∙ reads i ∙ ap (contents_after (take i ops)) (sym first_read)
+
+-- the writes over a page don't move its bounds
+abbrev range_of : Slot → KeyBytes × Option KeyBytes
+range_of page = (low_of page, high_of page)
+
+bare_range : (page : Slot) → range_of (bare page) ≡ range_of page
+bare_range (Live s) = refl
+bare_range (Gone l) = refl
+bare_range Free = refl
+
+-- so leaves that differ in writes alone have the same ranges
+pub same_leaves : (tree after : TreeView) → after.levels ≡ tree.levels → ((p : ℕ) → bare (slot_at after.slots p) ≡ bare (slot_at tree.slots p)) → leaf_ranges after ≡ leaf_ranges tree
+same_leaves tree after levels pages = ap (λ (l : List (List ℕ)). map (λ p. range_of (slot_at after.slots p)) (row l 0)) levels ∙ along (row tree.levels 0)
+  where
+    along : (ps : List ℕ) → map (λ p. range_of (slot_at after.slots p)) ps ≡ map (λ p. range_of (slot_at tree.slots p)) ps
+    along [] = refl
+    along (p ∷ ps) =
+        let here : range_of (slot_at after.slots p) ≡ range_of (slot_at tree.slots p) =
+        sym (bare_range (slot_at after.slots p)) ∙ ap range_of (pages p) ∙ bare_range (slot_at tree.slots p) in
+        let behind = along ps in
+        cc
+
+-- with the batch undone the tree is as before
+pub undone_is : (before tree after : TreeView) (ops : List Op) → before.staged ≡ None → tree ≡ staged_on before ops → undone after after.staged ≡ undone tree tree.staged → undone after after.staged ≡ before
+undone_is before tree after ops none is same =
+    same
+    ∙ ap (λ (t : TreeView). undone t t.staged) is
+    ∙ ap (λ (o : Option StageView). record before { staged = o }) (sym none)
+
+-- an adopted batch is undone like a staged one
+pub same_undone : (tree after : TreeView) (ops : List Op) → IsWaiting tree tree.staged ops → after.root ≡ tree.root → after.next ≡ tree.next → after.staged ≡ adopted tree.staged → undone after after.staged ≡ undone tree tree.staged
+same_undone tree after ops waiting root next staged = ap (undone after) staged ∙ by tree.staged waiting
+  where
+    by : (o : Option StageView) → IsWaiting tree o ops → undone after (adopted o) ≡ undone tree o
+    by None none = absurd none
+    by (Some stage) so =
+        ap (λ (r : ℕ). record after { slots = stage.slots; root = r; levels = stage.levels; heads = stage.heads; records = stage.records; staged = None }) root
+        ∙ ap (λ (n : ℕ). record tree { slots = stage.slots; levels = stage.levels; heads = stage.heads; records = stage.records; next = n; staged = None }) next
+
+pub adopted_now : (tree after : TreeView) (ops : List Op) → IsWaiting tree tree.staged ops → after.staged ≡ adopted tree.staged → is_adopted after.staged ≡ true
+adopted_now tree after ops waiting staged = ap is_adopted staged ∙ by tree.staged waiting
+  where
+    by : (o : Option StageView) → IsWaiting tree o ops → is_adopted (adopted o) ≡ true
+    by None none = absurd none
+    by (Some stage) so = refl
+
+pub same_count : (tree after : TreeView) → after.staged ≡ adopted tree.staged → operations_staged after.staged ≡ operations_staged tree.staged
+same_count tree after staged = ap operations_staged staged ∙ by tree.staged
+  where
+    by : (o : Option StageView) → operations_staged (adopted o) ≡ operations_staged o
+    by None = refl
+    by (Some stage) = refl
+
+-- what a read sees once a batch was adopted
+pub reads_adopted : (tree after : TreeView) (ops : List Op) → after.next ≡ tree.next → ((stamp : ℕ) → contents_at after stamp ≡ contents_with tree stamp) → ((i : ℕ) → contents_with tree (tree.next + i) ≡ contents_after (take i ops) (contents_with tree tree.next)) →
+    (i : ℕ) → contents_at after (after.next + i) ≡ contents_after (take i ops) (contents_at after after.next)
+reads_adopted tree after ops next same reads i =
+    ap (λ n. contents_at after (n + i)) next ∙ same (tree.next + i) ∙ reads i
+    ∙ ap (contents_after (take i ops)) (sym (same tree.next) ∙ ap (contents_at after) (sym next))
+
+pub start_adopted : (tree after : TreeView) → after.next ≡ tree.next → ((stamp : ℕ) → contents_at after stamp ≡ contents_with tree stamp) → contents_at after after.next ≡ contents_with tree tree.next
+start_adopted tree after next same = ap (contents_at after) next ∙ same tree.next
+
+-- an accepted batch
+pub record IsAccepted (before after : TreeView) (ops : List Op) : Type 0 where
+  pub next : after.next ≡ before.next + length ops
+  pub none : after.staged ≡ None
+  pub records : after.records ≡ before.records + length (writes_of before.next ops)
+  pub contents : contents_at after after.next ≡ contents_after ops (contents_at before before.next)
+  pub leaves : leaf_ranges after ≡ leaf_ranges before
+
+pub accepted_as : (before tree now after : TreeView) (ops : List Op) → tree ≡ staged_on before ops → ((i : ℕ) → contents_with tree (before.next + i) ≡ contents_after (take i ops) (contents_at before before.next)) →
+    now.next ≡ tree.next → now.records ≡ tree.records → ((stamp : ℕ) → contents_at now stamp ≡ contents_with tree stamp) → is_adopted now.staged ≡ true → operations_staged now.staged ≡ operations_staged tree.staged → leaf_ranges now ≡ leaf_ranges tree → after ≡ accepted now now.staged →
+    IsAccepted before after ops
+accepted_as before tree now after ops is reads next records same so count leaves accepted_is = by now.staged so count accepted_is
+  where
+    different : false ≡ true → ⊥
+    different e = cc
+
+    by : (o : Option StageView) → is_adopted o ≡ true → operations_staged o ≡ operations_staged tree.staged → after ≡ accepted now o → IsAccepted before after ops
+    by None none count is' = absurd (different none)
+    by (Some stage) adopted count is' =
+        let ops_are : stage.ops ≡ length ops = count ∙ ap (λ (t : TreeView). operations_staged t.staged) is in
+        let now_is : now.next ≡ before.next = next ∙ ap (λ (t : TreeView). t.next) is in
+        let next_is : now.next + stage.ops ≡ before.next + length ops = omega (arith, ops_are, now_is) in
+        record {
+          next = ap (λ (t : TreeView). t.next) is' ∙ next_is;
+          none = ap (λ (t : TreeView). t.staged) is';
+          records = ap (λ (t : TreeView). t.records) is' ∙ records ∙ ap (λ (t : TreeView). t.records) is;
+          contents =
+              ap (λ (t : TreeView). contents_at t t.next) is' ∙ ap (contents_at now) next_is ∙ same (before.next + length ops) ∙ reads (length ops)
+              ∙ ap (λ (l : List Op). contents_after l (contents_at before before.next)) (take_all (length ops) ops (omega arith));
+          leaves = ap leaf_ranges is' ∙ leaves ∙ ap leaf_ranges is;
+        }

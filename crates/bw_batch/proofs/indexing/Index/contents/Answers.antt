@@ -1,6 +1,0 @@
-use Rattle.std.proofs.Common.{rules}
-use Rattle.bw_batch.proofs.ContentsLemmas.{all_pairs}
-use Rattle.bw_batch.proofs.indexing.Index.contents.Goals as goal
-
-pub returns : goal.returns
-returns c = rw (← c.self.view_is) (all_pairs c.pairs_from.result _ _ (search rules) c.pairs_from.ensures)

@@ -1,0 +1,92 @@
+// One batch on a tree: staged, posted, adopted, answered, and then accepted; or undone.
+ghost use Rattle.std.specs.Prelude.{◌≡◌, ℕ, ◌<◌, ◌≤◌, ◌+◌, ◌^◌, true, None, length, take, IfOk, OnOk, OnErr};
+ghost use Rattle.bw_core.specs.Keeping.{pairs_of};
+ghost use Rattle.bw_delta.specs.Batches.{writes_of};
+ghost use Rattle.bw_model.specs.Model.{contents_after, replies_of};
+ghost use Rattle.bw_tree.specs.Folding.{leaf_ranges};
+ghost use Rattle.bw_tree.specs.Stages.{is_adopted, undone};
+ghost use Rattle.bw_tree.specs.View.{contents_at, contents_with, staged_writes};
+ghost use Rattle.bw_post.specs.Posting.{IsWaiting};
+ghost use Rattle.bw_batch.specs.Stages.{operations_staged};
+
+use crate::options::Options;
+use bw_answer::replies;
+use bw_group::Grouping;
+use bw_key::Memory;
+use bw_memory::Alloc;
+use bw_model::{Op, Replies};
+use bw_post::{Gate, Posting, post_all};
+use bw_tree::Tree;
+use std::thread::Threads;
+
+/// The replies to a batch, and how many exchanges its posting lost.
+#[derive(Drop)]
+pub(crate) struct Answered {
+    pub(crate) replies: Replies,
+    pub(crate) lost: u64,
+}
+
+/// Runs a batch on a tree, whose replies are those of one thread that runs its operations in order on an ordered map.
+/// After `Memory` the tree is as before.
+pub(crate) fn run_batch<R: Threads + Sync, G: Gate>(
+    rt: &R,
+    alloc: Alloc,
+    tree: &mut Tree,
+    ops: &[Op],
+    options: &Options,
+    gate: &G,
+) -> Result<Answered, Memory>
+    requires none { tree.old.staged ≡ None }
+    requires fits { tree.old.next + length ops.now ≤ 2 ^ 40 }
+    ensures replies { IfOk result (λ answered. answered.replies ≡ replies_of ops.now (contents_at tree.old tree.old.next)) }
+    ensures lost { IfOk result (λ answered. answered.lost ≤ pairs_of (length (writes_of tree.old.next ops.now))) }
+    ensures contents { OnOk result (contents_at tree.new tree.new.next ≡ contents_after ops.now (contents_at tree.old tree.old.next)) }
+    ensures stamped { OnOk result (tree.new.next ≡ tree.old.next + length ops.now) }
+    ensures recorded { OnOk result (tree.new.records ≡ tree.old.records + length (writes_of tree.old.next ops.now)) }
+    ensures leaves { OnOk result (leaf_ranges tree.new ≡ leaf_ranges tree.old) }
+    ensures none { tree.new.staged ≡ None }
+    ensures err { OnErr result (tree.new ≡ tree.old) }
+{
+    let batch = Grouping::new(alloc, ops)?;
+    tree.stage(ops)?;
+    match answer_staged(rt, alloc, tree, &batch, options, gate) {
+        Ok(answered) => {
+            tree.accept();
+            Ok(answered)
+        }
+        Err(memory) => {
+            tree.undo();
+            Err(memory)
+        }
+    }
+}
+
+// Posts a staged batch, adopts it, and answers each of its operations as of its stamp. What `undo` leaves is the same
+// before and after.
+fn answer_staged<R: Threads + Sync, G: Gate>(
+    rt: &R,
+    alloc: Alloc,
+    tree: &mut Tree,
+    batch: &Grouping<'_>,
+    options: &Options,
+    gate: &G,
+) -> Result<Answered, Memory>
+    requires waiting { IsWaiting tree.old tree.old.staged batch.now.ops }
+    requires reads { (i : ℕ) → contents_with tree.old (tree.old.next + i) ≡ contents_after (take i batch.now.ops) (contents_with tree.old tree.old.next) }
+    requires fits { tree.old.next + length batch.now.ops ≤ 2 ^ 40 }
+    ensures replies { IfOk result (λ answered. answered.replies ≡ replies_of batch.now.ops (contents_with tree.old tree.old.next)) }
+    ensures lost { IfOk result (λ answered. answered.lost ≤ pairs_of (length (staged_writes tree.old.staged))) }
+    ensures contents { OnOk result ((stamp : ℕ) → contents_at tree.new stamp ≡ contents_with tree.old stamp) }
+    ensures recorded { OnOk result (tree.new.records ≡ tree.old.records) }
+    ensures leaves { OnOk result (leaf_ranges tree.new ≡ leaf_ranges tree.old) }
+    ensures next { tree.new.next ≡ tree.old.next }
+    ensures adopted { OnOk result (is_adopted tree.new.staged ≡ true) }
+    ensures count { operations_staged tree.new.staged ≡ operations_staged tree.old.staged }
+    ensures undone { undone tree.new tree.new.staged ≡ undone tree.old tree.old.staged }
+{
+    let (piece, workers) = (options.piece(), options.workers());
+    let Posting { closed, lost } = post_all(rt, alloc, tree, batch, piece, workers, gate)?;
+    tree.adopt(closed);
+    let replies = replies(rt, alloc, tree, tree.next_stamp(), batch, workers)?;
+    Ok(Answered { replies, lost })
+}

@@ -1,0 +1,16 @@
+pub mod WalkLemmas
+pub mod RowLemmas
+pub mod RouteLemmas
+pub mod LevelLemmas
+pub mod ChainLemmas
+pub mod RecordLemmas
+pub mod GrowthLemmas
+pub mod TargetLemmas
+pub mod TurnLemmas
+pub mod ReadingLemmas
+pub mod LeafRowLemmas
+pub mod HomeLemmas
+pub mod EndLemmas
+pub mod MarkLemmas
+pub mod SearchLemmas
+pub mod PageScanLemmas

@@ -1,0 +1,22 @@
+-- The leaf before an end of keys: the one whose range has the keys right below it.
+use Rattle.std.specs.Prelude.{◌≡◌, ℕ, T, List, [], Option}
+use Rattle.std.specs.List.{Contains}
+use Rattle.bw_key.specs.Order.{KeyBytes}
+use Rattle.bw_model.specs.Contents.{is_below_end}
+use Rattle.bw_chain.specs.Slots.{Slot, PageState, Free, Gone, Live, slot_at}
+use Rattle.bw_chain.specs.Levels.{row}
+use Rattle.bw_chain.specs.Scans.{Reaches}
+
+-- where a page's range begins
+abbrev pub low_of : Slot → KeyBytes
+low_of (Live s) = s.low
+low_of (Gone l) = []
+low_of Free = []
+
+-- a leaf that begins below the end and reaches it
+pub record IsBefore (slots : List Slot) (levels : List (List ℕ)) (end : Option KeyBytes) (p : ℕ) : Type 0 where
+  pub in_level : Contains (row levels 0) p
+  pub state : PageState
+  pub is : slot_at slots p ≡ Live state
+  pub starts : T (is_below_end end state.low)
+  pub reaches : Reaches state.high end

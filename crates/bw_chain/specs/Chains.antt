@@ -1,0 +1,166 @@
+-- Chains of deltas over base pages.
+use Rattle.std.specs.Prelude.{◌≡◌, ℕ, ◌-◌, ◌<◌, ◌≤◌, ◌^◌, not, if◌then◌else◌, nat_lt, Option, Some, None}
+use Rattle.std.specs.Prelude.{List, [], ◌∷◌, ◌++◌, length, filter, map, slice_get}
+use Rattle.std.specs.FinMap.{put}
+use Rattle.std.specs.FinMap.Entries.{where_key}
+use Rattle.std.specs.Ordering.{is_lt}
+use Rattle.bw_key.specs.Order.{KeyBytes, key_cmp, key_eq}
+use Rattle.bw_page.specs.declared.pages.Page.{Page}
+use Rattle.bw_page.specs.declared.pages.Page.TheVariants.{Leaf as LeafPage, Inner as InnerPage, Gone as GonePage}
+use Rattle.bw_delta.specs.Writes.{WriteView}
+use Rattle.bw_delta.specs.declared.deltas.Delta.{Delta}
+use Rattle.bw_delta.specs.declared.deltas.Delta.TheVariants.{Put, Split, Absorb, Removed, AddChild, DropChild}
+use Rattle.bw_chain.specs.Walk.{Leads, walked, ended}
+use Rattle.bw_chain.specs.Slots.{Slot, PageState, Body, Pairs, Children, Free, Gone, Live}
+
+-- a base page by itself
+abbrev pub plain : Page → Slot
+plain (LeafPage l) = Live (record { low = l.low; high = l.high; side = l.side; body = Pairs l.pairs [] })
+plain (InnerPage p) = Live (record { low = p.low; high = p.high; side = p.side; body = Children p.level p.children })
+plain (GonePage left) = Gone left
+
+-- base pages by their numbers; a number may be vacant
+abbrev pub Bases : Type 0
+Bases = List (Option Page)
+
+abbrev pub based : Option (Option Page) → Slot
+based None = Free
+based (Some None) = Free
+based (Some (Some page)) = plain page
+
+-- the entries below a key
+abbrev pub below : {X : Type 0} → KeyBytes → List (KeyBytes × X) → List (KeyBytes × X)
+below k es = where_key key_cmp (λ x. is_lt (key_cmp x k)) es
+
+abbrev pub body_written : WriteView → Body → Body
+body_written w (Pairs pairs writes) = Pairs pairs (w ∷ writes)
+body_written w (Children level children) = Children level children
+
+abbrev pub body_below : KeyBytes → Body → Body
+body_below k (Pairs pairs writes) = Pairs (below k pairs) writes
+body_below k (Children level children) = Children level (below k children)
+
+-- the entries of two pages of one kind
+abbrev pub bodies_joined : Body → Body → Body
+bodies_joined (Pairs pairs writes) (Pairs more others) = Pairs (pairs ++ more) writes
+bodies_joined (Pairs pairs writes) (Children level children) = Pairs pairs writes
+bodies_joined (Children level children) (Pairs pairs writes) = Children level children
+bodies_joined (Children level children) (Children other more) = Children level (children ++ more)
+
+abbrev pub body_absorbing : Slot → Body → Body
+body_absorbing (Live s) body = bodies_joined body s.body
+body_absorbing (Gone l) body = body
+body_absorbing Free body = body
+
+abbrev pub body_with_child : KeyBytes → ℕ → Body → Body
+body_with_child k child (Pairs pairs writes) = Pairs pairs writes
+body_with_child k child (Children level children) = Children level (put key_cmp k child children)
+
+abbrev pub body_without_child : KeyBytes → Body → Body
+body_without_child k (Pairs pairs writes) = Pairs pairs writes
+body_without_child k (Children level children) = Children level (filter (λ c. not (key_eq k c.0)) children)
+
+-- a page that stays, with a change
+abbrev pub page_changed : (PageState → PageState) → Slot → Slot
+page_changed f (Live s) = Live (f s)
+page_changed f (Gone l) = Gone l
+page_changed f Free = Free
+
+-- what one delta makes of a page
+abbrev pub change : Bases → Delta → Slot → Slot
+change bases (Put w) slot = page_changed (λ s. record s { body = body_written w s.body }) slot
+change bases (Split k to) slot =
+    page_changed (λ s. record s { high = Some k; side = Some to; body = body_below k s.body }) slot
+change bases (Absorb k base high side) slot =
+    let other = based (slice_get bases base) in
+    page_changed (λ s. record s { high = high; side = side; body = body_absorbing other s.body }) slot
+change bases (Removed left) slot = Gone left
+change bases (AddChild k child) slot = page_changed (λ s. record s { body = body_with_child k child s.body }) slot
+change bases (DropChild k) slot = page_changed (λ s. record s { body = body_without_child k s.body }) slot
+
+-- what deltas, the newest first, make of what lies under them
+abbrev pub changed : Bases → List Delta → Slot → Slot
+changed bases [] slot = slot
+changed bases (d ∷ ds) slot = change bases d (changed bases ds slot)
+
+-- A word below this one names a base page. One from there on names a record, which has a link word.
+abbrev pub floor_word : ℕ
+floor_word = 2 ^ 32
+
+abbrev pub Records : Type 0
+Records = List (Delta × ℕ)
+
+abbrev pub linked_word : Option (Delta × ℕ) → Option ℕ
+linked_word None = None
+linked_word (Some r) = Some r.1
+
+-- what words name
+pub record ChainsView : Type 0 where
+  pub bases : Bases
+  pub records : Records
+
+-- the record that a word names, if it names one
+abbrev pub record_at : Records → ℕ → Option (Delta × ℕ)
+record_at records word = if nat_lt word floor_word then None else slice_get records (word - floor_word)
+
+-- the word that a record's link holds
+abbrev pub link_of : Records → ℕ → Option ℕ
+link_of records word = linked_word (record_at records word)
+
+abbrev pub delta_in : Option (Delta × ℕ) → List Delta → List Delta
+delta_in None ds = ds
+delta_in (Some r) ds = r.0 ∷ ds
+
+-- the deltas of records that words name
+abbrev pub deltas_at : Records → List ℕ → List Delta
+deltas_at records [] = []
+deltas_at records (w ∷ ws) = delta_in (record_at records w) (deltas_at records ws)
+
+-- what a mapping word leads to
+abbrev pub slot_of_word : Bases → Records → ℕ → Slot
+slot_of_word bases records word =
+    let way = walked (link_of records) (length records) word in
+    let base = ended (link_of records) (length records) word in
+    changed bases (deltas_at records way) (based (slice_get bases base))
+
+-- A chain is some writes, then at most one other change, then a base page. No call makes another change than a write
+-- yet; a split is read already.
+abbrev pub IsShaped : List Delta → Type 0
+IsShaped [] = Unit {0}
+IsShaped (Put w ∷ ds) = IsShaped ds
+IsShaped (Split k to ∷ ds) = ds ≡ []
+IsShaped (Absorb k base high side ∷ ds) = ⊥
+IsShaped (Removed left ∷ ds) = ⊥
+IsShaped (AddChild k child ∷ ds) = ⊥
+IsShaped (DropChild k ∷ ds) = ⊥
+
+-- a word leads by links to a base page
+pub record EndsAt (bases : Bases) (records : Records) (word : ℕ) (ws : List ℕ) (e : ℕ) : Type 0 where
+  pub way : Leads (link_of records) word ws e
+  pub short : length ws ≤ length records
+  pub within : e < length bases
+  pub limit : e < floor_word
+  pub shaped : IsShaped (deltas_at records ws)
+
+abbrev pub Ends : Bases → Records → ℕ → Type 0
+Ends bases records word = (ws : List ℕ) × ((e : ℕ) × EndsAt bases records word ws e)
+
+-- the present state of the page whose mapping word this is
+abbrev pub page_at : ChainsView → ℕ → Slot
+page_at chains word = slot_of_word chains.bases chains.records word
+
+-- base pages, and no record
+abbrev pub chains_over : Bases → ChainsView
+chains_over bases = record { bases = bases; records = [] }
+
+-- this word leads to a base page
+abbrev pub IsChain : ChainsView → ℕ → Type 0
+IsChain chains word = Ends chains.bases chains.records word
+
+-- each mapping word leads by links to a base page
+abbrev pub AllEnd : Bases → Records → List ℕ → Type 0
+AllEnd bases records heads = (p word : ℕ) → slice_get heads p ≡ Some word → Ends bases records word
+
+-- the present state of each page, by the words of a mapping table
+abbrev pub slots_of : List ℕ → Bases → Records → List Slot
+slots_of heads bases records = map (slot_of_word bases records) heads

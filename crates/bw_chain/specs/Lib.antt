@@ -1,0 +1,11 @@
+pub mod Walk
+pub mod Slots
+pub mod Chains
+pub mod Records
+pub mod Turns
+pub mod Targets
+pub mod Reading
+pub mod Levels
+pub mod Scans
+pub mod Before
+pub mod Laws

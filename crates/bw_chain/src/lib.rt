@@ -1,0 +1,22 @@
+//! Chains of a Bw-tree: base pages with chains of delta records over them, the present state that a chain makes of a
+//! page, and where a search goes on from it. Identifiers of pages and the mapping table are those of the tree above.
+//!
+//! A mapping word below 2^32 names a base page, and one from there on a delta record.
+#![tactic(auto)]
+
+mod chains;
+mod ends;
+mod laws;
+mod reading;
+mod records;
+mod target;
+mod turn;
+
+pub use chains::{Chains, FLOOR};
+pub use ends::{lower_end, reaches};
+pub use laws::{home_is_one, levels_are_found, way_is_one};
+pub use target::Target;
+pub use turn::Turn;
+
+/// Want of memory.
+pub use bw_key::Memory;

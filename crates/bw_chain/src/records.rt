@@ -1,0 +1,112 @@
+// Records of writes.
+ghost use Rattle.std.specs.Prelude.{◌≡◌, ◌+◌, ◌^◌, ◌≤◌, ◌<◌, ◌++◌, length, is_some, take, OnOk, OnErr};
+ghost use Rattle.bw_delta.specs.Batches.{stamped, write_of, writes_of};
+ghost use Rattle.bw_delta.specs.Writes.{WriteView};
+ghost use Rattle.bw_delta.specs.declared.deltas.Delta.TheVariants.{Put};
+ghost use Rattle.bw_chain.specs.Records.{IsPut, unlinked};
+
+use crate::chains::FLOOR;
+use bw_delta::{Arena, Delta, Write};
+use bw_key::Memory;
+use bw_memory::Alloc;
+use bw_model::Op;
+
+/// A change that is a write.
+pub(crate) fn put_write(delta: &Delta) -> &Write
+    requires { IsPut delta.now }
+    ensures { (w : WriteView) → delta.now ≡ Put w → result.now ≡ w }
+{
+    match delta {
+        Delta::Put(write) => write,
+        _ => unreachable!(),
+    }
+}
+
+/// Appends the writes of a batch, each with its stamp and with no link yet, and with `alloc` for the memory of its key and
+/// value. Room for their records is made at once. After `Memory` the records are as before.
+pub(crate) fn append_writes(
+    alloc: Alloc,
+    arena: &mut Arena,
+    ops: &[Op],
+    base: u64,
+) -> Result<(), Memory>
+    requires fits { base + length ops.now ≤ 2 ^ 40 }
+    requires few { length arena.old.records ≤ 2 ^ 32 }
+    ensures ok { OnOk result (arena.new.records ≡ arena.old.records ++ unlinked (writes_of base ops.now)) }
+    ensures err { OnErr result (arena.new.records ≡ arena.old.records) }
+    ensures few { length arena.new.records ≤ 2 ^ 32 }
+{
+    arena.reserve(count_writes(ops))?;
+    let before = arena.len();
+    let appended = append_all(alloc, arena, ops, base);
+    if appended.is_err() {
+        arena.truncate(before);
+    }
+    appended
+}
+
+// Appends the writes of a batch, or some of them.
+fn append_all(alloc: Alloc, arena: &mut Arena, ops: &[Op], base: u64) -> Result<(), Memory>
+    requires fits { base + length ops.now ≤ 2 ^ 40 }
+    requires few { length arena.old.records ≤ 2 ^ 32 }
+    ensures ok { OnOk result (arena.new.records ≡ arena.old.records ++ unlinked (writes_of base ops.now)) }
+    ensures others { take (length arena.old.records) arena.new.records ≡ arena.old.records }
+    ensures few { length arena.new.records ≤ 2 ^ 32 }
+{
+    for (place, op) in ops.iter().enumerate() {
+        append_op(alloc, arena, op, base + place as u64)?;
+    }
+    Ok(())
+}
+
+// Appends what an operation writes.
+fn append_op(alloc: Alloc, arena: &mut Arena, op: &Op, stamp: u64) -> Result<(), Memory>
+    requires few { length arena.old.records ≤ 2 ^ 32 }
+    ensures ok { OnOk result (arena.new.records ≡ arena.old.records ++ unlinked (stamped stamp (write_of op.now))) }
+    ensures err { OnErr result (arena.new.records ≡ arena.old.records) }
+    ensures few { length arena.new.records ≤ 2 ^ 32 }
+{
+    if let Some(write) = Write::from_op(alloc, op, stamp)? {
+        make_room(arena)?;
+        arena.append(Delta::Put(write), 0);
+    }
+    Ok(())
+}
+
+// Makes room for one more record, where there may be one.
+fn make_room(arena: &mut Arena) -> Result<(), Memory>
+    ensures records { arena.new.records ≡ arena.old.records }
+    ensures ok { OnOk result ((0 < arena.new.room) × (length arena.new.records < 2 ^ 32)) }
+{
+    if arena.len() as u64 >= FLOOR {
+        return Err(Memory);
+    }
+    arena.reserve(1)
+}
+
+// How many of the operations write.
+fn count_writes(ops: &[Op]) -> usize
+    ensures { result ≡ length (writes_of 0 ops.now) }
+{
+    let mut count = 0;
+    for op in ops {
+        if is_write(op) {
+            count += 1;
+        }
+    }
+    count
+}
+
+// Whether an operation writes.
+fn is_write(op: &Op) -> bool
+    ensures { result ≡ is_some (write_of op.now) }
+{
+    match op {
+        Op::Get(_) | Op::Scan { .. } | Op::Rscan { .. } => false,
+        Op::Insert(_, _)
+        | Op::Upsert(_, _)
+        | Op::Update(_, _)
+        | Op::Delete(_)
+        | Op::SwapIf(_, _, _) => true,
+    }
+}

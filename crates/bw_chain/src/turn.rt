@@ -1,0 +1,88 @@
+// Where a search goes on from a page.
+ghost use Rattle.bw_chain.specs.Chains.{Bases, IsChain, change, page_at, plain};
+ghost use Rattle.bw_chain.specs.Targets.{IsLinked, IsTurnFor, IsWithinFor, StartsFrom};
+ghost use Rattle.bw_chain.specs.Turns.{IsOther};
+
+use crate::chains::Chains;
+use crate::target::Target;
+use bw_delta::Delta;
+use bw_page::{Page, PageId};
+
+/// Where a search goes on from a page.
+#[derive(Clone, Copy, Debug, PartialEq, Eq)]
+pub enum Turn {
+    /// It ends: the page is the leaf that it is for.
+    Here,
+    /// At the right neighbour, past the end of the page's range.
+    Right(PageId),
+    /// At a child.
+    Down(PageId),
+    /// At the left neighbour of a page that was removed.
+    Left(PageId),
+}
+
+impl Chains {
+    /// Where a search goes on from a page, whose range doesn't begin behind what is sought. The chain is walked by its
+    /// links, and a binary search goes through the separators of an inner page. It takes no memory.
+    pub fn turn_at(&self, head: u64, target: Target<'_>) -> Turn
+        requires ends { IsChain self.now head }
+        requires starts { StartsFrom (page_at self.now head) target }
+        requires linked { IsLinked (page_at self.now head) }
+        ensures { IsTurnFor target.entry (page_at self.now head) result }
+    {
+        match self.under_writes(head) {
+            (Some(delta), Some(base)) => turn_over(delta, base, target),
+            (None, Some(base)) => turn_plain(base, target),
+            (_, None) => unreachable!(),
+        }
+    }
+}
+
+// Where it goes on from a changed page.
+fn turn_over(delta: &Delta, base: &Page, target: Target<'_>) -> Turn
+    requires starts { StartsFrom (plain base.now) target }
+    requires other { IsOther delta.now }
+    ensures { (bases : Bases) → IsTurnFor target.entry (change bases delta.now (plain base.now)) result }
+{
+    match delta {
+        Delta::Split { sep, to } => {
+            if !target.lies_from(sep) {
+                return turn_within(base, target);
+            }
+            match base {
+                Page::Gone(left) => Turn::Left(*left),
+                _ => Turn::Right(*to),
+            }
+        }
+        _ => unreachable!(),
+    }
+}
+
+// Where it goes on from a plain base page.
+fn turn_plain(base: &Page, target: Target<'_>) -> Turn
+    requires starts { StartsFrom (plain base.now) target }
+    requires linked { IsLinked (plain base.now) }
+    ensures { IsTurnFor target.entry (plain base.now) result }
+{
+    let next = match base {
+        Page::Leaf(leaf) => target.past(leaf.high(), leaf.side()),
+        Page::Inner(inner) => target.past(inner.high(), inner.side()),
+        Page::Gone(_) => None,
+    };
+    match next {
+        Some(next) => Turn::Right(next),
+        None => turn_within(base, target),
+    }
+}
+
+// Where it goes on from a base page whose range doesn't end before what is sought.
+fn turn_within(base: &Page, target: Target<'_>) -> Turn
+    requires { StartsFrom (plain base.now) target }
+    ensures { IsWithinFor target.entry (plain base.now) result }
+{
+    match base {
+        Page::Leaf(_) => Turn::Here,
+        Page::Inner(inner) => Turn::Down(target.child(inner)),
+        Page::Gone(left) => Turn::Left(*left),
+    }
+}

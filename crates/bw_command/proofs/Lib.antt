@@ -1,0 +1,3 @@
+pub mod JobsLemmas
+pub mod RequestLemmas
+pub mod CommandsLemmas

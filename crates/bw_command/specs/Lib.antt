@@ -1,0 +1,4 @@
+pub mod Limits
+pub mod Jobs
+pub mod CommandLine
+pub mod Commands

@@ -1,0 +1,10 @@
+//! The command line of the program that runs traces on an ordered index: its words, its messages and its exit statuses.
+#![tactic(auto)]
+
+mod command;
+mod messages;
+mod request;
+
+pub use command::run_words;
+pub use messages::{no_memory, no_words};
+pub use request::{Limits, Request, arguments, request_in};

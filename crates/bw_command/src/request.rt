@@ -1,0 +1,215 @@
+// What the words of a command line ask for.
+ghost use Rattle.std.specs.Prelude.{◌≡◌, IfOk, MatchResult, fold, map, option_map, Some, false};
+ghost use Rattle.bw_command.specs.CommandLine.{Asks, IsMadeBy, JobWords, faults_in, file_of, job_named, job_of, limits_of, number_of, number_rule, number_rules, path_of, program_of};
+ghost use Rattle.clap.specs.Words.{HasKind, app_of, found_of, rows_of, rule_of, with_rule};
+
+use bw_batch::{OptionFault, Options};
+use bw_trace::Job;
+use clap::error::Error;
+use clap::{Arg, ArgMatches, Command, value_parser};
+use std::alloc::{AllocError, Global};
+use std::env::{self, Env};
+use std::io;
+
+/// The values of the options, of which some may be out of their ranges.
+#[derive(Clone, Copy, Debug, PartialEq, Eq)]
+pub struct Limits {
+    pub workers: u64,
+    pub piece: u64,
+    pub chain_max: u64,
+    pub page_max: u64,
+    pub page_min: u64,
+    pub batch_max: u64,
+    pub record_max: u64,
+}
+
+impl Limits {
+    ghost use Rattle.std.specs.Prelude.{◌≡◌, MatchResult, None, Some};
+    ghost use Rattle.bw_batch.specs.SettingFaults.{first_fault};
+    ghost use Rattle.bw_command.specs.Limits.{settings_of};
+
+    /// The options with these values, or the first that is out of its range.
+    pub fn options(&self) -> Result<Options, OptionFault>
+        ensures { MatchResult result (λ options. (options ≡ settings_of self.now) × (first_fault (settings_of self.now) ≡ None))
+            (λ fault. first_fault (settings_of self.now) ≡ Some fault) }
+    {
+        Options::new(
+            self.workers,
+            self.piece,
+            self.chain_max,
+            self.page_max,
+            self.page_min,
+            self.batch_max,
+            self.record_max,
+        )
+    }
+}
+
+/// A job on a trace.
+#[derive(Clone, Copy, Debug, PartialEq, Eq)]
+pub struct Request<'a> {
+    pub job: Job,
+    pub limits: Limits,
+    /// The path of the trace, None for standard input.
+    pub file: Option<&'a str>,
+}
+
+static JOBS: [&str; 2] = ["run", "dump"];
+
+const USAGE: &str = "bw_run run [OPTIONS] [FILE]
+       bw_run dump [OPTIONS] [FILE]";
+
+const ABOUT: &str = "Runs a trace of operations on an ordered index from keys to values.";
+
+const AFTER: &str = "A trace has one operation on a line:
+  upsert apple 7      puts the value 7 at the key apple
+  insert apple 7      puts it where the key has none
+  update apple 8      puts it where the key has one
+  swapif apple 8 9    puts 9 where the value is 8
+  get apple           reads the value
+  delete apple        removes the key
+  scan apple pear 10  reads the first 10 pairs from apple on and below pear
+  rscan apple * 10    reads the last 10 pairs from apple on, greatest key first
+  go                  ends a batch: it is run, and its replies are printed
+A line that begins with # is a comment. A key is spelled by letters, digits, _, . and -,
+or by % and hexadecimal digits. Behind a first line `bw 2` values are spelled so too.
+
+So far --workers, --piece and --batch-max alone have an effect.
+
+Try it:
+  printf 'upsert apple 7\\nget apple\\n' | bw_run run
+
+The status is 0 where all went well, 1 where reading, writing or memory failed, 2 for other
+words, 3 at a faulty line, and 4 where a batch was refused.";
+
+/// The words of the command line, the name of the program left out. The error is of the kind `OutOfMemory` or, where a
+/// word is not UTF-8, `InvalidData`.
+pub fn arguments<R: Env + AllocGlobal>(rt: &R) -> io::Result<Vec<String>> {
+    let words = env::args(rt)?.skip(1).collect(rt.alloc())?;
+    Ok(words)
+}
+
+/// What the words ask for, the name of the program left out. The error is a text for the user: what is wrong with the
+/// words, or help or the version where they ask for it.
+pub fn request_in<'a>(global: Global, words: &'a [&'a str]) -> Result<Request<'a>, Error>
+    ensures { (jobs : JobWords) × MatchResult result (Asks jobs (map (λ w. w.now) words.now)) (HasKind (faults_in jobs (map (λ w. w.now) words.now))) }
+{
+    let matches = program(global)?.try_get_matches_from(words)?;
+    Ok(request_of(&matches))
+}
+
+// The request that the arguments' values make.
+fn request_of<'a>(matches: &ArgMatches<'a>) -> Request<'a>
+    ensures { IsMadeBy (rows_of (found_of matches.now)) result }
+{
+    Request {
+        job: job_in(matches),
+        limits: limits_in(matches),
+        file: file_in(matches),
+    }
+}
+
+fn job_in(matches: &ArgMatches<'_>) -> Job
+    ensures { result ≡ job_of (rows_of (found_of matches.now)) }
+{
+    match matches.get_str("JOB") {
+        Some(word) => job_named(word),
+        None => Job::Run,
+    }
+}
+
+fn job_named(word: &str) -> Job
+    ensures { result ≡ job_named (Some word.now) }
+{
+    if word == "dump" { Job::Dump } else { Job::Run }
+}
+
+fn file_in<'a>(matches: &ArgMatches<'a>) -> Option<&'a str>
+    ensures { option_map (λ path. path.now) result ≡ file_of (rows_of (found_of matches.now)) }
+{
+    file_named(matches.get_str("FILE")?)
+}
+
+fn file_named(word: &str) -> Option<&str>
+    ensures { option_map (λ path. path.now) result ≡ path_of (Some word.now) }
+{
+    if word == "-" { None } else { Some(word) }
+}
+
+fn limits_in(matches: &ArgMatches<'_>) -> Limits
+    ensures { result ≡ limits_of (rows_of (found_of matches.now)) }
+{
+    Limits {
+        workers: number_in(matches, "workers"),
+        piece: number_in(matches, "piece"),
+        chain_max: number_in(matches, "chain"),
+        page_max: number_in(matches, "page-max"),
+        page_min: number_in(matches, "page-min"),
+        batch_max: number_in(matches, "batch-max"),
+        record_max: number_in(matches, "record-max"),
+    }
+}
+
+// Each option has a default, so that none is missing; a missing one would be 0.
+fn number_in(matches: &ArgMatches<'_>, id: &str) -> u64
+    ensures { result ≡ number_of id.now (rows_of (found_of matches.now)) }
+{
+    matches.get_one::<u64>(id).unwrap_or(0)
+}
+
+// The command line as clap knows it.
+fn program<'a>(global: Global) -> Result<Command<'a>, AllocError>
+    ensures { IfOk result (λ command. (jobs : JobWords) × (app_of command ≡ program_of jobs)) }
+{
+    let job = Arg::new(global, "JOB")
+        .required(true)
+        .value_parser(JOBS.as_slice())
+        .help(
+            "run prints the reply to each operation; dump prints at the end what the index holds",
+        );
+    let file = Arg::new(global, "FILE")
+        .default_value("-")
+        .help("The trace; - is standard input");
+    let command = Command::new(global, "bw_run")
+        .about(ABOUT)
+        .after_help(AFTER)
+        .version("0.1.0")
+        .override_usage(USAGE)
+        .no_binary_name(true)
+        .arg(job)?
+        .arg(file)?;
+    with_limits(global, command)
+}
+
+fn with_limits<'a>(global: Global, command: Command<'a>) -> Result<Command<'a>, AllocError>
+    ensures { IfOk result (λ with. app_of with ≡ fold with_rule (app_of command.entry) number_rules) }
+{
+    let workers = "How many threads post the writes of a batch, and answer it, 1 to 64";
+    let piece = "How many writes a worker takes at once, 1 to 4096";
+    let chain = "How many writes stand before a leaf's page until they are folded, 1 to 1024";
+    let page_max = "Above how many entries a page is split, 4 to 4096";
+    let page_min = "Below how many entries a page is merged, 0 to half of page-max";
+    let batch_max = "How many operations a batch may have, 1 to 65536";
+    let record_max = "How many writes are kept until all are folded, batch-max to 16777216";
+    command
+        .arg(number(global, "workers", "4", workers))?
+        .arg(number(global, "piece", "64", piece))?
+        .arg(number(global, "chain", "8", chain))?
+        .arg(number(global, "page-max", "64", page_max))?
+        .arg(number(global, "page-min", "16", page_min))?
+        .arg(number(global, "batch-max", "65536", batch_max))?
+        .arg(number(global, "record-max", "1048576", record_max))
+}
+
+// An option whose value is a number.
+fn number<'a>(global: Global, id: &'a str, default: &'a str, help: &'a str) -> Arg<'a>
+    ensures rule { rule_of result ≡ number_rule id.now default.now }
+    ensures local { result.global ≡ false }
+{
+    Arg::new(global, id)
+        .long(id)
+        .value_name("N")
+        .value_parser(value_parser!(u64))
+        .default_value(default)
+        .help(help)
+}

@@ -1,0 +1,15 @@
+// Worked traces through the whole program, over readers and writers in memory: the bytes that it writes, its messages
+// and its statuses, which the contracts state in part.
+mod asker;
+mod commands;
+mod examples;
+mod faults;
+mod files;
+mod help;
+mod hostile;
+mod lines;
+mod memory;
+mod options;
+mod ports;
+mod traces;
+mod words;

@@ -1,0 +1,80 @@
+// Help and the version.
+use super::ports::{Runner, TURNS};
+use bw_command::run_words;
+
+const HELP: &str = "Runs a trace of operations on an ordered index from keys to values.
+
+Usage: bw_run run [OPTIONS] [FILE]
+       bw_run dump [OPTIONS] [FILE]
+
+Arguments:
+  <JOB>   run prints the reply to each operation; dump prints at the end what the index holds [possible values: run, dump]
+  [FILE]  The trace; - is standard input [default: -]
+
+Options:
+      --workers <N>     How many threads post the writes of a batch, and answer it, 1 to 64 [default: 4]
+      --piece <N>       How many writes a worker takes at once, 1 to 4096 [default: 64]
+      --chain <N>       How many writes stand before a leaf's page until they are folded, 1 to 1024 [default: 8]
+      --page-max <N>    Above how many entries a page is split, 4 to 4096 [default: 64]
+      --page-min <N>    Below how many entries a page is merged, 0 to half of page-max [default: 16]
+      --batch-max <N>   How many operations a batch may have, 1 to 65536 [default: 65536]
+      --record-max <N>  How many writes are kept until all are folded, batch-max to 16777216 [default: 1048576]
+  -h, --help            Print help
+  -V, --version         Print version
+
+A trace has one operation on a line:
+  upsert apple 7      puts the value 7 at the key apple
+  insert apple 7      puts it where the key has none
+  update apple 8      puts it where the key has one
+  swapif apple 8 9    puts 9 where the value is 8
+  get apple           reads the value
+  delete apple        removes the key
+  scan apple pear 10  reads the first 10 pairs from apple on and below pear
+  rscan apple * 10    reads the last 10 pairs from apple on, greatest key first
+  go                  ends a batch: it is run, and its replies are printed
+A line that begins with # is a comment. A key is spelled by letters, digits, _, . and -,
+or by % and hexadecimal digits. Behind a first line `bw 2` values are spelled so too.
+
+So far --workers, --piece and --batch-max alone have an effect.
+
+Try it:
+  printf 'upsert apple 7\\nget apple\\n' | bw_run run
+
+The status is 0 where all went well, 1 where reading, writing or memory failed, 2 for other
+words, 3 at a faulty line, and 4 where a batch was refused.
+";
+
+#[test]
+fn help_and_version_are_outputs(rt: HostRuntime) {
+    let runner = Runner::new(&rt, rt.alloc());
+    let commands: [(&[&'static str], &str); 6] = [
+        (&["--version"], "bw_run 0.1.0\n"),
+        (&["-V"], "bw_run 0.1.0\n"),
+        (&["--help"], HELP),
+        (&["-h"], HELP),
+        (&["run", "--help"], HELP),
+        (&["--workers", "0", "--help"], HELP),
+    ];
+    for (words, output) in commands {
+        runner.expect_words(words, "bogus", output, "", 0);
+    }
+}
+
+#[test]
+fn help_that_is_not_taken_cannot_be_written(rt: HostRuntime) {
+    let runner = Runner::new(&rt, rt.alloc());
+    let mut out = runner.sink_failing_at(1);
+    let mut errors = runner.sink();
+    let input = runner.pieces("");
+    let status = run_words(
+        &rt,
+        runner.alloc,
+        &["--help"],
+        input,
+        &mut out,
+        &mut errors,
+        TURNS,
+    );
+    assert_eq!(rt; status, 1);
+    runner.expect_message(&errors, "cannot write");
+}

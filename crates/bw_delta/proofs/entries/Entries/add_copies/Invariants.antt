@@ -1,0 +1,9 @@
+use Rattle.std.proofs.Common.{◌≡◌, ◌++◌, ◌-◌, length, take}
+use Rattle.bw_delta.specs.Entries.{entries_left}
+use Rattle.bw_delta.proofs.entries.Entries.add_copies.Given as goal
+
+abbrev pub invariant-loop : goal.invariant-loop
+invariant-loop l = record {
+  kept : take (length l.fn.read.items) l.read.items ≡ l.fn.read.items;
+  taken : l.read.items ++ take (l.most - l.counter) (entries_left l.self) ≡ l.fn.read.items ++ take l.most (entries_left l.fn.self);
+}

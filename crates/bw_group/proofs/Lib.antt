@@ -1,0 +1,6 @@
+pub mod Lists
+pub mod Entries
+pub mod Groups
+pub mod Wholes
+pub mod RunLemmas
+mod HomeLemmas

@@ -1,0 +1,14 @@
+//! The operations of a batch grouped by key, and by the page of their keys.
+//!
+//! Whoever posts the writes of a batch, or answers its operations, goes through the pages of a tree. Grouped by key the
+//! operations of one page follow one another, so that each page is searched for once.
+#![tactic(auto)]
+
+mod grouping;
+mod homes;
+
+pub use grouping::{Grouping, Point, group_end};
+pub use homes::{find_homes, run_from};
+
+/// Want of memory.
+pub use bw_key::Memory;

@@ -1,3 +1,0 @@
-pub mod JobsLemmas
-pub mod AskingLemmas
-pub mod AnswersLemmas

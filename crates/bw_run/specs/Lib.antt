@@ -1,4 +1,0 @@
-pub mod Settings
-pub mod Jobs
-pub mod CommandLine
-pub mod Answers

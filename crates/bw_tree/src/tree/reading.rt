@@ -1,0 +1,133 @@
+// What is read of a tree: values, scans, and what its leaves have.
+ghost use Rattle.std.specs.Prelude.{◌≡◌, IfOk};
+ghost use Rattle.std.specs.List.{Contains};
+ghost use Rattle.std.specs.Option.{option_copied};
+ghost use Rattle.std.specs.FinMap.{get};
+ghost use Rattle.bw_delta.specs.History.{pointed_to};
+ghost use Rattle.bw_chain.specs.Slots.{slot_at};
+ghost use Rattle.bw_chain.specs.Levels.{row};
+ghost use Rattle.bw_chain.specs.Reading.{writes_over};
+ghost use Rattle.bw_chain.specs.Scans.{IsAfter, high_of};
+ghost use Rattle.bw_chain.specs.Before.{low_of};
+ghost use Rattle.bw_tree.specs.View.{ArePairsUnder, contents_at, first_pairs, last_pairs};
+ghost use Rattle.bw_tree.specs.Replaying.{IsReadLeaf};
+
+use super::Tree;
+use crate::scans::{ReadLeaf, Scans};
+use bw_chain::reaches;
+use bw_delta::{Write, value_as_of};
+use bw_key::{Key, Memory};
+use bw_memory::Alloc;
+use bw_model::{Pairs, Value};
+use bw_page::{Leaf, PageId};
+
+impl Tree {
+    /// The value at a key as of a stamp: what the writes below the stamp leave of the value on the key's base page.
+    ///
+    /// Of the chain of the key's leaf it sorts the writes to the key, and copies the one value that it answers.
+    /// `Memory` is answered where the list or the copy finds none.
+    pub fn value_at(&self, key: &Key, stamp: u64) -> Result<Option<Value>, Memory>
+        ensures { IfOk result (λ value. value ≡ get (contents_at self.now stamp) key.now) }
+    {
+        let page = self.route(key);
+        let head = self.heads[page.0 as usize];
+        let alloc = *self.heads.allocator();
+        let found = self.chains.writes_at(alloc, head, key)?;
+        let start = self.chains.base_value_at(head, key);
+        value_as_of(alloc, start, &found, stamp)
+    }
+
+    /// The writes over a leaf's base page, the newest first: a walk along its chain. `Memory` is answered where the list
+    /// finds none.
+    pub fn writes(&self, alloc: Alloc, page: PageId) -> Result<Vec<&Write, Alloc>, Memory>
+        requires { Contains (row self.now.levels 0) page }
+        ensures { IfOk result (λ writes. pointed_to writes.items ≡ writes_over (slot_at self.now.slots page)) }
+    {
+        self.chains.writes(alloc, self.heads[page.0 as usize])
+    }
+
+    /// The base page of a leaf, which begins where the leaf does and has the pairs under the writes: a walk along the
+    /// leaf's chain, and no more for each key that is then found on it.
+    pub fn base(&self, page: PageId) -> &Leaf
+        requires { Contains (row self.now.levels 0) page }
+        ensures values { ArePairsUnder self.now page result.now.pairs }
+        ensures low { result.now.low ≡ low_of (slot_at self.now.slots page) }
+    {
+        self.chains.base_leaf(self.heads[page.0 as usize])
+    }
+
+    /// Where a leaf's range ends: a walk along its chain.
+    pub fn end(&self, page: PageId) -> Option<&Key>
+        requires { Contains (row self.now.levels 0) page }
+        ensures { option_copied result ≡ high_of (slot_at self.now.slots page) }
+    {
+        self.chains.end(self.heads[page.0 as usize]).0
+    }
+
+    /// The first pairs of a range of keys as of a stamp, in the order of their keys: those from `from` on and below
+    /// `to`, and no more than `most` of them.
+    ///
+    /// From the leaf of `from` on it reads leaf after leaf along the side links, until there are enough pairs or a leaf
+    /// ends the range. A leaf with writes below the stamp is put whole in an ordered map, whatever `most` is; `Scans` does
+    /// so once for many scans. Memory is taken for the pairs that are answered and, for one leaf with writes at a time, for
+    /// lists of the writes and for the map, and none by `most`. `Memory` is answered where a list, a map or a copy finds
+    /// none.
+    pub fn scan_at(
+        &self,
+        from: &Key,
+        to: Option<&Key>,
+        most: u64,
+        stamp: u64,
+    ) -> Result<Pairs, Memory>
+        ensures { IfOk result (λ pairs. pairs ≡ first_pairs self.now from.now (option_copied to.entry) most stamp) }
+    {
+        Scans::once(*self.heads.allocator(), self).scan(from, to, most, stamp)
+    }
+
+    /// The last pairs of a range of keys as of a stamp, the greatest key first: those from `from` on and below `to`,
+    /// and no more than `most` of them.
+    ///
+    /// From the leaf that has the last of the range on it reads leaf after leaf back, until there are enough pairs or a
+    /// leaf begins the range. Side links lead to the right alone, so it searches for each leaf from the root. Else the
+    /// costs are those of `scan_at`. `Memory` is answered where a list, a map or a copy finds none.
+    pub fn rscan_at(
+        &self,
+        from: &Key,
+        to: Option<&Key>,
+        most: u64,
+        stamp: u64,
+    ) -> Result<Pairs, Memory>
+        ensures { IfOk result (λ pairs. pairs ≡ last_pairs self.now from.now (option_copied to.entry) most stamp) }
+    {
+        Scans::once(*self.heads.allocator(), self).scan_back(from, to, most, stamp)
+    }
+
+    /// What a scan reads of a leaf: its bounds, its right neighbour, and its pairs as of stamp 0, which go on to later
+    /// stamps.
+    pub(crate) fn read_leaf(&self, alloc: Alloc, page: PageId) -> Result<ReadLeaf<'_>, Memory>
+        requires { Contains (row self.now.levels 0) page }
+        ensures stamp { IfOk result (λ leaf. leaf.replay.stamp ≡ 0) }
+        ensures leaf { IfOk result (IsReadLeaf (slot_at self.now.slots page)) }
+    {
+        let head = self.heads[page.0 as usize];
+        let (end, side) = self.chains.end(head);
+        Ok(ReadLeaf {
+            low: self.chains.low(head),
+            end,
+            side,
+            replay: self.chains.replay(alloc, head)?,
+        })
+    }
+
+    /// The right neighbour of a leaf, where the leaf doesn't reach the end of a range.
+    pub(crate) fn leaf_after(&self, page: PageId, to: Option<&Key>) -> Option<PageId>
+        requires { Contains (row self.now.levels 0) page }
+        ensures { IsAfter (slot_at self.now.slots page) (option_copied to.entry) result }
+    {
+        let (high, side) = self.chains.end(self.heads[page.0 as usize]);
+        if reaches(high, to) {
+            return None;
+        }
+        side
+    }
+}
