@@ -67,6 +67,7 @@ Changes old new ops (Err refusal) = new ≡ old
 -- each batch changes what the one before it left
 abbrev pub ChangesInTurn : IndexView → IndexView → List (List Op) → List (Result Done Refusal) → Type 0
 ChangesInTurn old new [] [] = new ≡ old
-ChangesInTurn old new (ops ∷ batches) (outcome ∷ outcomes) = (between : IndexView) × (Changes old between ops outcome × ChangesInTurn between new batches outcomes)
+ChangesInTurn old new (ops ∷ batches) (outcome ∷ outcomes) = (between : IndexView)
+    × (Changes old between ops outcome × ChangesInTurn between new batches outcomes)
 ChangesInTurn old new [] (outcome ∷ outcomes) = ⊥
 ChangesInTurn old new (ops ∷ batches) [] = ⊥

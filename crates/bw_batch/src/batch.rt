@@ -38,9 +38,11 @@ pub(crate) fn run_batch<R: Threads + Sync, G: Gate>(
 ) -> Result<Answered, Memory>
     requires none { tree.old.staged ≡ None }
     requires fits { tree.old.next + length ops.now ≤ 2 ^ 40 }
-    ensures replies { IfOk result (λ answered. answered.replies ≡ replies_of ops.now (contents_at tree.old tree.old.next)) }
+    ensures replies { IfOk result (λ answered.
+        answered.replies ≡ replies_of ops.now (contents_at tree.old tree.old.next)) }
     ensures lost { IfOk result (λ answered. answered.lost ≤ pairs_of (length (writes_of tree.old.next ops.now))) }
-    ensures contents { OnOk result (contents_at tree.new tree.new.next ≡ contents_after ops.now (contents_at tree.old tree.old.next)) }
+    ensures contents { OnOk result (contents_at tree.new tree.new.next
+        ≡ contents_after ops.now (contents_at tree.old tree.old.next)) }
     ensures stamped { OnOk result (tree.new.next ≡ tree.old.next + length ops.now) }
     ensures recorded { OnOk result (tree.new.records ≡ tree.old.records + length (writes_of tree.old.next ops.now)) }
     ensures leaves { OnOk result (leaf_ranges tree.new ≡ leaf_ranges tree.old) }
@@ -72,9 +74,11 @@ fn answer_staged<R: Threads + Sync, G: Gate>(
     gate: &G,
 ) -> Result<Answered, Memory>
     requires waiting { IsWaiting tree.old tree.old.staged batch.now.ops }
-    requires reads { (i : ℕ) → contents_with tree.old (tree.old.next + i) ≡ contents_after (take i batch.now.ops) (contents_with tree.old tree.old.next) }
+    requires reads { (i : ℕ) → contents_with tree.old (tree.old.next + i)
+        ≡ contents_after (take i batch.now.ops) (contents_with tree.old tree.old.next) }
     requires fits { tree.old.next + length batch.now.ops ≤ 2 ^ 40 }
-    ensures replies { IfOk result (λ answered. answered.replies ≡ replies_of batch.now.ops (contents_with tree.old tree.old.next)) }
+    ensures replies { IfOk result (λ answered.
+        answered.replies ≡ replies_of batch.now.ops (contents_with tree.old tree.old.next)) }
     ensures lost { IfOk result (λ answered. answered.lost ≤ pairs_of (length (staged_writes tree.old.staged))) }
     ensures contents { OnOk result ((stamp : ℕ) → contents_at tree.new stamp ≡ contents_with tree.old stamp) }
     ensures recorded { OnOk result (tree.new.records ≡ tree.old.records) }

@@ -177,7 +177,8 @@ impl Index {
         ensures tidy { IfOk result (λ done. done.tidy ≡ nothing_tidied) }
 
         // An exchange is lost to another write alone.
-        ensures lost { IfOk result (λ done. done.lost ≤ pairs_of (length (writes_of (next_stamp_of self.old) ops.now))) }
+        ensures lost { IfOk result (λ done. done.lost ≤ pairs_of
+            (length (writes_of (next_stamp_of self.old) ops.now))) }
     {
         let most = self.options.batch_max();
         let count = ops.len() as u64;
@@ -201,7 +202,8 @@ impl Index {
         gate: &G,
     ) -> Result<Answered, Memory>
         ensures replies { IfOk result (λ answered. answered.replies ≡ replies_of ops.now (contents_of self.old)) }
-        ensures lost { IfOk result (λ answered. answered.lost ≤ pairs_of (length (writes_of (next_stamp_of self.old) ops.now))) }
+        ensures lost { IfOk result (λ answered.
+            answered.lost ≤ pairs_of (length (writes_of (next_stamp_of self.old) ops.now))) }
         ensures contents { OnOk result (contents_of self.new ≡ contents_after ops.now (contents_of self.old)) }
         ensures refused { OnErr result (self.new ≡ self.old) }
         ensures settings { settings_of self.new ≡ settings_of self.old }
@@ -245,18 +247,22 @@ impl Index {
         gate: &G,
     ) -> Result<Vec<Result<Done, Refusal>, Alloc>, Memory>
         ensures outcomes { IfOk result (λ outcomes.
-            AnswersInTurn (settings_of self.old).batch_max (batches_of batches.now) (contents_of self.old) (outcomes_of outcomes.items)) }
+            AnswersInTurn (settings_of self.old).batch_max (batches_of batches.now) (contents_of self.old)
+            (outcomes_of outcomes.items)) }
         ensures contents { IfOk result (λ outcomes.
-            contents_of self.new ≡ left_in_turn (batches_of batches.now) (contents_of self.old) (outcomes_of outcomes.items)) }
+            contents_of self.new ≡ left_in_turn (batches_of batches.now) (contents_of self.old)
+            (outcomes_of outcomes.items)) }
         ensures none { OnErr result (self.new ≡ self.old) }
 
         // Each outcome tells of tidying and of lost exchanges what `run` does.
         ensures told { IfOk result (λ outcomes. AreCounted (batches_of batches.now) outcomes.items) }
-        ensures stamped { IfOk result (λ outcomes. next_stamp_of self.new ≡ next_stamp_of self.old + answered_in (outcomes_of outcomes.items)) }
+        ensures stamped { IfOk result (λ outcomes.
+            next_stamp_of self.new ≡ next_stamp_of self.old + answered_in (outcomes_of outcomes.items)) }
         ensures settings { settings_of self.new ≡ settings_of self.old }
 
         // From batch to batch the records, and when they are folded, are as `run` leaves them. No leaf's range changes.
-        ensures changes { IfOk result (λ outcomes. ChangesInTurn self.old self.new (batches_of batches.now) outcomes.items) }
+        ensures changes { IfOk result (λ outcomes.
+            ChangesInTurn self.old self.new (batches_of batches.now) outcomes.items) }
         ensures leaves { leaves_of self.new ≡ leaves_of self.old }
     {
         let mut outcomes = Vec::with_capacity(self.alloc, batches.len())?;

@@ -163,4 +163,5 @@ module _ (first : List ℕ) (floor records piece : ℕ) (spares : List (Option �
 
 -- the laws of every board
 abbrev pub OfEachBoard : (List ℕ → ℕ → ℕ → ℕ → List (Option ℕ) → Type 0) → Type 0
-OfEachBoard P = (first : List ℕ) (floor records piece : ℕ) (spares : List (Option ℕ)) → P first floor records piece spares
+OfEachBoard P = (first : List ℕ) (floor records piece : ℕ) (spares : List (Option ℕ)) →
+    P first floor records piece spares

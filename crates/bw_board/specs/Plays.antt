@@ -136,7 +136,16 @@ abbrev pub both_of : Sight → Sight → Sight
 both_of v w = record v { joined = Some (record { left = v.book; right = w.book }); book = joined v.first v.book w.book }
 
 abbrev pub spent_sight : Sight
-spent_sight = record { first = []; floor = 0; records = 0; piece = 0; spares = []; link = 0; joined = None; book = spent }
+spent_sight = record {
+  first = [];
+  floor = 0;
+  records = 0;
+  piece = 0;
+  spares = [];
+  link = 0;
+  joined = None;
+  book = spent;
+}
 
 -- the book of a seat that posted r over the chain s of page p, which the word e ends
 abbrev pub book_after_post : BookView → ℕ → ℕ → ℕ → List ℕ → ℕ → BookView

@@ -102,7 +102,8 @@ impl Board {
         requires piece_fits { piece ≤ 4096 }
         requires spares { length spares.now ≡ length heads.now }
         requires spare_low { (p : ℕ) → (x : ℕ) → slice_index_or spares.now p None ≡ Some x → x < floor }
-        requires spare_new { (p : ℕ) → (x : ℕ) → slice_index_or spares.now p None ≡ Some x → x ≢ slice_index heads.now p }
+        requires spare_new { (p : ℕ) → (x : ℕ) → slice_index_or spares.now p None ≡ Some x →
+            x ≢ slice_index heads.now p }
         ensures first { IfOk result (λ t. t.0.first ≡ heads.now) }
         ensures floor { IfOk result (λ t. t.0.floor ≡ floor) }
         ensures records { IfOk result (λ t. t.0.records ≡ records) }

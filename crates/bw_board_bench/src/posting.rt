@@ -33,7 +33,8 @@ fn post_all(board: &Board, mut seat: Seat, pieces: u64) -> Option<(Seat, Tally)>
     requires board { seat.board ≡ board.now }
     requires page { 0 < length board.now.first }
     requires posted { HasPostedAll seat }
-    ensures { IfSome result (λ t. (t.0.board ≡ board.now) × (t.0.book.width ≡ seat.book.width) × (t.0.book.told ≡ true) × HasPostedAll t.0) }
+    ensures { IfSome result (λ t. (t.0.board ≡ board.now) × (t.0.book.width ≡ seat.book.width) × (t.0.book.told ≡ true)
+        × HasPostedAll t.0) }
 {
     let mut tally = Tally::default();
     for _ in 0..=pieces {
@@ -68,7 +69,8 @@ fn post_by_two<R: Threads + Sync>(
     requires board { seat.board ≡ board.now }
     requires page { 0 < length board.now.first }
     requires posted { HasPostedAll seat }
-    ensures { IfSome result (λ t. (t.0.board ≡ board.now) × (t.0.book.width ≡ seat.book.width) × (t.0.book.told ≡ true) × HasPostedAll t.0) }
+    ensures { IfSome result (λ t. (t.0.board ≡ board.now) × (t.0.book.width ≡ seat.book.width) × (t.0.book.told ≡ true)
+        × HasPostedAll t.0) }
 {
     let (first, second) = board.split(seat).ok()?;
     let (first, second) = join(
@@ -91,7 +93,8 @@ fn post_by_four<R: Threads + Sync>(
     requires board { seat.board ≡ board.now }
     requires page { 0 < length board.now.first }
     requires posted { HasPostedAll seat }
-    ensures { IfSome result (λ t. (t.0.board ≡ board.now) × (t.0.book.width ≡ seat.book.width) × (t.0.book.told ≡ true) × HasPostedAll t.0) }
+    ensures { IfSome result (λ t. (t.0.board ≡ board.now) × (t.0.book.width ≡ seat.book.width) × (t.0.book.told ≡ true)
+        × HasPostedAll t.0) }
 {
     let (first, second) = board.split(seat).ok()?;
     let (first, second) = join(

@@ -90,7 +90,8 @@ file_of values = path_of (first_of (codes "FILE") values)
 -- the number that a text stands for
 abbrev pub number_by : Option Text → ℕ
 number_by None = 0
-number_by (Some text) = if is_unsigned_in 0 18446744073709551615 text then digits_value 10 (without_leading_plus text) else 0
+number_by (Some text) = if is_unsigned_in 0 18446744073709551615 text then digits_value 10 (without_leading_plus text)
+    else 0
 
 abbrev pub number_of : Text → List Row → ℕ
 number_of name values = number_by (one_of name values)

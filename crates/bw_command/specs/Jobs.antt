@@ -25,27 +25,36 @@ IsDone settings job bytes old new summary =
 -- The line of this number is their first faulty one, and the job's texts of the batches before it were written.
 abbrev pub IsFaulty : Settings → Job → List ℕ → Option (List ℕ) → Option (List ℕ) → ℕ → Cause → Type 0
 IsFaulty settings job bytes old new number cause =
-    (outcomes : List Outcome) × IsRun settings.batch_max (trace_from first_place bytes) outcomes (faulty number cause) × Appends old new (batches_text job outcomes)
+    (outcomes : List Outcome) × IsRun settings.batch_max (trace_from first_place bytes) outcomes (faulty number cause)
+    × Appends old new (batches_text job outcomes)
 
 -- Memory ran out: a front of the job's texts of the first batches was written.
 abbrev pub IsOutOfMemory : Settings → Job → List ℕ → Option (List ℕ) → Option (List ℕ) → Type 0
 IsOutOfMemory settings job bytes old new =
-    (outcomes : List Outcome) × ((rest : Trace) × IsRun settings.batch_max (trace_from first_place bytes) outcomes rest) × TakesFront old new (batches_text job outcomes)
+    (outcomes : List Outcome) × ((rest : Trace)
+    × IsRun settings.batch_max (trace_from first_place bytes) outcomes rest)
+    × TakesFront old new (batches_text job outcomes)
 
 -- The input failed or didn't end behind a front of the bytes: the job's texts of the batches that whole lines `go` ended
 -- there were written.
 abbrev pub IsCut : Settings → Job → List ℕ → Option (List ℕ) → Option (List ℕ) → Type 0
 IsCut settings job bytes old new =
     (read : List ℕ) × IsFront read bytes
-    × ((outcomes : List Outcome) × IsRun settings.batch_max (cut_trace_from first_place read) outcomes no_trace × Appends old new (batches_text job outcomes))
+    × ((outcomes : List Outcome) × IsRun settings.batch_max (cut_trace_from first_place read) outcomes no_trace
+    × Appends old new (batches_text job outcomes))
 
 abbrev pub IsJobStatus : ℕ → Type 0
 IsJobStatus status = (status ≡ 0) ⊎ ((status ≡ 1) ⊎ ((status ≡ 3) ⊎ (status ≡ 4)))
 
 -- What the status of a job tells of an input and of what was written. At 1 the output failed, or what was written is
 -- that before the input failed or memory ran out.
-pub record IsJobOutcome (status : ℕ) (settings : Settings) (job : Job) (input old new : Option (List ℕ)) (failures after : ℕ) : Type 0 where
+pub record IsJobOutcome (status : ℕ) (settings : Settings) (job : Job) (input old new : Option (List ℕ))
+    (failures after : ℕ) : Type 0 where
   pub one_of : IsJobStatus status
-  pub done : (status ≡ 0) ⊎ (status ≡ 4) → IfSome input (λ bytes. (summary : Summary) × (status ≡ status_of (Ok summary)) × IsDone settings job bytes old new summary)
-  pub line : status ≡ 3 → IfSome input (λ bytes. (number : ℕ) × (cause : Cause) × IsFaulty settings job bytes old new number cause)
-  pub failed : status ≡ 1 → HasRisenBy 1 failures after ⊎ IfSome input (λ bytes. IsCut settings job bytes old new ⊎ IsOutOfMemory settings job bytes old new)
+  pub done : (status ≡ 0) ⊎ (status ≡ 4) →
+      IfSome input (λ bytes. (summary : Summary) × (status ≡ status_of (Ok summary))
+      × IsDone settings job bytes old new summary)
+  pub line : status ≡ 3 → IfSome input (λ bytes.
+      (number : ℕ) × (cause : Cause) × IsFaulty settings job bytes old new number cause)
+  pub failed : status ≡ 1 → HasRisenBy 1 failures after
+      ⊎ IfSome input (λ bytes. IsCut settings job bytes old new ⊎ IsOutOfMemory settings job bytes old new)

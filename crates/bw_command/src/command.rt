@@ -38,7 +38,8 @@ pub fn run_words<'a, F: Files + AllocGlobal + Threads + Sync, R: Inlet, W: Outle
     errors: &mut E,
     turns: u64,
 ) -> u8
-    ensures answers { (jobs : JobWords) × IsCommandOutcome result jobs (map (λ w. w.now) words.now) (R.remaining input) (W.contents output.old) (W.contents output.new)
+    ensures answers { (jobs : JobWords) × IsCommandOutcome result jobs (map (λ w. w.now) words.now) (R.remaining input)
+        (W.contents output.old) (W.contents output.new)
         (W.failures output.old) (W.failures output.new) }
     ensures most { result ≤ 4 }
 {
@@ -61,7 +62,8 @@ fn run_request<F: Files + Threads + Sync, R: Inlet, W: Outlet, E: Outlet>(
     ensures limits { IfSome (first_fault (settings_of request.now.limits)) (λ _. result ≡ 2) }
     ensures job { IfNone (first_fault (settings_of request.now.limits)) (IsJobStatus result) }
     ensures input { IfNone (first_fault (settings_of request.now.limits)) (IfNone request.now.file
-        (IsJobOutcome result (settings_of request.now.limits) request.now.job (R.remaining input) (W.contents output.old) (W.contents output.new)
+        (IsJobOutcome result (settings_of request.now.limits) request.now.job (R.remaining input)
+        (W.contents output.old) (W.contents output.new)
         (W.failures output.old) (W.failures output.new))) }
     ensures unwritten { result ≡ 2 → W.contents output.new ≡ W.contents output.old }
     ensures most { result ≤ 4 }
@@ -117,7 +119,8 @@ fn run_input<F: Threads + Sync, R: Inlet, W: Outlet, E: Outlet>(
     job: Job,
     turns: u64,
 ) -> u8
-    ensures { IsJobOutcome result options job (R.remaining input) (W.contents output.old) (W.contents output.new) (W.failures output.old) (W.failures output.new) }
+    ensures { IsJobOutcome result options job (R.remaining input) (W.contents output.old) (W.contents output.new)
+        (W.failures output.old) (W.failures output.new) }
 {
     let outcome = run(rt, alloc, input, output, options, job, turns);
     if let Err(fault) = outcome {
@@ -135,11 +138,15 @@ fn run<F: Threads + Sync, R: Inlet, W: Outlet>(
     job: Job,
     turns: u64,
 ) -> Result<Summary, TraceFault>
-    ensures done { IfOk result (λ summary. IfSome (R.remaining input) (λ bytes. IsDone options job bytes (W.contents output.old) (W.contents output.new) summary)) }
+    ensures done { IfOk result (λ summary. IfSome (R.remaining input)
+        (λ bytes. IsDone options job bytes (W.contents output.old) (W.contents output.new) summary)) }
     ensures line { IfErr result (λ fault. IfLine fault (λ number cause. IfSome (R.remaining input) (λ bytes.
         IsFaulty options job bytes (W.contents output.old) (W.contents output.new) number cause))) }
-    ensures cut { IfErr result (λ fault. IsOfInput fault → IfSome (R.remaining input) (λ bytes. IsCut options job bytes (W.contents output.old) (W.contents output.new))) }
-    ensures memory { IsErrOf result TraceFault.Memory → IfSome (R.remaining input) (λ bytes. IsOutOfMemory options job bytes (W.contents output.old) (W.contents output.new)) }
+    ensures cut { IfErr result (λ fault. IsOfInput fault →
+        IfSome (R.remaining input) (λ bytes. IsCut options job bytes (W.contents output.old) (W.contents output.new))) }
+    ensures memory { IsErrOf result TraceFault.Memory →
+        IfSome (R.remaining input) (λ bytes. IsOutOfMemory options job bytes (W.contents output.old)
+        (W.contents output.new)) }
     ensures write { IsErrOf result TraceFault.Write → HasRisenBy 1 (W.failures output.old) (W.failures output.new) }
 {
     let mut source = Source::new(alloc, input, turns)?;
@@ -148,7 +155,8 @@ fn run<F: Threads + Sync, R: Inlet, W: Outlet>(
 
 // Shows a text of clap's: help and the version as an output, and what is wrong with the words as a message.
 fn show<W: Outlet, E: Outlet>(global: Global, error: &Error, output: &mut W, errors: &mut E) -> u8
-    ensures memory { kind_of error.now ≡ ErrorKind.OutOfMemory → (result ≡ 1) × (W.contents output.new ≡ W.contents output.old) }
+    ensures memory { kind_of error.now ≡ ErrorKind.OutOfMemory → (result ≡ 1)
+        × (W.contents output.new ≡ W.contents output.old) }
     ensures shown { (result ≡ 1) ⊎ (result ≡ status_for (kind_of error.now)) }
     ensures unwritten { result ≡ 2 → W.contents output.new ≡ W.contents output.old }
     ensures most { result ≤ 2 }

@@ -30,7 +30,8 @@ impl Limits {
 
     /// The options with these values, or the first that is out of its range.
     pub fn options(&self) -> Result<Options, OptionFault>
-        ensures { MatchResult result (λ options. (options ≡ settings_of self.now) × (first_fault (settings_of self.now) ≡ None))
+        ensures { MatchResult result (λ options.
+            (options ≡ settings_of self.now) × (first_fault (settings_of self.now) ≡ None))
             (λ fault. first_fault (settings_of self.now) ≡ Some fault) }
     {
         Options::new(
@@ -92,7 +93,8 @@ pub fn arguments<R: Env + AllocGlobal>(rt: &R) -> io::Result<Vec<String>> {
 /// What the words ask for, the name of the program left out. The error is a text for the user: what is wrong with the
 /// words, or help or the version where they ask for it.
 pub fn request_in<'a>(global: Global, words: &'a [&'a str]) -> Result<Request<'a>, Error>
-    ensures { (jobs : JobWords) × MatchResult result (Asks jobs (map (λ w. w.now) words.now)) (HasKind (faults_in jobs (map (λ w. w.now) words.now))) }
+    ensures { (jobs : JobWords) × MatchResult result (Asks jobs (map (λ w. w.now) words.now))
+        (HasKind (faults_in jobs (map (λ w. w.now) words.now))) }
 {
     let matches = program(global)?.try_get_matches_from(words)?;
     Ok(request_of(&matches))

@@ -178,7 +178,8 @@ impl Book {
 
     /// Whether this record stands in some chain that the seat saw.
     pub fn has_seen(&self, rec: u64) -> bool
-        ensures { IsTrue result ↔ ((page : ℕ) × (page < length self.now.seen) × (0 < times rec (seen_at self.now page))) }
+        ensures { IsTrue result ↔ ((page : ℕ) × (page < length self.now.seen)
+            × (0 < times rec (seen_at self.now page))) }
     {
         self.seen
             .iter()

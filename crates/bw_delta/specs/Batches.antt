@@ -40,4 +40,5 @@ writes_to key ws = filter (λ w. key_eq key w.key) ws
 -- base + i, over the value before the batch.
 abbrev pub ContentsAreHistory : Type 0
 ContentsAreHistory = (ops : List Op) (m : Contents ValueBytes) (base i : ℕ) (key : KeyBytes) →
-    get (contents_after (take i ops) m) key ≡ history (get m key) (action_at (writes_to key (writes_of base ops))) (base + i)
+    get (contents_after (take i ops) m) key
+    ≡ history (get m key) (action_at (writes_to key (writes_of base ops))) (base + i)

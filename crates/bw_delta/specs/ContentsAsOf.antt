@@ -28,9 +28,11 @@ contents_as_of start writes (suc stamp) = then_written (write_at writes stamp) (
 -- At each key, what was written with stamps from base on is what the batch writes there.
 pub record HoldsBatch (base : ℕ) (ops : List Op) (writes : List WriteView) : Type 0 where
   pub distinct : HasDistinctStamps writes
-  pub same : (key : KeyBytes) (stamp : ℕ) → base ≤ stamp → action_at (writes_to key writes) stamp ≡ action_at (writes_to key (writes_of base ops)) stamp
+  pub same : (key : KeyBytes) (stamp : ℕ) → base ≤ stamp →
+      action_at (writes_to key writes) stamp ≡ action_at (writes_to key (writes_of base ops)) stamp
 
 -- As of base + i the map is the one after the first i operations of the batch, in whatever order its writes stand.
 abbrev pub BatchIsReadInTurn : Type 0
-BatchIsReadInTurn = (start : Contents ValueBytes) (writes : List WriteView) (base : ℕ) (ops : List Op) (i : ℕ) → HoldsBatch base ops writes →
+BatchIsReadInTurn = (start : Contents ValueBytes) (writes : List WriteView) (base : ℕ) (ops : List Op) (i : ℕ) →
+    HoldsBatch base ops writes →
     contents_as_of start writes (base + i) ≡ contents_after (take i ops) (contents_as_of start writes base)

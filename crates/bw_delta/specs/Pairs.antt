@@ -25,6 +25,8 @@ abbrev pub latest_value : List (LeafView ValueBytes) → List WriteView → ℕ 
 latest_value parts writes stamp key = history (value_in_parts parts key) (action_at (writes_to key writes)) stamp
 
 -- the sorted list of the keys of a range that have a value as of the stamp, each with it
-pub record ArePairsAsOf (parts : List (LeafView ValueBytes)) (low : KeyBytes) (high : Option KeyBytes) (writes : List WriteView) (stamp : ℕ) (pairs : List (KeyBytes × ValueBytes)) : Type 0 where
+pub record ArePairsAsOf (parts : List (LeafView ValueBytes)) (low : KeyBytes) (high : Option KeyBytes)
+    (writes : List WriteView) (stamp : ℕ) (pairs : List (KeyBytes × ValueBytes)) : Type 0 where
   pub sorted : T (is_sorted key_cmp pairs)
-  pub values : (key : KeyBytes) → find key_cmp key pairs ≡ (if is_in_range low high key then latest_value parts writes stamp key else None)
+  pub values : (key : KeyBytes) → find key_cmp key pairs
+      ≡ (if is_in_range low high key then latest_value parts writes stamp key else None)

@@ -21,6 +21,8 @@ replayed_value replay stamp key = history (find key_cmp key replay.pairs) (actio
 
 -- at each key below the end, and as of each stamp from its own on, the replay has what the writes make of the value at
 -- the start
-pub record IsReplayOf (start : KeyBytes → Option ValueBytes) (high : Option KeyBytes) (writes : List WriteView) (replay : ReplayView) : Type 0 where
+pub record IsReplayOf (start : KeyBytes → Option ValueBytes) (high : Option KeyBytes) (writes : List WriteView)
+    (replay : ReplayView) : Type 0 where
   pub rising : HasRisingStamps replay.stamp replay.rest
-  pub values : (key : KeyBytes) (stamp : ℕ) → T (is_below_end high key) → replay.stamp ≤ stamp → replayed_value replay stamp key ≡ history (start key) (action_at (writes_to key writes)) stamp
+  pub values : (key : KeyBytes) (stamp : ℕ) → T (is_below_end high key) → replay.stamp ≤ stamp →
+      replayed_value replay stamp key ≡ history (start key) (action_at (writes_to key writes)) stamp

@@ -34,7 +34,10 @@ impl Model for Arena {
 
     ghost Value = { ArenaView };
 
-    ghost view = { λ a. record { records = zip a.deltas.items a.links.items; room = min (vec_capacity a.deltas) (vec_capacity a.links) - length a.deltas.items } };
+    ghost view = { λ a. record {
+      records = zip a.deltas.items a.links.items;
+      room = min (vec_capacity a.deltas) (vec_capacity a.links) - length a.deltas.items;
+    } };
 
     ghost invariant = { λ a. length a.links.items ≡ length a.deltas.items };
 }

@@ -36,7 +36,8 @@ pub fn leaf_as_of(
     stamp: u64,
 ) -> Result<Pairs, Memory>
     requires { HasDistinctStamps (pointed_to writes.now) }
-    ensures { IfOk result (λ pairs. ArePairsAsOf (parts_of parts.now) low.now (option_copied high.entry) (pointed_to writes.now) stamp pairs) }
+    ensures { IfOk result (λ pairs. ArePairsAsOf (parts_of parts.now) low.now (option_copied high.entry)
+        (pointed_to writes.now) stamp pairs) }
 {
     let ordered = in_order(alloc, writes)?;
     let mut values = BTreeMap::new(alloc);
@@ -53,7 +54,8 @@ pub(crate) fn put_parts(
     high: Option<&Key>,
 ) -> Result<(), Memory>
     ensures inside { OnOk result ((q : KeyBytes) → is_in_range low.now (option_copied high.entry) q ≡ true →
-        tree.get key_cmp values.new q ≡ option_or (value_in_parts (parts_of parts.now) q) (tree.get key_cmp values.old q)) }
+        tree.get key_cmp values.new q ≡ option_or (value_in_parts (parts_of parts.now) q)
+        (tree.get key_cmp values.old q)) }
     ensures outside { OnOk result ((q : KeyBytes) → is_in_range low.now (option_copied high.entry) q ≡ false →
         tree.get key_cmp values.new q ≡ tree.get key_cmp values.old q) }
 {
@@ -89,7 +91,8 @@ fn put_pair(
     high: Option<&Key>,
 ) -> Result<(), Memory>
     ensures inside { OnOk result ((q : KeyBytes) → is_in_range low.now (option_copied high.entry) q ≡ true →
-        tree.get key_cmp values.new q ≡ (if key_eq q pair.now.0 then Some pair.now.1 else tree.get key_cmp values.old q)) }
+        tree.get key_cmp values.new q ≡ (if key_eq q pair.now.0 then Some pair.now.1
+        else tree.get key_cmp values.old q)) }
     ensures outside { OnOk result ((q : KeyBytes) → is_in_range low.now (option_copied high.entry) q ≡ false →
         tree.get key_cmp values.new q ≡ tree.get key_cmp values.old q) }
 {
@@ -106,8 +109,11 @@ pub(crate) fn put_writes(
     stamp: u64,
 ) -> Result<usize, Memory>
     requires { HasRisingStamps 0 (pointed_to writes.now) }
-    ensures values { OnOk result ((q : KeyBytes) → tree.get key_cmp values.new q ≡ history (tree.get key_cmp values.old q) (action_at (writes_to q (pointed_to writes.now))) stamp) }
-    ensures rest { IfOk result (λ passed. pointed_to (drop passed writes.now) ≡ from_stamp stamp (pointed_to writes.now)) }
+    ensures values { OnOk result ((q : KeyBytes) →
+        tree.get key_cmp values.new q ≡ history (tree.get key_cmp values.old q)
+        (action_at (writes_to q (pointed_to writes.now))) stamp) }
+    ensures rest { IfOk result (λ passed. pointed_to (drop passed writes.now)
+        ≡ from_stamp stamp (pointed_to writes.now)) }
     ensures bound { IfOk result (λ passed. passed ≤ length writes.now) }
 {
     for (at, write) in writes.iter().enumerate() {
@@ -122,7 +128,8 @@ pub(crate) fn put_writes(
 // Lets a write have its effect.
 fn put_write(values: &mut BTreeMap<Key, Value, Alloc>, write: &Write) -> Result<(), Memory>
     ensures { OnOk result ((q : KeyBytes) → tree.get key_cmp values.new q ≡
-        (if key_eq q write.now.key then effect write.now.action (tree.get key_cmp values.old q) else tree.get key_cmp values.old q)) }
+        (if key_eq q write.now.key then effect write.now.action (tree.get key_cmp values.old q)
+        else tree.get key_cmp values.old q)) }
 {
     let left = copied(write.action.effect(values.get(&write.key)))?;
     set(values, &write.key, left)
@@ -134,7 +141,8 @@ fn set(
     key: &Key,
     value: Option<Value>,
 ) -> Result<(), Memory>
-    ensures { OnOk result ((q : KeyBytes) → tree.get key_cmp values.new q ≡ (if key_eq q key.now then value else tree.get key_cmp values.old q)) }
+    ensures { OnOk result ((q : KeyBytes) →
+        tree.get key_cmp values.new q ≡ (if key_eq q key.now then value else tree.get key_cmp values.old q)) }
 {
     match value {
         Some(value) => {

@@ -36,7 +36,8 @@ impl<'a> Present<'a> {
         parts: &[&'a Leaf],
         high: Option<&Key>,
     ) -> Result<Present<'a>, Memory>
-        ensures { IfOk result (λ present. (q : KeyBytes) → T (is_below_end (option_copied high.entry) q) → find key_cmp q (present_pairs present) ≡ value_in_parts (parts_of parts.now) q) }
+        ensures { IfOk result (λ present. (q : KeyBytes) → T (is_below_end (option_copied high.entry) q) →
+            find key_cmp q (present_pairs present) ≡ value_in_parts (parts_of parts.now) q) }
     {
         if parts.len() == 1 {
             return Ok(Present::OnLeaf(parts[0]));
@@ -46,7 +47,8 @@ impl<'a> Present<'a> {
 
     // The same pairs in a map.
     fn into_map(self, alloc: Alloc) -> Result<BTreeMap<Key, Value, Alloc>, Memory>
-        ensures { IfOk result (λ values. (q : KeyBytes) → find key_cmp q values.entries ≡ find key_cmp q (present_pairs self.entry)) }
+        ensures { IfOk result (λ values. (q : KeyBytes) →
+            find key_cmp q values.entries ≡ find key_cmp q (present_pairs self.entry)) }
     {
         match self {
             Present::OnLeaf(leaf) => map_of(alloc, &[leaf], None),
@@ -62,8 +64,11 @@ impl<'a> Present<'a> {
         stamp: u64,
     ) -> Result<(Present<'a>, usize), Memory>
         requires { HasRisingStamps 0 (pointed_to writes.now) }
-        ensures values { IfOk result (λ put. (q : KeyBytes) → find key_cmp q (present_pairs put.0) ≡ history (find key_cmp q (present_pairs self.entry)) (action_at (writes_to q (pointed_to writes.now))) stamp) }
-        ensures rest { IfOk result (λ put. pointed_to (drop put.1 writes.now) ≡ from_stamp stamp (pointed_to writes.now)) }
+        ensures values { IfOk result (λ put. (q : KeyBytes) →
+            find key_cmp q (present_pairs put.0) ≡ history (find key_cmp q (present_pairs self.entry))
+            (action_at (writes_to q (pointed_to writes.now))) stamp) }
+        ensures rest { IfOk result (λ put. pointed_to (drop put.1 writes.now)
+            ≡ from_stamp stamp (pointed_to writes.now)) }
         ensures bound { IfOk result (λ put. put.1 ≤ length writes.now) }
     {
         let Some(first) = writes.first() else {
@@ -87,7 +92,9 @@ impl<'a> Present<'a> {
     ) -> Result<(), Memory>
         ensures sorted { T (is_sorted key_cmp (present_pairs self.now)) }
         ensures kept { take (length read.old.items) read.new.items ≡ read.old.items }
-        ensures added { OnOk result (read.new.items ≡ read.old.items ++ take most (filter (is_pair_in_range low.now (option_copied high.entry)) (present_pairs self.now))) }
+        ensures added { OnOk result (read.new.items
+            ≡ read.old.items ++ take most (filter (is_pair_in_range low.now (option_copied high.entry))
+            (present_pairs self.now))) }
     {
         let entries = match self {
             Present::OnLeaf(leaf) => Entries::OnLeaf(leaf.between(low, high).iter()),
@@ -106,7 +113,9 @@ impl<'a> Present<'a> {
     ) -> Result<(), Memory>
         ensures sorted { T (is_sorted key_cmp (present_pairs self.now)) }
         ensures kept { take (length read.old.items) read.new.items ≡ read.old.items }
-        ensures added { OnOk result (read.new.items ≡ read.old.items ++ take most (reverse (filter (is_pair_in_range low.now (option_copied high.entry)) (present_pairs self.now)))) }
+        ensures added { OnOk result (read.new.items
+            ≡ read.old.items ++ take most (reverse (filter (is_pair_in_range low.now (option_copied high.entry))
+            (present_pairs self.now)))) }
     {
         let entries = match self {
             Present::OnLeaf(leaf) => Entries::BackOnLeaf(leaf.between(low, high).iter().rev()),
@@ -122,7 +131,8 @@ fn map_of(
     parts: &[&Leaf],
     high: Option<&Key>,
 ) -> Result<BTreeMap<Key, Value, Alloc>, Memory>
-    ensures { IfOk result (λ values. (q : KeyBytes) → T (is_below_end (option_copied high.entry) q) → find key_cmp q values.entries ≡ value_in_parts (parts_of parts.now) q) }
+    ensures { IfOk result (λ values. (q : KeyBytes) → T (is_below_end (option_copied high.entry) q) →
+        find key_cmp q values.entries ≡ value_in_parts (parts_of parts.now) q) }
 {
     let low = Key::new(alloc, &[]).unwrap();
     let mut values = BTreeMap::new(alloc);

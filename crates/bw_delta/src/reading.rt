@@ -76,7 +76,8 @@ fn passed<'a>(
     stamp: u64,
 ) -> (Option<&'a Value>, &'a [&'a Write])
     requires { HasRisingStamps 0 (pointed_to writes.now) }
-    ensures value { option_copied result.0 ≡ history (option_copied start.entry) (action_at (pointed_to writes.now)) stamp }
+    ensures value { option_copied result.0 ≡ history (option_copied start.entry)
+        (action_at (pointed_to writes.now)) stamp }
     ensures rest { pointed_to result.1.now ≡ from_stamp stamp (pointed_to writes.now) }
 {
     let mut value = start;
@@ -101,7 +102,8 @@ pub fn value_as_of(
     stamp: u64,
 ) -> Result<Option<Value>, Memory>
     requires { HasDistinctStamps (pointed_to writes.now) }
-    ensures { IfOk result (λ value. value ≡ history (option_copied start.entry) (action_at (pointed_to writes.now)) stamp) }
+    ensures { IfOk result (λ value. value ≡ history (option_copied start.entry)
+        (action_at (pointed_to writes.now)) stamp) }
 {
     let ordered = in_order(alloc, writes)?;
     let mut reading = Reading::new(start, &ordered);

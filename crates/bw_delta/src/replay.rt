@@ -54,9 +54,14 @@ impl<'a> Model for Replay<'a> {
 
     ghost Value = { ReplayView };
 
-    ghost view = { λ r. record { stamp = r.stamp; pairs = present_pairs r.present; rest = pointed_to (drop r.passed r.writes.items) } };
+    ghost view = { λ r. record {
+      stamp = r.stamp;
+      pairs = present_pairs r.present;
+      rest = pointed_to (drop r.passed r.writes.items);
+    } };
 
-    ghost invariant = { λ r. (r.passed ≤ length r.writes.items) × HasRisingStamps r.stamp (pointed_to (drop r.passed r.writes.items)) };
+    ghost invariant = { λ r. (r.passed ≤ length r.writes.items)
+        × HasRisingStamps r.stamp (pointed_to (drop r.passed r.writes.items)) };
 }
 
 impl<'a> Replay<'a> {
@@ -73,7 +78,8 @@ impl<'a> Replay<'a> {
     ) -> Result<Replay<'a>, Memory>
         requires { HasDistinctStamps (pointed_to writes.now) }
         ensures stamp { IfOk result (λ replay. replay.stamp ≡ 0) }
-        ensures replay { IfOk result (IsReplayOf (value_in_parts (parts_of parts.now)) (option_copied high.entry) (pointed_to writes.now)) }
+        ensures replay { IfOk result (IsReplayOf (value_in_parts (parts_of parts.now)) (option_copied high.entry)
+            (pointed_to writes.now)) }
     {
         Ok(Replay {
             stamp: 0,
@@ -96,7 +102,8 @@ impl<'a> Replay<'a> {
     pub fn advance(self, stamp: u64) -> Result<Replay<'a>, Memory>
         requires { self.stamp ≤ stamp }
         ensures stamp { IfOk result (λ replay. replay.stamp ≡ stamp) }
-        ensures replay { IfOk result (λ replay. (start : KeyBytes → Option ValueBytes) (high : Option KeyBytes) (writes : List WriteView) →
+        ensures replay { IfOk result (λ replay.
+            (start : KeyBytes → Option ValueBytes) (high : Option KeyBytes) (writes : List WriteView) →
             IsReplayOf start high writes self.entry → IsReplayOf start high writes replay) }
     {
         let Replay {
@@ -126,7 +133,9 @@ impl<'a> Replay<'a> {
     ) -> Result<(), Memory>
         ensures sorted { T (is_sorted key_cmp self.now.pairs) }
         ensures kept { take (length read.old.items) read.new.items ≡ read.old.items }
-        ensures added { OnOk result (read.new.items ≡ read.old.items ++ take most (filter (is_pair_in_range low.now (option_copied high.entry)) self.now.pairs)) }
+        ensures added { OnOk result (read.new.items
+            ≡ read.old.items ++ take most (filter (is_pair_in_range low.now
+            (option_copied high.entry)) self.now.pairs)) }
     {
         self.present.add_first(low, high, most, read)
     }
@@ -142,7 +151,9 @@ impl<'a> Replay<'a> {
     ) -> Result<(), Memory>
         ensures sorted { T (is_sorted key_cmp self.now.pairs) }
         ensures kept { take (length read.old.items) read.new.items ≡ read.old.items }
-        ensures added { OnOk result (read.new.items ≡ read.old.items ++ take most (reverse (filter (is_pair_in_range low.now (option_copied high.entry)) self.now.pairs))) }
+        ensures added { OnOk result (read.new.items
+            ≡ read.old.items ++ take most (reverse (filter
+            (is_pair_in_range low.now (option_copied high.entry)) self.now.pairs))) }
     {
         self.present.add_last(low, high, most, read)
     }

@@ -49,7 +49,8 @@ key_of (Rscan from to most) = None
 
 -- the reply to an operation on a key, by any map that has this value there
 abbrev pub IsReplyAt : Op → Option ValueBytes → Reply → Type 0
-IsReplyAt op value reply = (m : Contents ValueBytes) (key : KeyBytes) → key_of op ≡ Some key → get m key ≡ value → reply ≡ reply_of op m
+IsReplyAt op value reply = (m : Contents ValueBytes) (key : KeyBytes) → key_of op ≡ Some key → get m key ≡ value →
+    reply ≡ reply_of op m
 
 -- what an operation leaves
 abbrev pub after : Op → Contents ValueBytes → Contents ValueBytes

@@ -27,7 +27,8 @@ left_by ops m (Err refusal) = m
 -- each batch is answered over what the batches before it left
 abbrev pub AnswersInTurn : ℕ → List (List Op) → Contents ValueBytes → List Outcome → Type 0
 AnswersInTurn most [] m [] = Unit {0}
-AnswersInTurn most (ops ∷ batches) m (outcome ∷ outcomes) = Answers most ops m outcome × AnswersInTurn most batches (left_by ops m outcome) outcomes
+AnswersInTurn most (ops ∷ batches) m (outcome ∷ outcomes) = Answers most ops m outcome
+    × AnswersInTurn most batches (left_by ops m outcome) outcomes
 AnswersInTurn most [] m (outcome ∷ outcomes) = ⊥
 AnswersInTurn most (ops ∷ batches) m [] = ⊥
 

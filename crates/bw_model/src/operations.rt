@@ -93,7 +93,8 @@ impl Op {
     // What it does, without the key and the value that it puts.
     fn verb(&self) -> Verb<'_>
         requires { is_some (key_of self.now) ≡ true }
-        ensures { (before : Option ValueBytes) (reply : Reply) → IsReplyTo result before reply → IsReplyAt self.now before reply }
+        ensures { (before : Option ValueBytes) (reply : Reply) → IsReplyTo result before reply →
+            IsReplyAt self.now before reply }
     {
         match self {
             Op::Get(_) => Verb::Get,
@@ -141,7 +142,8 @@ impl Action {
 
     // What it does, without the value that it puts.
     fn verb(&self) -> Verb<'_>
-        ensures { (before : Option ValueBytes) (reply : Reply) → IsReplyTo result before reply → reply ≡ answer self.now before }
+        ensures { (before : Option ValueBytes) (reply : Reply) → IsReplyTo result before reply →
+            reply ≡ answer self.now before }
     {
         match self {
             Action::Insert(_) => Verb::Insert,

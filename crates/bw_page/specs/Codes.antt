@@ -8,7 +8,8 @@ use Rattle.bw_page.specs.Inners.{InnerView}
 abbrev pub coded_leaf : Coded (LeafView ValueBytes)
 coded_leaf =
     code_by (List ℕ × (Option (List ℕ) × (Option ℕ × List (List ℕ × List ℕ))))
-    (coded× (coded_list coded_ℕ) (coded× (coded_option (coded_list coded_ℕ)) (coded× (coded_option coded_ℕ) (coded_list (coded× (coded_list coded_ℕ) (coded_list coded_ℕ))))))
+    (coded× (coded_list coded_ℕ) (coded× (coded_option (coded_list coded_ℕ))
+    (coded× (coded_option coded_ℕ) (coded_list (coded× (coded_list coded_ℕ) (coded_list coded_ℕ))))))
     (λ l. (l.low, (l.high, (l.side, l.pairs))))
     (λ p. record { low = p.0; high = p.1.0; side = p.1.1.0; pairs = p.1.1.1 })
     (λ _. refl)
@@ -16,7 +17,9 @@ coded_leaf =
 abbrev pub coded_inner : Coded InnerView
 coded_inner =
     code_by (ℕ × (List ℕ × (Option (List ℕ) × (Option ℕ × List (List ℕ × ℕ)))))
-    (coded× coded_ℕ (coded× (coded_list coded_ℕ) (coded× (coded_option (coded_list coded_ℕ)) (coded× (coded_option coded_ℕ) (coded_list (coded× (coded_list coded_ℕ) coded_ℕ))))))
+    (coded× coded_ℕ (coded× (coded_list coded_ℕ)
+    (coded× (coded_option (coded_list coded_ℕ))
+    (coded× (coded_option coded_ℕ) (coded_list (coded× (coded_list coded_ℕ) coded_ℕ))))))
     (λ p. (p.level, (p.low, (p.high, (p.side, p.children)))))
     (λ p. record { level = p.0; low = p.1.0; high = p.1.1.0; side = p.1.1.1.0; children = p.1.1.1.1 })
     (λ _. refl)

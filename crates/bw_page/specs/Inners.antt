@@ -15,7 +15,8 @@ pub record InnerView : Type 0 where
   pub children : List (KeyBytes × ℕ)
 
 -- The separators strictly rise inside the range, from its lower end on. So there is a child.
-pub record IsInner (level : ℕ) (low : KeyBytes) (high : Option KeyBytes) (side : Option ℕ) (children : List (KeyBytes × ℕ)) : Type 0 where
+pub record IsInner (level : ℕ) (low : KeyBytes) (high : Option KeyBytes) (side : Option ℕ)
+    (children : List (KeyBytes × ℕ)) : Type 0 where
   pub raised : 1 ≤ level
   pub page : IsPage low high side children
   pub begins : BeginsAt low children
@@ -34,12 +35,24 @@ pub record IsLastUpto {V : Type 0} (key : KeyBytes) (entries : List (KeyBytes ×
 -- the children from place `keep` on, as the page that begins at the first of their separators
 abbrev pub upper_inner : InnerView → ℕ → InnerView
 upper_inner inner keep =
-    record { level = inner.level; low = first_key (drop keep inner.children); high = inner.high; side = inner.side; children = drop keep inner.children }
+    record {
+      level = inner.level;
+      low = first_key (drop keep inner.children);
+      high = inner.high;
+      side = inner.side;
+      children = drop keep inner.children;
+    }
 
 -- a page and its right neighbour as one
 abbrev pub joined_inner : InnerView → InnerView → InnerView
 joined_inner left right =
-    record { level = left.level; low = left.low; high = right.high; side = right.side; children = left.children ++ right.children }
+    record {
+      level = left.level;
+      low = left.low;
+      high = right.high;
+      side = right.side;
+      children = left.children ++ right.children;
+    }
 
 -- the page with this child at the separator, in place of one that stands there
 abbrev pub with_child : InnerView → KeyBytes → ℕ → InnerView

@@ -12,8 +12,18 @@ pub record LeafView (V : Type 0) : Type 0 where
 
 -- the pairs from place `keep` on, as the leaf that begins at the first of their keys
 abbrev pub upper_leaf : {V : Type 0} → LeafView V → ℕ → LeafView V
-upper_leaf leaf keep = record { low = first_key (drop keep leaf.pairs); high = leaf.high; side = leaf.side; pairs = drop keep leaf.pairs }
+upper_leaf leaf keep = record {
+  low = first_key (drop keep leaf.pairs);
+  high = leaf.high;
+  side = leaf.side;
+  pairs = drop keep leaf.pairs;
+}
 
 -- a leaf and its right neighbour as one
 abbrev pub joined_leaf : {V : Type 0} → LeafView V → LeafView V → LeafView V
-joined_leaf left right = record { low = left.low; high = right.high; side = right.side; pairs = left.pairs ++ right.pairs }
+joined_leaf left right = record {
+  low = left.low;
+  high = right.high;
+  side = right.side;
+  pairs = left.pairs ++ right.pairs;
+}

@@ -12,7 +12,8 @@ pub record BoundsView : Type 0 where
   pub side : Option ℕ
 
 -- Keys strictly rise inside a range that has a key. A right neighbour is there exactly where an upper end is.
-pub record IsPage {V : Type 0} (low : KeyBytes) (high : Option KeyBytes) (side : Option ℕ) (entries : List (KeyBytes × V)) : Type 0 where
+pub record IsPage {V : Type 0} (low : KeyBytes) (high : Option KeyBytes) (side : Option ℕ)
+    (entries : List (KeyBytes × V)) : Type 0 where
   pub sorted : T (is_sorted key_cmp entries)
   pub inside : T (list_all (is_pair_in_range low high) entries)
   pub wide : T (is_below_end high low)

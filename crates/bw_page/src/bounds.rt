@@ -61,7 +61,8 @@ impl Bounds {
 
     /// The right neighbour, where the key is past the end of the range.
     pub(crate) fn past(&self, key: &Key) -> Option<PageId>
-        ensures { MatchOption result (is_below_end self.now.high key.now ≡ true) (λ next. (is_below_end self.now.high key.now ≡ false) × (self.now.side ≡ Some next)) }
+        ensures { MatchOption result (is_below_end self.now.high key.now ≡ true)
+            (λ next. (is_below_end self.now.high key.now ≡ false) × (self.now.side ≡ Some next)) }
     {
         match &self.high {
             Some(high) if *key >= *high => self.side,

@@ -43,7 +43,13 @@ impl Model for Inner {
 
     ghost coded = { coded_inner };
 
-    ghost view = { λ p. record { level = p.level; low = p.bounds.low; high = p.bounds.high; side = p.bounds.side; children = p.children.items } };
+    ghost view = { λ p. record {
+      level = p.level;
+      low = p.bounds.low;
+      high = p.bounds.high;
+      side = p.bounds.side;
+      children = p.children.items;
+    } };
 
     ghost invariant = { λ p. IsInner p.level p.bounds.low p.bounds.high p.bounds.side p.children.items };
 }
@@ -109,7 +115,8 @@ impl Inner {
 
     /// The right neighbour, where the key is past the end of the range: there a search goes on, as in a B-link tree.
     pub fn past(&self, key: &Key) -> Option<PageId>
-        ensures { MatchOption result (is_below_end self.now.high key.now ≡ true) (λ next. (is_below_end self.now.high key.now ≡ false) × (self.now.side ≡ Some next)) }
+        ensures { MatchOption result (is_below_end self.now.high key.now ≡ true)
+            (λ next. (is_below_end self.now.high key.now ≡ false) × (self.now.side ≡ Some next)) }
     {
         self.bounds.past(key)
     }

@@ -45,7 +45,12 @@ impl Model for Leaf {
 
     ghost coded = { coded_leaf };
 
-    ghost view = { λ l. record { low = l.bounds.low; high = l.bounds.high; side = l.bounds.side; pairs = l.pairs.items } };
+    ghost view = { λ l. record {
+      low = l.bounds.low;
+      high = l.bounds.high;
+      side = l.bounds.side;
+      pairs = l.pairs.items;
+    } };
 
     ghost invariant = { λ l. IsPage l.bounds.low l.bounds.high l.bounds.side l.pairs.items };
 }
@@ -126,7 +131,8 @@ impl Leaf {
 
     /// The right neighbour, where the key is past the end of the range: there a search goes on, as in a B-link tree.
     pub fn past(&self, key: &Key) -> Option<PageId>
-        ensures { MatchOption result (is_below_end self.now.high key.now ≡ true) (λ next. (is_below_end self.now.high key.now ≡ false) × (self.now.side ≡ Some next)) }
+        ensures { MatchOption result (is_below_end self.now.high key.now ≡ true)
+            (λ next. (is_below_end self.now.high key.now ≡ false) × (self.now.side ≡ Some next)) }
     {
         self.bounds.past(key)
     }

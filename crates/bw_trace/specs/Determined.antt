@@ -14,7 +14,8 @@ stopped fault = record { batches = []; fault = fault }
 
 -- two runs of one trace that counted no batch as refused as out of memory
 abbrev pub TextsAreDetermined : Type 0
-TextsAreDetermined = (most : ℕ) (trace : Trace) (fault : Option (ℕ × Cause)) (job : Job) (outcomes others : List Outcome)
+TextsAreDetermined = (most : ℕ) (trace : Trace) (fault : Option (ℕ × Cause)) (job : Job)
+    (outcomes others : List Outcome)
     (run : IsRun most trace outcomes (stopped fault)) (other : IsRun most trace others (stopped fault))
     → (summary_of outcomes).memory ≡ 0 → (summary_of others).memory ≡ 0
     → (summary_of outcomes ≡ summary_of others)

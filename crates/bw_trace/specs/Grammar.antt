@@ -47,7 +47,8 @@ number_behind n (b ∷ bs) = number_behind (10 * n + (b - 48)) bs
 
 -- 1 to 20 digits whose number fits in 64 bits
 abbrev pub is_number : List ℕ → Bool
-is_number word = not (length word == 0) && (nat_le (length word) 20 && (list_all is_ascii_digit word && nat_lt (number_behind 0 word) (2 ^ 64)))
+is_number word = not (length word == 0)
+    && (nat_le (length word) 20 && (list_all is_ascii_digit word && nat_lt (number_behind 0 word) (2 ^ 64)))
 
 abbrev pub number_of : List ℕ → Result ℕ Cause
 number_of word = if is_number word then Ok (number_behind 0 word) else Err Number
@@ -138,7 +139,8 @@ meaning_behind place (Some Insert) rest = key_and_value place.version rest >>= �
 meaning_behind place (Some Upsert) rest = key_and_value place.version rest >>= λ p. Ok (Operation (op.Upsert p.0 p.1))
 meaning_behind place (Some Update) rest = key_and_value place.version rest >>= λ p. Ok (Operation (op.Update p.0 p.1))
 meaning_behind place (Some Delete) rest = key_alone rest >>= λ key. Ok (Operation (op.Delete key))
-meaning_behind place (Some SwapIf) rest = key_and_values place.version rest >>= λ p. Ok (Operation (op.SwapIf p.0 p.1 p.2))
+meaning_behind place (Some SwapIf) rest =
+    key_and_values place.version rest >>= λ p. Ok (Operation (op.SwapIf p.0 p.1 p.2))
 meaning_behind place (Some Scan) rest = range_of rest >>= λ r. Ok (Operation (op.Scan r.0 r.1 r.2))
 meaning_behind place (Some Rscan) rest = range_of rest >>= λ r. Ok (Operation (op.Rscan r.0 r.1 r.2))
 meaning_behind place (Some Go) rest = go_of rest
@@ -152,7 +154,8 @@ is_comment (b ∷ bs) = b == 35
 -- the first word says what the others are
 abbrev pub meaning_of_words : Place → List (List ℕ) → Result Meaning Cause
 meaning_of_words place [] = Ok Nothing
-meaning_of_words place (word ∷ rest) = if is_comment word then Ok Nothing else meaning_behind place (keyword_of word) rest
+meaning_of_words place (word ∷ rest) = if is_comment word then Ok Nothing
+    else meaning_behind place (keyword_of word) rest
 
 abbrev pub or_faulty : Result Meaning Cause → Meaning
 or_faulty (Ok meaning) = meaning
@@ -161,7 +164,8 @@ or_faulty (Err cause) = Faulty cause
 -- A line is tested for its length first. One byte 13 at its end is taken away.
 abbrev pub meaning_of : Place → List ℕ → Meaning
 meaning_of place line =
-    if nat_lt line_max (length line) then Faulty LongLine else or_faulty (meaning_of_words place (words_of (strip_carriage_return line)))
+    if nat_lt line_max (length line) then Faulty LongLine
+    else or_faulty (meaning_of_words place (words_of (strip_carriage_return line)))
 
 -- the version that a line leaves
 abbrev pub version_behind : Version → Meaning → Version

@@ -29,15 +29,18 @@ line_max = 8192
 -- The lines that can be parsed where the input is cut off: the whole ones, and behind them an unfinished one that is
 -- too long already.
 abbrev pub parsed_lines_of : List ℕ → List (List ℕ)
-parsed_lines_of bytes = whole_lines_of bytes ++ (if nat_lt line_max (length (unfinished_of bytes)) then unfinished_of bytes ∷ [] else [])
+parsed_lines_of bytes = whole_lines_of bytes
+    ++ (if nat_lt line_max (length (unfinished_of bytes)) then unfinished_of bytes ∷ [] else [])
 
 -- A line at the front of the bytes, and what is behind it. Of a line that is too long, a part that is so too.
 abbrev pub IsFirstLine : List ℕ → List ℕ → List ℕ → Type 0
 IsFirstLine all line rest =
     (length line ≤ line_max → lines_of all ≡ line ∷ lines_of rest)
-    × (line_max < length line → (longer : List ℕ) × (more : List (List ℕ)) × (lines_of all ≡ longer ∷ more) × (line_max < length longer))
+    × (line_max < length line → (longer : List ℕ) × (more : List (List ℕ)) × (lines_of all ≡ longer ∷ more)
+    × (line_max < length longer))
 
 -- The line that was read with these bytes, whatever follows them. At the end of the input nothing does.
 pub record IsLineOf (line read : List ℕ) (ended : Bool) : Type 0 where
   pub first : (more : List ℕ) → (ended ≡ true → more ≡ []) → IsFirstLine (read ++ more) line more
-  pub whole : ended ≡ false → length line ≤ line_max → (more : List ℕ) → parsed_lines_of (read ++ more) ≡ line ∷ parsed_lines_of more
+  pub whole : ended ≡ false → length line ≤ line_max → (more : List ℕ) →
+      parsed_lines_of (read ++ more) ≡ line ∷ parsed_lines_of more

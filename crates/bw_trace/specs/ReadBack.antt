@@ -18,4 +18,5 @@ NumbersAreReadBack = (n : ℕ) → n < 2 ^ 64 → number_of (decimal n) ≡ Ok n
 
 -- a value of version 1, which is the text of a number, and is printed as that text
 abbrev pub NumberValuesAreReadBack : Type 0
-NumberValuesAreReadBack = (n : ℕ) → n < 2 ^ 64 → (spelled (decimal n) ≡ decimal n) × (value_of First (decimal n) ≡ Ok (decimal n))
+NumberValuesAreReadBack = (n : ℕ) → n < 2 ^ 64 → (spelled (decimal n) ≡ decimal n)
+    × (value_of First (decimal n) ≡ Ok (decimal n))

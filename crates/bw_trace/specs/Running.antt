@@ -17,7 +17,8 @@ pub record IsRun (most : ℕ) (trace : Trace) (outcomes : List Outcome) (rest : 
   pub answered : AnswersInTurn most batches empty outcomes
 
 -- what its batches left in the index
-abbrev pub left_by_run : {most : ℕ} {trace : Trace} {outcomes : List Outcome} {rest : Trace} → IsRun most trace outcomes rest → Contents ValueBytes
+abbrev pub left_by_run : {most : ℕ} {trace : Trace} {outcomes : List Outcome} {rest : Trace} →
+    IsRun most trace outcomes rest → Contents ValueBytes
 left_by_run {outcomes = outcomes} run = left_in_turn run.batches empty outcomes
 
 -- why a batch was refused, if it was

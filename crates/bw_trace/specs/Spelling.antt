@@ -23,4 +23,5 @@ spelled bytes = if is_plain_word bytes then bytes else 37 ∷ encode_lower bytes
 -- own, where all are plain.
 abbrev pub spelled_by : List ℕ → Option (List ℕ)
 spelled_by [] = None
-spelled_by (b ∷ bs) = if b == 37 then result_ok (decode_of bs) else if is_plain_word (b ∷ bs) then Some (b ∷ bs) else None
+spelled_by (b ∷ bs) = if b == 37 then result_ok (decode_of bs) else if is_plain_word (b ∷ bs) then Some (b ∷ bs)
+    else None

@@ -60,11 +60,15 @@ cut_trace_from place bytes = trace_of_lines at_cut place [] (parsed_lines_of byt
 
 -- The bytes that were read stand for these batches, from one place to another, and whatever follows them is read from
 -- there on. At the end of the input nothing does.
-pub record StandFor (before : Place) (read : List ℕ) (batches : List (List Op)) (after : Place) (ended : Bool) : Type 0 where
+pub record StandFor (before : Place) (read : List ℕ) (batches : List (List Op)) (after : Place)
+    (ended : Bool) : Type 0 where
   pub alone : trace_from before read ≡ behind batches no_trace
-  pub further : ended ≡ false → (more : List ℕ) → trace_from before (read ++ more) ≡ behind batches (trace_from after more)
-  pub cut : ended ≡ false → (more : List ℕ) → cut_trace_from before (read ++ more) ≡ behind batches (cut_trace_from after more)
+  pub further : ended ≡ false → (more : List ℕ) →
+      trace_from before (read ++ more) ≡ behind batches (trace_from after more)
+  pub cut : ended ≡ false → (more : List ℕ) →
+      cut_trace_from before (read ++ more) ≡ behind batches (cut_trace_from after more)
 
 -- the bytes that were read have a first faulty line, whatever follows them
 abbrev pub IsFaultyAt : Place → List ℕ → ℕ → Cause → Bool → Type 0
-IsFaultyAt before read number cause ended = (more : List ℕ) → (ended ≡ true → more ≡ []) → trace_from before (read ++ more) ≡ faulty number cause
+IsFaultyAt before read number cause ended =
+    (more : List ℕ) → (ended ≡ true → more ≡ []) → trace_from before (read ++ more) ≡ faulty number cause

@@ -46,13 +46,18 @@ pub fn run_trace<T: Threads + Sync, R: Inlet, W: Outlet>(
 ) -> Result<Summary, TraceFault>
     // At the end the reader told its end, what was read is a trace without a fault, and the texts of the outcomes of
     // its batches and of what these left were written.
-    ensures done { IfOk result (λ summary. (read : List ℕ) × Consumes source.old.unread source.new.unread read × IsAtEnd source.new.unread
-        × ((outcomes : List Outcome) × ((run : IsRun options.batch_max (trace_from source.old.place read) outcomes no_trace)
-        × (summary ≡ summary_of outcomes) × Appends (W.contents out.old) (W.contents out.new) (batches_text job outcomes ++ end_text job (left_by_run run))))) }
+    ensures done { IfOk result (λ summary. (read : List ℕ) × Consumes source.old.unread source.new.unread read
+        × IsAtEnd source.new.unread
+        × ((outcomes : List Outcome) × ((run : IsRun options.batch_max
+        (trace_from source.old.place read) outcomes no_trace)
+        × (summary ≡ summary_of outcomes) × Appends (W.contents out.old) (W.contents out.new)
+        (batches_text job outcomes ++ end_text job (left_by_run run))))) }
     ensures ended { OnOk result (source.new.has_ended ≡ true) }
     // At a faulty line, it is the first, and the texts of the batches before it were written.
-    ensures line { source.old.fault ≡ None → IfErr result (λ fault. IfLine fault (λ number cause. IfSome source.old.unread (λ all.
-        (outcomes : List Outcome) × IsRun options.batch_max (trace_from source.old.place all) outcomes (faulty number cause)
+    ensures line { source.old.fault ≡ None →
+        IfErr result (λ fault. IfLine fault (λ number cause. IfSome source.old.unread (λ all.
+        (outcomes : List Outcome) × IsRun options.batch_max (trace_from source.old.place all) outcomes
+        (faulty number cause)
         × Appends (W.contents out.old) (W.contents out.new) (batches_text job outcomes)))) }
     // Where the input failed or did not end, the texts of the batches that whole lines `go` ended were written.
     ensures cut { source.old.fault ≡ None → IfErr result (λ fault. IsOfInput fault →
@@ -61,12 +66,16 @@ pub fn run_trace<T: Threads + Sync, R: Inlet, W: Outlet>(
         × Appends (W.contents out.old) (W.contents out.new) (batches_text job outcomes))) }
     // Out of memory, a front of the texts of the first batches was written.
     ensures memory { source.old.fault ≡ None → IsErrOf result TraceFault.Memory → IfSome source.old.unread (λ all.
-        (outcomes : List Outcome) × ((rest : Trace) × IsRun options.batch_max (trace_from source.old.place all) outcomes rest)
+        (outcomes : List Outcome) × ((rest : Trace)
+        × IsRun options.batch_max (trace_from source.old.place all) outcomes rest)
         × TakesFront (W.contents out.old) (W.contents out.new) (batches_text job outcomes)) }
     ensures on { ReadsOn source.old source.new }
-    ensures read { source.old.fault ≡ None → IsErrOf result TraceFault.Read → HasRisenBy 1 source.old.failures source.new.failures }
-    ensures write { source.old.fault ≡ None → IsErrOf result TraceFault.Write → HasRisenBy 1 (W.failures out.old) (W.failures out.new) }
-    ensures endless { source.old.fault ≡ None → IsErrOf result TraceFault.Endless → HasRisenBy source.old.turns source.old.calls source.new.calls }
+    ensures read { source.old.fault ≡ None → IsErrOf result TraceFault.Read →
+        HasRisenBy 1 source.old.failures source.new.failures }
+    ensures write { source.old.fault ≡ None → IsErrOf result TraceFault.Write →
+        HasRisenBy 1 (W.failures out.old) (W.failures out.new) }
+    ensures endless { source.old.fault ≡ None → IsErrOf result TraceFault.Endless →
+        HasRisenBy source.old.turns source.old.calls source.new.calls }
 {
     let mut index = Index::new(alloc, options)?;
     source.know_budget();
@@ -88,12 +97,14 @@ fn answer<T: Threads + Sync, W: Outlet>(
     ops: &[Op],
     job: Job,
 ) -> Result<Option<Refusal>, TraceFault>
-    ensures ok { IfOk result (λ refusal. (outcome : Outcome) × Answers (settings_of index.old).batch_max ops.now (contents_of index.old) outcome
+    ensures ok { IfOk result (λ refusal. (outcome : Outcome)
+        × Answers (settings_of index.old).batch_max ops.now (contents_of index.old) outcome
         × (contents_of index.new ≡ left_by ops.now (contents_of index.old) outcome)
         × Appends (W.contents out.old) (W.contents out.new) (batch_text job outcome) × (refusal ≡ refusal_in outcome)) }
     ensures settings { settings_of index.new ≡ settings_of index.old }
     ensures none_failed { OnOk result (W.failures out.new ≡ W.failures out.old) }
-    ensures memory { IsErrOf result TraceFault.Memory → (outcome : Outcome) × Answers (settings_of index.old).batch_max ops.now (contents_of index.old) outcome
+    ensures memory { IsErrOf result TraceFault.Memory → (outcome : Outcome)
+        × Answers (settings_of index.old).batch_max ops.now (contents_of index.old) outcome
         × TakesFront (W.contents out.old) (W.contents out.new) (batch_text job outcome) }
     ensures write { IsErrOf result TraceFault.Write → HasRisenBy 1 (W.failures out.old) (W.failures out.new) }
     ensures faults { IfErr result (λ fault. IsOfWriting fault) }
@@ -110,9 +121,11 @@ fn print_outcome<W: Outlet>(
     outcome: &Result<Done, Refusal>,
     job: Job,
 ) -> Result<(), TraceFault>
-    ensures ok { OnOk result (Appends (W.contents out.old) (W.contents out.new) (batch_text job (outcome_of outcome.now))) }
+    ensures ok { OnOk result (Appends (W.contents out.old) (W.contents out.new)
+        (batch_text job (outcome_of outcome.now))) }
     ensures none_failed { OnOk result (W.failures out.new ≡ W.failures out.old) }
-    ensures memory { IsErrOf result TraceFault.Memory → TakesFront (W.contents out.old) (W.contents out.new) (batch_text job (outcome_of outcome.now)) }
+    ensures memory { IsErrOf result TraceFault.Memory →
+        TakesFront (W.contents out.old) (W.contents out.new) (batch_text job (outcome_of outcome.now)) }
     ensures write { IsErrOf result TraceFault.Write → HasRisenBy 1 (W.failures out.old) (W.failures out.new) }
     ensures faults { IfErr result (λ fault. IsOfWriting fault) }
 {
@@ -132,7 +145,8 @@ fn print_end<W: Outlet>(
     out: &mut W,
     job: Job,
 ) -> Result<(), TraceFault>
-    ensures ok { OnOk result (Appends (W.contents out.old) (W.contents out.new) (end_text job (contents_of index.now))) }
+    ensures ok { OnOk result (Appends (W.contents out.old) (W.contents out.new)
+        (end_text job (contents_of index.now))) }
     ensures none_failed { OnOk result (W.failures out.new ≡ W.failures out.old) }
     ensures memory { IsErrOf result TraceFault.Memory → Appends (W.contents out.old) (W.contents out.new) [] }
     ensures write { IsErrOf result TraceFault.Write → HasRisenBy 1 (W.failures out.old) (W.failures out.new) }

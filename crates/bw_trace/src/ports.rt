@@ -29,8 +29,10 @@ pub trait Inlet: Drop {
     fn read(&mut self, buffer: &mut [u8]) -> Result<usize, Failed>
         ensures bound { IfOk result (λ n. n ≤ length buffer.old) }
         ensures bytes { IfOk result (λ n. Consumes (remaining self.old) (remaining self.new) (take n buffer.new)) }
-        ensures end { IfOk result (λ n. n ≡ 0 → 0 < length buffer.old → IsAtEnd (remaining self.new) × (has_ended self.new ≡ true)) }
-        ensures told { IfOk result (λ n. has_ended self.new ≡ (has_ended self.old || (n == 0 && nat_lt 0 (length buffer.old)))) }
+        ensures end { IfOk result (λ n. n ≡ 0 → 0 < length buffer.old → IsAtEnd (remaining self.new)
+            × (has_ended self.new ≡ true)) }
+        ensures told { IfOk result (λ n. has_ended self.new
+            ≡ (has_ended self.old || (n == 0 && nat_lt 0 (length buffer.old)))) }
         ensures not_told { OnErr result (has_ended self.new ≡ has_ended self.old) }
         ensures none_lost { OnErr result (Keeps (remaining self.old) (remaining self.new)) }
         ensures calls { HasRisenBy 1 (calls self.old) (calls self.new) }

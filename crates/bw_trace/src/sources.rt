@@ -68,9 +68,12 @@ impl<R: Inlet> Source<R> {
     /// 64-bit number.
     pub fn new(alloc: Alloc, reader: R, turns: u64) -> Result<Source<R>, Memory>
         ensures unread { IfOk result (λ source. source.unread ≡ R.remaining reader) }
-        ensures fresh { IfOk result (λ source. (source.place ≡ first_place) × (source.fault ≡ None) × (source.ended ≡ false)) }
+        ensures fresh { IfOk result (λ source. (source.place ≡ first_place) × (source.fault ≡ None)
+            × (source.ended ≡ false)) }
         ensures turns { IfOk result (λ source. source.turns ≡ min turns (2 ^ 52 - 1)) }
-        ensures reader { IfOk result (λ source. (source.calls ≡ R.calls reader) × (source.failures ≡ R.failures reader) × (source.has_ended ≡ R.has_ended reader)) }
+        ensures reader { IfOk result (λ source.
+            (source.calls ≡ R.calls reader) × (source.failures ≡ R.failures reader)
+            × (source.has_ended ≡ R.has_ended reader)) }
     {
         let buffer = vec![in alloc; 0u8; CHUNK]?;
         Ok(Source {
@@ -100,13 +103,15 @@ impl<R: Inlet> Source<R> {
     fn next_byte(&mut self) -> Result<Option<u8>, TraceFault>
         ensures byte { IfOk result (λ next. MatchOption next
             (Consumes self.old.unread self.new.unread [] × IsOver self.new)
-            (λ b. Consumes self.old.unread self.new.unread (b ∷ []) × (self.old.ended ≡ false) × (self.new.ended ≡ false))) }
+            (λ b. Consumes self.old.unread self.new.unread (b ∷ []) × (self.old.ended ≡ false)
+            × (self.new.ended ≡ false))) }
         ensures falls { IfOk result (λ next. IfSome next (λ _. self.new.budget < self.old.budget)) }
         ensures over { self.old.ended ≡ true → result ≡ Ok None }
         ensures on { ReadsOn self.old self.new }
         ensures same { (self.new.place ≡ self.old.place) × (self.new.fault ≡ self.old.fault) }
         ensures none_failed { OnOk result (self.new.failures ≡ self.old.failures) }
-        ensures faults { IfErr result (λ fault. IsOfInput fault × (self.old.ended ≡ false) × Consumes self.old.unread self.new.remaining []) }
+        ensures faults { IfErr result (λ fault.
+            IsOfInput fault × (self.old.ended ≡ false) × Consumes self.old.unread self.new.remaining []) }
         ensures read { IsErrOf result TraceFault.Read → HasRisenBy 1 self.old.failures self.new.failures }
         ensures endless { IsErrOf result TraceFault.Endless → self.new.turns ≡ 0 }
     {
@@ -143,7 +148,8 @@ impl<R: Inlet> Source<R> {
     fn read_line(&mut self, line: &mut Vec<u8, Alloc>) -> Result<bool, TraceFault>
         requires { line.old.items ≡ [] }
         ensures line { IfOk result (λ found. MatchBool found
-            ((read : List ℕ) × Consumes self.old.unread self.new.unread read × IsLineOf line.new.items read self.new.ended
+            ((read : List ℕ) × Consumes self.old.unread self.new.unread read
+            × IsLineOf line.new.items read self.new.ended
             × (self.new.ended ≡ true → IsOver self.new))
             (Consumes self.old.unread self.new.unread [] × IsOver self.new)) }
         ensures falls { result ≡ Ok true → self.new.budget < self.old.budget }
@@ -181,14 +187,17 @@ impl<R: Inlet> Source<R> {
     // Reads a line and parses it. None at the end.
     fn next_line(&mut self, line: &mut Vec<u8, Alloc>) -> Result<Option<Meaning>, TraceFault>
         requires { self.old.place.lines + self.old.budget < 2 ^ 64 }
-        ensures meaning { IfOk result (λ next. (read : List ℕ) × Consumes self.old.unread self.new.unread read × MatchOption next
+        ensures meaning { IfOk result (λ next. (read : List ℕ) × Consumes self.old.unread self.new.unread read
+            × MatchOption next
             ((read ≡ []) × (self.new.place ≡ self.old.place) × IsOver self.new)
-            (λ meaning. IsLineMeaning self.old.place read meaning self.new.ended × (self.new.place ≡ place_behind self.old.place meaning) × (self.old.ended ≡ false)
+            (λ meaning. IsLineMeaning self.old.place read meaning self.new.ended
+            × (self.new.place ≡ place_behind self.old.place meaning) × (self.old.ended ≡ false)
             × (self.new.ended ≡ true → IsOver self.new))) }
         ensures over { self.old.ended ≡ true → result ≡ Ok None }
         ensures cut { IfErr result (λ fault. IsOfInput fault → (self.old.ended ≡ false)
             × ((read : List ℕ) × Consumes self.old.unread self.new.remaining read × (parsed_lines_of read ≡ []))) }
-        ensures falls { IfOk result (λ next. IfSome next (λ _. self.new.place.lines + self.new.budget < 2 ^ 64 × (self.new.budget < self.old.budget))) }
+        ensures falls { IfOk result (λ next. IfSome next
+            (λ _. self.new.place.lines + self.new.budget < 2 ^ 64 × (self.new.budget < self.old.budget))) }
         ensures on { ReadsOn self.old self.new }
         ensures fault { self.new.fault ≡ self.old.fault }
         ensures none_failed { OnOk result (self.new.failures ≡ self.old.failures) }
@@ -207,15 +216,19 @@ impl<R: Inlet> Source<R> {
 
     // The operations up to the next `go` or the end.
     fn gather(&mut self) -> Result<Option<Vec<Op, Alloc>>, TraceFault>
-        ensures batch { IfOk result (λ next. (read : List ℕ) × Consumes self.old.unread self.new.unread read × MatchOption next
+        ensures batch { IfOk result (λ next. (read : List ℕ) × Consumes self.old.unread self.new.unread read
+            × MatchOption next
             ((trace_from self.old.place read ≡ no_trace) × (self.old.ended ≡ true → read ≡ []) × IsOver self.new)
-            (λ ops. StandFor self.old.place read (ops.items ∷ []) self.new.place self.new.ended × (self.old.ended ≡ false)
+            (λ ops. StandFor self.old.place read (ops.items ∷ []) self.new.place self.new.ended
+            × (self.old.ended ≡ false)
             × (self.new.ended ≡ true → IsOver self.new))) }
         ensures over { self.old.ended ≡ true → result ≡ Ok None }
-        ensures line { IfErr result (λ fault. IfLine fault (λ number cause. (read : List ℕ) × Consumes self.old.unread self.new.unread read
+        ensures line { IfErr result (λ fault. IfLine fault
+            (λ number cause. (read : List ℕ) × Consumes self.old.unread self.new.unread read
             × IsFaultyAt self.old.place read number cause self.new.ended × (self.new.ended ≡ true → IsOver self.new))) }
         ensures cut { IfErr result (λ fault. IsOfInput fault → (self.old.ended ≡ false)
-            × ((read : List ℕ) × Consumes self.old.unread self.new.remaining read × (cut_trace_from self.old.place read ≡ no_trace))) }
+            × ((read : List ℕ) × Consumes self.old.unread self.new.remaining read
+            × (cut_trace_from self.old.place read ≡ no_trace))) }
         ensures falls { IfOk result (λ next. IfSome next (λ _. self.new.budget < self.old.budget)) }
         ensures on { ReadsOn self.old self.new }
         ensures fault { self.new.fault ≡ self.old.fault }
@@ -254,19 +267,24 @@ impl<R: Inlet> Source<R> {
 /// Its faults are `Read`, `Endless`, `Memory` and `Line`. After a fault the source answers the same fault from then on.
 pub fn read_batch<R: Inlet>(source: &mut Source<R>) -> Result<Option<Vec<Op, Alloc>>, TraceFault>
     // The bytes that were read stand for the batch. At the end they stand for none, and the reader told its end.
-    ensures batch { IfOk result (λ next. (read : List ℕ) × Consumes source.old.unread source.new.unread read × MatchOption next
+    ensures batch { IfOk result (λ next. (read : List ℕ) × Consumes source.old.unread source.new.unread read
+        × MatchOption next
         ((trace_from source.old.place read ≡ no_trace) × (source.old.ended ≡ true → read ≡ []) × IsOver source.new)
-        (λ ops. StandFor source.old.place read (ops.items ∷ []) source.new.place source.new.ended × (source.old.ended ≡ false)
+        (λ ops. StandFor source.old.place read (ops.items ∷ []) source.new.place source.new.ended
+        × (source.old.ended ≡ false)
         × (source.new.ended ≡ true → IsOver source.new))) }
     ensures over { source.old.fault ≡ None → source.old.ended ≡ true → result ≡ Ok None }
     // The line of this number is the first that is faulty, whatever follows.
     ensures line { source.old.fault ≡ None → IfErr result (λ fault. IfLine fault (λ number cause. (read : List ℕ)
-        × Consumes source.old.unread source.new.unread read × IsFaultyAt source.old.place read number cause source.new.ended
+        × Consumes source.old.unread source.new.unread read
+        × IsFaultyAt source.old.place read number cause source.new.ended
         × (source.new.ended ≡ true → IsOver source.new))) }
     // Where the input failed or did not end, no line `go` was read whole.
     ensures cut { source.old.fault ≡ None → IfErr result (λ fault. IsOfInput fault → (source.old.ended ≡ false)
-        × ((read : List ℕ) × Consumes source.old.unread source.new.remaining read × (cut_trace_from source.old.place read ≡ no_trace))) }
-    ensures read { source.old.fault ≡ None → IsErrOf result TraceFault.Read → HasRisenBy 1 source.old.failures source.new.failures }
+        × ((read : List ℕ) × Consumes source.old.unread source.new.remaining read
+        × (cut_trace_from source.old.place read ≡ no_trace))) }
+    ensures read { source.old.fault ≡ None → IsErrOf result TraceFault.Read →
+        HasRisenBy 1 source.old.failures source.new.failures }
     ensures endless { source.old.fault ≡ None → IsErrOf result TraceFault.Endless → source.new.turns ≡ 0 }
     ensures faults { source.old.fault ≡ None → IfErr result (λ fault. IsOfReading fault) }
     ensures falls { IfOk result (λ next. IfSome next (λ _. source.new.budget < source.old.budget)) }

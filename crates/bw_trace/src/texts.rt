@@ -29,7 +29,8 @@ pub fn print_replies<W: Outlet>(
 ) -> Result<(), TraceFault>
     ensures ok { OnOk result (Appends (W.contents out.old) (W.contents out.new) (replies_text replies.now)) }
     ensures none_failed { OnOk result (W.failures out.new ≡ W.failures out.old) }
-    ensures memory { IsErrOf result TraceFault.Memory → TakesFront (W.contents out.old) (W.contents out.new) (replies_text replies.now) }
+    ensures memory { IsErrOf result TraceFault.Memory →
+        TakesFront (W.contents out.old) (W.contents out.new) (replies_text replies.now) }
     ensures write { IsErrOf result TraceFault.Write → HasRisenBy 1 (W.failures out.old) (W.failures out.new) }
     ensures faults { IfErr result (λ fault. IsOfWriting fault) }
 {
@@ -43,9 +44,11 @@ pub fn print_replies<W: Outlet>(
 
 // Hands a text on once it is long.
 fn put_if_full<W: Outlet>(out: &mut W, text: &mut Vec<u8, Alloc>) -> Result<(), TraceFault>
-    ensures ok { OnOk result ((front : _) × Appends (W.contents out.old) (W.contents out.new) front × (text.old.items ≡ front ++ text.new.items)) }
+    ensures ok { OnOk result ((front : _) × Appends (W.contents out.old) (W.contents out.new) front
+        × (text.old.items ≡ front ++ text.new.items)) }
     ensures none_failed { OnOk result (W.failures out.new ≡ W.failures out.old) }
-    ensures write { IfErr result (λ fault. (fault ≡ TraceFault.Write) × HasRisenBy 1 (W.failures out.old) (W.failures out.new)) }
+    ensures write { IfErr result (λ fault. (fault ≡ TraceFault.Write)
+        × HasRisenBy 1 (W.failures out.old) (W.failures out.new)) }
 {
     if text.len() >= TEXT_CHUNK {
         put_text(out, text)?;
@@ -58,7 +61,8 @@ fn put_if_full<W: Outlet>(out: &mut W, text: &mut Vec<u8, Alloc>) -> Result<(), 
 pub(crate) fn put_text<W: Outlet>(out: &mut W, text: &[u8]) -> Result<(), TraceFault>
     ensures ok { OnOk result (Appends (W.contents out.old) (W.contents out.new) text.now) }
     ensures none_failed { OnOk result (W.failures out.new ≡ W.failures out.old) }
-    ensures write { IfErr result (λ fault. (fault ≡ TraceFault.Write) × HasRisenBy 1 (W.failures out.old) (W.failures out.new)) }
+    ensures write { IfErr result (λ fault. (fault ≡ TraceFault.Write)
+        × HasRisenBy 1 (W.failures out.old) (W.failures out.new)) }
 {
     match out.put(text) {
         Ok(()) => Ok(()),
@@ -145,7 +149,8 @@ pub(crate) fn print_refusal<W: Outlet>(
 ) -> Result<(), TraceFault>
     ensures ok { OnOk result (Appends (W.contents out.old) (W.contents out.new) (refusal_text refusal.now)) }
     ensures none_failed { OnOk result (W.failures out.new ≡ W.failures out.old) }
-    ensures memory { IsErrOf result TraceFault.Memory → TakesFront (W.contents out.old) (W.contents out.new) (refusal_text refusal.now) }
+    ensures memory { IsErrOf result TraceFault.Memory →
+        TakesFront (W.contents out.old) (W.contents out.new) (refusal_text refusal.now) }
     ensures write { IsErrOf result TraceFault.Write → HasRisenBy 1 (W.failures out.old) (W.failures out.new) }
     ensures faults { IfErr result (λ fault. IsOfWriting fault) }
 {

@@ -148,7 +148,8 @@ impl<'a> Scans<'a> {
         stamp: u64,
     ) -> Result<Pairs, Memory>
         ensures tree { self.new.tree ≡ self.old.tree }
-        ensures pairs { IfOk result (λ pairs. pairs ≡ first_pairs self.old.tree from.now (option_copied to.entry) most stamp) }
+        ensures pairs { IfOk result (λ pairs. pairs
+            ≡ first_pairs self.old.tree from.now (option_copied to.entry) most stamp) }
     {
         let mut read = Vec::new(self.alloc);
         if asks_for_none(from, to, most) {
@@ -177,7 +178,8 @@ impl<'a> Scans<'a> {
         stamp: u64,
     ) -> Result<Pairs, Memory>
         ensures tree { self.new.tree ≡ self.old.tree }
-        ensures pairs { IfOk result (λ pairs. pairs ≡ last_pairs self.old.tree from.now (option_copied to.entry) most stamp) }
+        ensures pairs { IfOk result (λ pairs. pairs
+            ≡ last_pairs self.old.tree from.now (option_copied to.entry) most stamp) }
     {
         let mut read = Vec::new(self.alloc);
         if asks_for_none(from, to, most) {

@@ -114,7 +114,8 @@ fn post_one(
     requires own { (0 < owns rec seat.old.book) × (posts_in rec seat.old.book.posted ≡ 0) }
     ensures board { seat.new.board ≡ board.now }
     ensures same { (seat.new.book.owned ≡ seat.old.book.owned) × (seat.new.book.width ≡ seat.old.book.width) }
-    ensures posted { (page : ℕ) × (lost : ℕ) × (seat.new.book.posted ≡ seat.old.book.posted ++ post rec page lost ∷ []) }
+    ensures posted { (page : ℕ) × (lost : ℕ)
+        × (seat.new.book.posted ≡ seat.old.book.posted ++ post rec page lost ∷ []) }
 {
     let page = rec % pages;
     let lost = board.post(seat, rec, page).lost;
@@ -248,7 +249,8 @@ fn post_by_four<R: Threads + Abort + Sync>(
             requires { (first.board ≡ board.now) × (0 < pages) × (pages ≡ length board.now.first) × HasPostedAll first }
         { post_by_two(rt, alloc, gate, board, first, pages) },
         || -> (Seat, Diary, Diary)
-            requires { (second.board ≡ board.now) × (0 < pages) × (pages ≡ length board.now.first) × HasPostedAll second }
+            requires { (second.board ≡ board.now) × (0 < pages) × (pages ≡ length board.now.first)
+                × HasPostedAll second }
         { post_by_two(rt, alloc, gate, board, second, pages) },
     );
     (
@@ -309,7 +311,8 @@ fn post_beside<R: Threads + Abort + Sync>(
     spares: &[Option<u64>],
 ) -> (Seat, Diary, Diary, Vec<u64, Alloc>)
     requires board { seat.board ≡ board.now }
-    requires spares { (spares.now ≡ board.now.spares) × (0 < length spares.now) × (length spares.now ≡ length board.now.first) }
+    requires spares { (spares.now ≡ board.now.spares) × (0 < length spares.now)
+        × (length spares.now ≡ length board.now.first) }
     requires posted { HasPostedAll seat }
     ensures board { result.0.board ≡ board.now }
     ensures width { result.0.book.width ≡ seat.book.width }

@@ -26,7 +26,8 @@ impl Tree {
     pub fn fold(&mut self) -> Result<usize, Memory>
         requires none { self.old.staged ≡ None }
         ensures folded { OnOk result (IsFolded self.old self.new) }
-        ensures pairs { IfOk result (λ pairs. pairs ≡ min (length (entries (contents_at self.old self.old.next))) (2 ^ 64 - 1)) }
+        ensures pairs { IfOk result (λ pairs. pairs
+            ≡ min (length (entries (contents_at self.old self.old.next))) (2 ^ 64 - 1)) }
         ensures err { OnErr result (self.new ≡ self.old) }
     {
         let alloc = *self.heads.allocator();
