@@ -13,5 +13,5 @@ mod write_groups;
 pub use batch_replies::{replies, replies_in_parts};
 pub use parts::count_parts;
 
-/// Want of memory.
+/// Out of memory.
 pub use bw_key::Memory;

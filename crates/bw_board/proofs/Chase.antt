@@ -2,7 +2,7 @@
 use Rattle.std.proofs.Common.{inl, inr, eqb, cond, true, Option, ◌≡◌, ℕ, zero, suc, ◌+◌, ◌<◌, ◌≤◌, false, List, [], ◌∷◌, ◌++◌, length, length-set, get_or, get_or-set_same, set, sym, refl, ap, ◌∙◌, subst, arith, Some, None}
 use Rattle.bw_core.specs.declared.BookView.{BookView}
 use Rattle.bw_core.specs.World.{owns, spans_have, posts_in, seen_at, end_at, late, IsLast, top, IsEnd}
-use Rattle.bw_core.specs.Events.{Resumes, looked, under, post, won, lost_to}
+use Rattle.bw_core.specs.Events.{Resumes, book_after_look, under, post, book_after_win, book_after_loss}
 use Rattle.bw_core.proofs.Lists.{end_trans}
 use Rattle.bw_board.specs.declared.table.Sight.{Sight}
 use Rattle.bw_board.specs.Plays.{IsSane, IsTop, SeesChain, PostsOver, with_book, sight_after_link}
@@ -45,7 +45,7 @@ pub record Chases (v w : Sight) (r p word lost : ℕ) : Type 0 where
   pub word_is : IsTop w p word
   pub few : lost ≤ length (seen_at w.book p) + late (get_or w.first p 0) (end_at w.book p)
 
-looks_on : (v : Sight) (p : ℕ) (s : List ℕ) (x : ℕ) → IsEnd (seen_at v.book p) s → IsLast v.first v.spares p x → StillTries v (with_book v (looked v.book p s x)) p s x
+looks_on : (v : Sight) (p : ℕ) (s : List ℕ) (x : ℕ) → IsEnd (seen_at v.book p) s → IsLast v.first v.spares p x → StillTries v (with_book v (book_after_look v.book p s x)) p s x
 looks_on v p s x longer is_last = record {
   same_first = refl;
   same_floor = refl;
@@ -65,7 +65,7 @@ looks_on v p s x longer is_last = record {
   is_last = is_last;
 }
 
-pub chase_starts : (v w : Sight) (r p word : ℕ) → p < length v.first → SeesChain v w p (looked v.book p) → IsSane w → IsTop w p word → v.book.under ≡ None → Chases v w r p word 0
+pub chase_starts : (v w : Sight) (r p word : ℕ) → p < length v.first → SeesChain v w p (book_after_look v.book p) → IsSane w → IsTop w p word → v.book.under ≡ None → Chases v w r p word 0
 chase_starts v w r p word h c sane is idle = record {
   sane = sane;
   inside = subst (λ (z : Sight). p < length z.first) (sym c.after) h;
@@ -78,9 +78,9 @@ chase_starts v w r p word h c sane is idle = record {
   few = omega arith;
 }
 
-pub chase_goes : (v w w' : Sight) (p word lost r found : ℕ) (c : Chases v w r p word lost) → (let l : Sight = sight_after_link w r p lost word in SeesChain l w' p (lost_to l.book r p lost)) → IsSane w' → IsTop w' p found → Chases v w' r p found (lost + 1)
+pub chase_goes : (v w w' : Sight) (p word lost r found : ℕ) (c : Chases v w r p word lost) → (let l : Sight = sight_after_link w r p lost word in SeesChain l w' p (book_after_loss l.book r p lost)) → IsSane w' → IsTop w' p found → Chases v w' r p found (lost + 1)
 chase_goes v w w' p word lost r found c k sane is = let t = c.trying in let s = k.chain in let x = k.last in let l : Sight = sight_after_link w r p lost word in let e = k.after in
-    let z : Sight = with_book l (lost_to l.book r p lost s x) in
+    let z : Sight = with_book l (book_after_loss l.book r p lost s x) in
     let under' : w'.book.under ≡ Some (under r p (lost + 1) false) = ap (λ (z : Sight). z.book.under) e in
     let next : StillTries v z p s x = record {
       same_first = t.same_first;
@@ -117,7 +117,7 @@ chase_short v w p word lost r c own fresh_rec = let t = c.trying in
     let none' : posts_in r w.book.posted ≡ 0 = subst (λ z. posts_in r z ≡ 0) (sym t.same_posted) fresh_rec in
     let a = c.sane.fewer p r c.inside own' none' in let b = c.few in let e = t.same_records in let k = late_small (get_or w.first p 0) (end_at w.book p) in omega arith
 
-pub chase_wins : (v w w' : Sight) (p word lost r : ℕ) → Chases v w r p word lost → (let l : Sight = sight_after_link w r p lost word in w' ≡ with_book l (won l.book r p lost)) → PostsOver v w' r p lost
+pub chase_wins : (v w w' : Sight) (p word lost r : ℕ) → Chases v w r p word lost → (let l : Sight = sight_after_link w r p lost word in w' ≡ with_book l (book_after_win l.book r p lost)) → PostsOver v w' r p lost
 chase_wins v w w' p word lost r c e = let t = c.trying in
     let seen' : set w.book.seen p (r ∷ seen_at w.book p) ≡ set v.book.seen p (r ∷ c.seen) = ap (λ z. set w.book.seen p (r ∷ z)) c.here ∙ (ap (λ z. set z p (r ∷ c.seen)) t.seen ∙ set_twice v.book.seen p c.seen (r ∷ c.seen)) in
     let wide : length w.book.ends ≡ length w.first = c.sane.end_each_page in let n = length-set v.book.ends p c.last in let i = c.inside in let m : length w.book.ends ≡ length (set v.book.ends p c.last) = ap length t.ends in

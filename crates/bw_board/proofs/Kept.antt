@@ -18,7 +18,7 @@ use Rattle.bw_core.specs.declared.Event.{Event}
 use Rattle.bw_core.specs.declared.Event.TheVariants.{Look, Link, Try, Follow, Claim, Split, Join, Replace}
 use Rattle.bw_core.specs.declared.Played.{Played}
 use Rattle.bw_core.specs.declared.Played.TheVariants.{Done, Lost}
-use Rattle.bw_core.specs.Events.{Resumes, looked, replaced, came_late, joined, takes_piece, is_told, under, won, lost_to}
+use Rattle.bw_core.specs.Events.{Resumes, book_after_look, book_after_swap, book_after_late_swap, book_after_join, book_after_claim, book_without_pieces, under, book_after_win, book_after_loss}
 use Rattle.bw_core.specs.Keeping.{SeesBoth}
 use Rattle.bw_core.specs.Steps.{Applies}
 use Rattle.bw_core.proofs.Claims.{no_wrap}
@@ -174,22 +174,22 @@ module _ (first : List ℕ) (floor records piece : ℕ) (spares : List (Option �
 
   pub looking : Looking first floor records piece spares
   looking slots id m p live h s t at = let v = m.0 in let k = t.each_seat id v at live in let q = t.lawful in let w0 : World = Of s t in
-      let h' : p < length first = subst (λ z. p < length z) k.same_first h in let w : Sight = with_book v (looked v.book p (q.fresh p) (q.last p)) in let n = get_or s.words (1 + p) 0 in
+      let h' : p < length first = subst (λ z. p < length z) k.same_first h in let w : Sight = with_book v (book_after_look v.book p (q.fresh p) (q.last p)) in let n = get_or s.words (1 + p) 0 in
       let at' = at_map book_of s.views id v at in let within : p < length t.heads = let e = q.head_each_page in omega arith in
       let n_is : n ≡ get_or t.heads p 0 = head_word s.words t.heads t.links p t.words_are within in
       let x = plays s t id v w (set s.words (1 + p) n) t.next t.heads t.links (Look id p) (Done n) at (set-get_or s.words (1 + p) 0 ∙ t.words_are)
       (inl (v.book, q.fresh p, q.last p, ((at', live), h'), (q.met p h', last_low w0 q p h'), refl, ap Done n_is))
       record { same_first = k.same_first; same_floor = k.same_floor; same_records = k.same_records; same_piece = k.same_piece; same_spares = k.same_spares; armed_link = k.armed_link; joined_seen = k.joined_seen }
       (λ j d n e l u is a. refl) s.homes in
-      let c = chain_seen s t id v p (looked v.book p) at live h' refl refl in
-      let top_is : IsTop w p n = top_seen v w p n (looked v.book p) c refl (head_is s t id v p n at live h' n_is) in record {
+      let c = chain_seen s t id v p (book_after_look v.book p) at live h' refl refl in
+      let top_is : IsTop w p n = top_seen v w p n (book_after_look v.book p) c refl (head_is s t id v p n at live h' n_is) in record {
         view = w;
         answer = Done n;
         goes = x;
         says_so = refl;
         tells_so = record {
           stays = stays s (stepped s (1 + p) n id m.1 w keeps) x.lawful id v w m.1 at refl live;
-          seen = λ p' e h''. let same : p ≡ p' = omega arith in subst (λ (z : ℕ). SeesChain v w z (looked v.book z)) same c;
+          seen = λ p' e h''. let same : p ≡ p' = omega arith in subst (λ (z : ℕ). SeesChain v w z (book_after_look v.book z)) same c;
           head = λ p' e h''. let same : p ≡ p' = omega arith in subst (λ (z : ℕ). IsTop w z n) same top_is;
         };
       }
@@ -237,7 +237,7 @@ module _ (first : List ℕ) (floor records piece : ℕ) (spares : List (Option �
       let h' : p < length first = ok.on_page in let within : p < length t.heads = let e = q.head_each_page in omega arith in
       let n = get_or s.words (1 + p) 0 in let n_is : n ≡ get_or t.heads p 0 = head_word s.words t.heads t.links p t.words_are within in
       let old' : get_or t.links r 0 ≡ old = k.armed_link u is refl ∙ sym may.old_is in
-      let w : Sight = with_book v (won b r p lost) in let l : Sight = with_book v (lost_to b r p lost (q.fresh p) (q.last p)) in
+      let w : Sight = with_book v (book_after_win b r p lost) in let l : Sight = with_book v (book_after_loss b r p lost (q.fresh p) (q.last p)) in
       let new_word : new ≡ floor + r = may.new_is ∙ ap (λ z. z + r) k.same_floor in
       let same_u : (r' p' lost' : ℕ) → b.under ≡ Some (under r' p' lost' true) → under r p lost true ≡ under r' p' lost' true = λ r' p' lost' e. same_under u (under r' p' lost' true) (sym is ∙ e) in
       let y = exchanged n old new (λ y. (w : Sight) × (a : Played) × Goes s t (Try id r p) (stepped s (1 + p) y id m.1 w keeps) a × Exchanges old new n a × TryTells (step slots (1 + p) old new none) m n (w, m.1))
@@ -252,7 +252,7 @@ module _ (first : List ℕ) (floor records piece : ℕ) (spares : List (Option �
         ((λ _. refl), λ miss. absurd (miss hit)),
         record {
           stays = stays s (stepped s (1 + p) new id m.1 w keeps) x.lawful id v w m.1 at refl live;
-          won = λ r' p' lost' e _. ap (λ (z : Under). with_book v (won b z.rec z.page z.lost)) (same_u r' p' lost' e);
+          won = λ r' p' lost' e _. ap (λ (z : Under). with_book v (book_after_win b z.rec z.page z.lost)) (same_u r' p' lost' e);
           lost = λ r' p' lost' e miss. absurd (miss hit);
           head = λ r' p' lost' e miss. absurd (miss hit);
         },
@@ -262,8 +262,8 @@ module _ (first : List ℕ) (floor records piece : ℕ) (spares : List (Option �
       (inl (b, lost, ((at', live), is), inr (q.fresh p, q.last p, (λ e. miss (n_is ∙ (e ∙ old'))), (q.met p h', last_low world' q p h'), refl, ap Lost n_is)))
       record { same_first = k.same_first; same_floor = k.same_floor; same_records = k.same_records; same_piece = k.same_piece; same_spares = k.same_spares; armed_link = λ u e a. let d = same_under (under r p (lost + 1) false) u e in let f : false ≡ true = ap (λ (z : Under). z.armed) d ∙ a in absurd (cc); joined_seen = k.joined_seen }
       (λ j d n e l u is a. refl) s.homes in
-      let c = chain_seen s t id v p (lost_to b r p lost) at live h' refl refl in
-      let top_is : IsTop l p n = top_seen v l p n (lost_to b r p lost) c refl (head_is s t id v p n at live h' n_is) in (
+      let c = chain_seen s t id v p (book_after_loss b r p lost) at live h' refl refl in
+      let top_is : IsTop l p n = top_seen v l p n (book_after_loss b r p lost) c refl (head_is s t id v p n at live h' n_is) in (
         l,
         Lost n,
         x,
@@ -271,7 +271,7 @@ module _ (first : List ℕ) (floor records piece : ℕ) (spares : List (Option �
         record {
           stays = stays s (stepped s (1 + p) n id m.1 l keeps) x.lawful id v l m.1 at refl live;
           won = λ r' p' lost' e hit. absurd (miss hit);
-          lost = λ r' p' lost' e _. subst (λ (z : Under). SeesChain v l z.page (lost_to b z.rec z.page z.lost)) (same_u r' p' lost' e) c;
+          lost = λ r' p' lost' e _. subst (λ (z : Under). SeesChain v l z.page (book_after_loss b z.rec z.page z.lost)) (same_u r' p' lost' e) c;
           head = λ r' p' lost' e _. subst (λ (z : Under). IsTop l z.page n) (same_u r' p' lost' e) top_is;
         },
       )) in
@@ -331,7 +331,7 @@ module _ (first : List ℕ) (floor records piece : ℕ) (spares : List (Option �
   same_pair a b e = cc
 
   pub joining : Joining first floor records piece spares
-  joining id other v w s t at there n lv lw iv iw = let k = t.each_seat id v at lv in let q = t.lawful in let b : Sight = both_of v w in let bb : BookView = joined first v.book w.book in let same_b : bb ≡ b.book = ap (λ z. joined z v.book w.book) (sym k.same_first) in
+  joining id other v w s t at there n lv lw iv iw = let k = t.each_seat id v at lv in let q = t.lawful in let b : Sight = both_of v w in let bb : BookView = book_after_join first v.book w.book in let same_b : bb ≡ b.book = ap (λ z. book_after_join z v.book w.book) (sym k.same_first) in
       let books = map book_of s.views in let bs : List BookView = set (set books id bb) other spent_sight.book in
       let books' : map book_of (set (set s.views id b) other spent_sight) ≡ bs = map-set book_of (set s.views id b) other spent_sight ∙ (ap (λ z. set z other spent_sight.book) (map-set book_of s.views id b) ∙ ap (λ (z : BookView). set (set books id z) other spent_sight.book) (sym same_b)) in
       let at' = at_map book_of s.views id v at in let there' = at_map book_of s.views other w there in
@@ -385,7 +385,7 @@ module _ (first : List ℕ) (floor records piece : ℕ) (spares : List (Option �
       let x : ℕ = (n + k) % 2 ^ 64 in let x_is : x ≡ t.next + piece = unwrapped n k fits ∙ omega arith in
       let words : set s.words 0 x ≡ (t.next + piece) ∷ (t.heads ++ t.links) = ap (λ z. set z 0 x) t.words_are ∙ ap (λ z. z ∷ (t.heads ++ t.links)) x_is in
       elim (dec_le records t.next) [
-        | yes d ↦ (let w : Sight = with_book v (is_told v.book) in
+        | yes d ↦ (let w : Sight = with_book v (book_without_pieces v.book) in
             let y = plays s t id v w (set s.words 0 x) (t.next + piece) t.heads t.links (Claim id) (Done n) at words
             (inl (v.book, ((at', live), may.idle, may.untold), inr (d, refl), ap Done n_is))
             record { same_first = a.same_first; same_floor = a.same_floor; same_records = same_r; same_piece = same_p; same_spares = a.same_spares; armed_link = a.armed_link; joined_seen = a.joined_seen } (λ j d n e l u is a. refl) s.homes in record {
@@ -395,8 +395,8 @@ module _ (first : List ℕ) (floor records piece : ℕ) (spares : List (Option �
               says_so = refl;
               tells_so = record { stays = stays s (stepped s 0 x id m.1 w keeps) y.lawful id v w m.1 at refl live; taken = λ h. absurd (omega arith); told = λ h. refl };
             })
-        | no d ↦ (let w : Sight = with_book v (takes_piece v.piece v.records n v.book) in let less : t.next < records = omega arith in
-            let same : w.book ≡ takes_piece piece records t.next v.book = λ j. takes_piece (same_p j) (same_r j) (n_is j) v.book in
+        | no d ↦ (let w : Sight = with_book v (book_after_claim v.piece v.records n v.book) in let less : t.next < records = omega arith in
+            let same : w.book ≡ book_after_claim piece records t.next v.book = λ j. book_after_claim (same_p j) (same_r j) (n_is j) v.book in
             let y = plays s t id v w (set s.words 0 x) (t.next + piece) t.heads t.links (Claim id) (Done n) at words
             (inl (v.book, ((at', live), may.idle, may.untold), inl (less, ap (λ (z : BookView). W (t.next + piece) t.heads t.links (set (map book_of s.views) id z)) same), ap Done n_is))
             record { same_first = a.same_first; same_floor = a.same_floor; same_records = same_r; same_piece = same_p; same_spares = a.same_spares; armed_link = a.armed_link; joined_seen = a.joined_seen } (λ j d n e l u is a. refl) s.homes in record {
@@ -431,7 +431,7 @@ module _ (first : List ℕ) (floor records piece : ℕ) (spares : List (Option �
       let n = get_or s.words (1 + p) 0 in let n_is : n ≡ get_or t.heads p 0 = head_word s.words t.heads t.links p t.words_are within in
       let old' : old ≡ get_or first p 0 = may.old_is ∙ ap (λ z. get_or z p 0) k.same_first in
       let spare : get_or spares p None ≡ Some new = sym (ap (λ z. get_or z p None) k.same_spares) ∙ may.new_is in
-      let w : Sight = with_book v (replaced b p new) in let l : Sight = with_book v (came_late b p (q.fresh p) (q.last p)) in
+      let w : Sight = with_book v (book_after_swap b p new) in let l : Sight = with_book v (book_after_late_swap b p (q.fresh p) (q.last p)) in
       let y = exchanged n old new (λ y. (w : Sight) × (a : Played) × Goes s t (Replace id p) (stepped s (1 + p) y id m.1 w keeps) a × Exchanges old new n a × ReplaceTells (step slots (1 + p) old new none) m n (w, m.1))
       (λ hit. let x = plays s t id v w (set s.words (1 + p) new) t.next (set t.heads p new) t.links (Replace id p) (Done new) at
       (set_head s.words t.heads t.links p new t.words_are within)
@@ -444,7 +444,7 @@ module _ (first : List ℕ) (floor records piece : ℕ) (spares : List (Option �
         ((λ _. refl), λ miss. absurd (miss hit)),
         record {
           stays = stays s (stepped s (1 + p) new id m.1 w keeps) x.lawful id v w m.1 at refl live;
-          won = λ p' e h'' _. let same : p ≡ p' = omega arith in ap (λ z. with_book v (replaced b z new)) same;
+          won = λ p' e h'' _. let same : p ≡ p' = omega arith in ap (λ z. with_book v (book_after_swap b z new)) same;
           late = λ p' e h'' miss. absurd (miss hit);
           head = λ p' e h'' miss. absurd (miss hit);
           more = λ p' e h'' miss. absurd (miss hit);
@@ -455,8 +455,8 @@ module _ (first : List ℕ) (floor records piece : ℕ) (spares : List (Option �
       (inl (b, new, ((at', live), may.idle, h', spare, may.untried), inr (q.fresh p, q.last p, (λ e. miss (n_is ∙ (e ∙ sym old'))), (q.met p h', last_low world' q p h'), refl, ap Lost n_is)))
       record { same_first = k.same_first; same_floor = k.same_floor; same_records = k.same_records; same_piece = k.same_piece; same_spares = k.same_spares; armed_link = k.armed_link; joined_seen = k.joined_seen }
       (λ j d n e l u is a. refl) s.homes in
-      let c = chain_seen s t id v p (came_late b p) at live h' refl refl in
-      let top_is : IsTop l p n = top_seen v l p n (came_late b p) c refl (head_is s t id v p n at live h' n_is) in
+      let c = chain_seen s t id v p (book_after_late_swap b p) at live h' refl refl in
+      let top_is : IsTop l p n = top_seen v l p n (book_after_late_swap b p) c refl (head_is s t id v p n at live h' n_is) in
       let more : (0 < length (seen_at l.book p)) ⊎ (get_or v.spares p None ≡ Some (end_at l.book p))
       = subst (λ (z : (List ℕ × ℕ) × List (Option ℕ)). (0 < length z.0.0) ⊎ (get_or z.1 p None ≡ Some z.0.1)) (λ j. ((sym c.here j, sym c.end_here j), sym k.same_spares j)) (saw_more world' q p h' (λ e. miss (n_is ∙ (e ∙ sym old')))) in (
         l,
@@ -466,7 +466,7 @@ module _ (first : List ℕ) (floor records piece : ℕ) (spares : List (Option �
         record {
           stays = stays s (stepped s (1 + p) n id m.1 l keeps) x.lawful id v l m.1 at refl live;
           won = λ p' e h'' hit. absurd (miss hit);
-          late = λ p' e h'' _. let same : p ≡ p' = omega arith in subst (λ (z : ℕ). SeesChain v l z (came_late b z)) same c;
+          late = λ p' e h'' _. let same : p ≡ p' = omega arith in subst (λ (z : ℕ). SeesChain v l z (book_after_late_swap b z)) same c;
           head = λ p' e h'' _. let same : p ≡ p' = omega arith in subst (λ (z : ℕ). IsTop l z n) same top_is;
           more = λ p' e h'' _. let same : p ≡ p' = omega arith in subst (λ (z : ℕ). (0 < length (seen_at l.book z)) ⊎ (get_or v.spares z None ≡ Some (end_at l.book z))) same more;
         },

@@ -2,7 +2,7 @@
 use Rattle.std.proofs.Common.{eqb, ◌≡◌, ℕ, ◌-◌, ◌<◌, ◌≤◌, List, [], ◌∷◌, ◌++◌, length, length-append, sym, refl, ap, ◌∙◌, subst, arith, append_assoc, append-nil}
 use Rattle.std.specs.List.{AllByRecursion}
 use Rattle.bw_core.specs.World.{one_if, times, seen_at, end_at, top}
-use Rattle.bw_core.specs.Events.{looked}
+use Rattle.bw_core.specs.Events.{book_after_look}
 use Rattle.bw_core.proofs.Lists.{total-append, one_same}
 use Rattle.bw_board.specs.declared.table.Sight.{Sight}
 use Rattle.bw_board.specs.Plays.{IsSane, IsTop, SeesChain}
@@ -11,14 +11,14 @@ use Rattle.bw_board.specs.Plays.{IsSane, IsTop, SeesChain}
 pub record Walks (v w : Sight) (p word : ℕ) (items : List ℕ) : Type 0 where
   pub sane : IsSane w
   pub inside : p < length w.first
-  pub sees : SeesChain v w p (looked v.book p)
+  pub sees : SeesChain v w p (book_after_look v.book p)
   pub rest : List ℕ
   pub parts : seen_at w.book p ≡ items ++ rest
   pub under : ℕ
   pub under_low : under < w.floor
   pub word_is : word ≡ top w.floor under rest
 
-pub walk_starts : (v w : Sight) (p word : ℕ) → p < length v.first → SeesChain v w p (looked v.book p) → IsSane w → IsTop w p word → Walks v w p word []
+pub walk_starts : (v w : Sight) (p word : ℕ) → p < length v.first → SeesChain v w p (book_after_look v.book p) → IsSane w → IsTop w p word → Walks v w p word []
 walk_starts v w p word h c sane is = let inside : p < length w.first = subst (λ (z : Sight). p < length z.first) (sym c.after) h in record {
   sane = sane;
   inside = inside;

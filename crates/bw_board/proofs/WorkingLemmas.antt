@@ -5,7 +5,7 @@ use Rattle.bw_core.specs.declared.Post.{Post}
 use Rattle.bw_core.specs.declared.BookView.{BookView}
 use Rattle.bw_core.specs.declared.Swap.{Swap}
 use Rattle.bw_core.specs.World.{one_if, owns, posts_in, spans_have, tries_in}
-use Rattle.bw_core.specs.Events.{post, swap, takes_piece, looked, replaced, came_late, joined}
+use Rattle.bw_core.specs.Events.{post, swap, book_after_claim, book_after_look, book_after_swap, book_after_late_swap, book_after_join}
 use Rattle.bw_core.proofs.Lists.{total-append}
 use Rattle.bw_core.proofs.Without.{claim_adds, join_adds}
 use Rattle.bw_board.specs.Public.{SeatView, Posts, Replaces, Sees, seat_after_claim}
@@ -45,13 +45,13 @@ left_none v to left = λ r. let e = left r in let n = none_left to r in omega ar
 pub same_start : (v : SeatView) → SameWork v v
 same_start v = record { same_board = refl; same_width = refl; same_told = refl; same_owned = refl; same_posted = refl }
 
-pub same_looked : (v w z : SeatView) (p : ℕ) → SameWork v w → Sees w z p (looked w.book p) → SameWork v z
+pub same_looked : (v w z : SeatView) (p : ℕ) → SameWork v w → Sees w z p (book_after_look w.book p) → SameWork v z
 same_looked v w z p k sees = subst (SameWork v) (sym sees.after) record { same_board = k.same_board; same_width = k.same_width; same_told = k.same_told; same_owned = k.same_owned; same_posted = k.same_posted }
 
 pub same_replaced : (v w z : SeatView) (p : ℕ) → SameWork v w → Replaces w z p → SameWork v z
 same_replaced v w z p k won = subst (SameWork v) (sym won.after) record { same_board = k.same_board; same_width = k.same_width; same_told = k.same_told; same_owned = k.same_owned; same_posted = k.same_posted }
 
-pub same_late : (v w z : SeatView) (p : ℕ) → SameWork v w → Sees w z p (came_late w.book p) → SameWork v z
+pub same_late : (v w z : SeatView) (p : ℕ) → SameWork v w → Sees w z p (book_after_late_swap w.book p) → SameWork v z
 same_late v w z p k late = subst (SameWork v) (sym late.after) record { same_board = k.same_board; same_width = k.same_width; same_told = k.same_told; same_owned = k.same_owned; same_posted = k.same_posted }
 
 pub all_same : (v w : SeatView) → SameWork v w → HasPostedAll v → HasPostedAll w
@@ -64,10 +64,10 @@ tries_next ss p q won h = let t = total-append (λ (s : Swap). one_if (eqb s.pag
 pub tries_won : (v w : SeatView) (p q : ℕ) → Replaces v w p → p < q → tries_in q w.book.swaps ≡ tries_in q v.book.swaps
 tries_won v w p q won h = ap (λ (z : SeatView). tries_in q z.book.swaps) won.after ∙ tries_next v.book.swaps p q true h
 
-pub tries_late : (v w : SeatView) (p q : ℕ) → Sees v w p (came_late v.book p) → p < q → tries_in q w.book.swaps ≡ tries_in q v.book.swaps
+pub tries_late : (v w : SeatView) (p q : ℕ) → Sees v w p (book_after_late_swap v.book p) → p < q → tries_in q w.book.swaps ≡ tries_in q v.book.swaps
 tries_late v w p q late h = ap (λ (z : SeatView). tries_in q z.book.swaps) late.after ∙ tries_next v.book.swaps p q false h
 
 -- two that posted all are one that did
-pub all_joined : (first : List ℕ) (v w z : SeatView) → HasPostedAll v → HasPostedAll w → z.book ≡ joined first v.book w.book → HasPostedAll z
+pub all_joined : (first : List ℕ) (v w z : SeatView) → HasPostedAll v → HasPostedAll w → z.book ≡ book_after_join first v.book w.book → HasPostedAll z
 all_joined first v w z a b is = λ r. let t = join_adds first v.book w.book r 0 in let x = a r in let y = b r in
     subst (λ (k : BookView). owns r k ≡ posts_in r k.posted) (sym is) (omega arith)

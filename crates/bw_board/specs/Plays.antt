@@ -9,7 +9,7 @@ use Rattle.bw_core.specs.declared.BookView.{BookView}
 use Rattle.bw_core.specs.declared.Post.{Post}
 use Rattle.bw_core.specs.Keeping.{pairs_of, SeesBoth}
 use Rattle.bw_core.specs.World.{total, times, owns, posts_in, posts_at, seen_at, end_at, late, IsLast, top, IsEnd, spent}
-use Rattle.bw_core.specs.Events.{replaced, came_late, takes_piece, is_told, under, post, looked, linked, won, lost_to, split_left, split_right, joined}
+use Rattle.bw_core.specs.Events.{book_after_swap, book_after_late_swap, book_after_claim, book_without_pieces, under, post, book_after_look, book_after_link, book_after_win, book_after_loss, left_book, right_book, book_after_join}
 use Rattle.bw_board.specs.declared.table.Pair.{Pair}
 use Rattle.bw_board.specs.declared.table.Sight.{Sight}
 use Rattle.bw_board.specs.Rule.{Moment}
@@ -58,7 +58,7 @@ pub record IsSeated (z : TableId) (s : Seat ℕ Sight) : Type 0 where
   pub live : s.me.0.book.live ≡ true
 
 abbrev pub sight_after_link : Sight → ℕ → ℕ → ℕ → ℕ → Sight
-sight_after_link v r p lost x = record v { link = x; book = linked v.book r p lost }
+sight_after_link v r p lost x = record v { link = x; book = book_after_link v.book r p lost }
 
 -- the word is the top of the chain that the seat saw last at page p
 abbrev pub IsTop : Sight → ℕ → ℕ → Type 0
@@ -81,7 +81,7 @@ pub record StaysSane (m m' : Seated) : Type 0 where
 
 pub record LookTells (st : Step ℕ) (m : Seated) (n : ℕ) (m' : Seated) : Type 0 where
   pub stays : StaysSane m m'
-  pub seen : (p : ℕ) → st.word ≡ 1 + p → p < length m.0.first → SeesChain m.0 m'.0 p (looked m.0.book p)
+  pub seen : (p : ℕ) → st.word ≡ 1 + p → p < length m.0.first → SeesChain m.0 m'.0 p (book_after_look m.0.book p)
   pub head : (p : ℕ) → st.word ≡ 1 + p → p < length m.0.first → IsTop m'.0 p n
 
 -- the record r of page p, which has lost so often, gets the top of the seen chain
@@ -92,9 +92,9 @@ pub record LinkTells (p lost : ℕ) (st : Step ℕ) (m : Seated) (n : ℕ) (m' :
 pub record TryTells (st : Step ℕ) (m : Seated) (n : ℕ) (m' : Seated) : Type 0 where
   pub stays : StaysSane m m'
   pub won : (r p lost : ℕ) → m.0.book.under ≡ Some (under r p lost true) → n ≡ st.first
-      → m'.0 ≡ with_book m.0 (won m.0.book r p lost)
+      → m'.0 ≡ with_book m.0 (book_after_win m.0.book r p lost)
   pub lost : (r p lost : ℕ) → m.0.book.under ≡ Some (under r p lost true) → n ≢ st.first
-      → SeesChain m.0 m'.0 p (lost_to m.0.book r p lost)
+      → SeesChain m.0 m'.0 p (book_after_loss m.0.book r p lost)
   pub head : (r p lost : ℕ) → m.0.book.under ≡ Some (under r p lost true) → n ≢ st.first → IsTop m'.0 p n
 
 -- a chain that goes on with r was seen at page p: its word is that of what comes next
@@ -108,9 +108,9 @@ pub record FollowTells (st : Step ℕ) (m : Seated) (n : ℕ) (m' : Seated) : Ty
 pub record ReplaceTells (st : Step ℕ) (m : Seated) (n : ℕ) (m' : Seated) : Type 0 where
   pub stays : StaysSane m m'
   pub won : (p : ℕ) → st.word ≡ 1 + p → p < length m.0.first → n ≡ st.first
-      → m'.0 ≡ with_book m.0 (replaced m.0.book p st.second)
+      → m'.0 ≡ with_book m.0 (book_after_swap m.0.book p st.second)
   pub late : (p : ℕ) → st.word ≡ 1 + p → p < length m.0.first → n ≢ st.first
-      → SeesChain m.0 m'.0 p (came_late m.0.book p)
+      → SeesChain m.0 m'.0 p (book_after_late_swap m.0.book p)
   pub head : (p : ℕ) → st.word ≡ 1 + p → p < length m.0.first → n ≢ st.first → IsTop m'.0 p n
   pub more : (p : ℕ) → st.word ≡ 1 + p → p < length m.0.first → n ≢ st.first
       → (0 < length (seen_at m'.0.book p)) ⊎ (slice_index_or m.0.spares p None ≡ Some (end_at m'.0.book p))
@@ -118,8 +118,8 @@ pub record ReplaceTells (st : Step ℕ) (m : Seated) (n : ℕ) (m' : Seated) : T
 -- the next piece, or that there is none
 pub record ClaimTells (st : Step ℕ) (m : Seated) (n : ℕ) (m' : Seated) : Type 0 where
   pub stays : StaysSane m m'
-  pub taken : n < m.0.records → m'.0 ≡ with_book m.0 (takes_piece m.0.piece m.0.records n m.0.book)
-  pub told : m.0.records ≤ n → m'.0 ≡ with_book m.0 (is_told m.0.book)
+  pub taken : n < m.0.records → m'.0 ≡ with_book m.0 (book_after_claim m.0.piece m.0.records n m.0.book)
+  pub told : m.0.records ≤ n → m'.0 ≡ with_book m.0 (book_without_pieces m.0.book)
 
 -- nothing but what the rule makes true of the view
 pub record SettleTells (st : Step ℕ) (m : Seated) (n : ℕ) (m' : Seated) : Type 0 where
@@ -127,13 +127,16 @@ pub record SettleTells (st : Step ℕ) (m : Seated) (n : ℕ) (m' : Seated) : Ty
   pub same : m'.0 ≡ m.0
 
 abbrev pub left_of : Sight → Sight
-left_of v = with_book v (split_left v.book)
+left_of v = with_book v (left_book v.book)
 
 abbrev pub right_of : Sight → Sight
-right_of v = with_book v (split_right v.book)
+right_of v = with_book v (right_book v.book)
 
 abbrev pub both_of : Sight → Sight → Sight
-both_of v w = record v { joined = Some (record { left = v.book; right = w.book }); book = joined v.first v.book w.book }
+both_of v w = record v {
+  joined = Some (record { left = v.book; right = w.book });
+  book = book_after_join v.first v.book w.book;
+}
 
 abbrev pub spent_sight : Sight
 spent_sight = record {

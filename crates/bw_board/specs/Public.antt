@@ -9,7 +9,7 @@ use Rattle.atomic_table.specs.Seated.{TableId}
 use Rattle.bw_core.specs.declared.BookView.{BookView}
 use Rattle.bw_core.specs.Keeping.{pairs_of}
 use Rattle.bw_core.specs.World.{total, one_if, owns, posts_in, late, wins_in, IsLast, times, posts_at, seen_at, end_at, Meets, IsEnd}
-use Rattle.bw_core.specs.Events.{post, replaced, takes_piece}
+use Rattle.bw_core.specs.Events.{post, book_after_swap, book_after_claim}
 use Rattle.bw_board.specs.declared.table.Origin.{Origin}
 use Rattle.bw_board.specs.declared.table.Sight.{Sight}
 use Rattle.bw_board.specs.Rule.{Moment}
@@ -116,11 +116,11 @@ pub record Posts (v w : SeatView) (r page lost : ℕ) : Type 0 where
 pub record Replaces (v w : SeatView) (page : ℕ) : Type 0 where
   pub spare : ℕ
   pub is_spare : slice_index_or v.board.spares page None ≡ Some spare
-  pub after : w ≡ record v { book = replaced v.book page spare }
+  pub after : w ≡ record v { book = book_after_swap v.book page spare }
 
 -- the seat with the piece that begins at this record
 abbrev pub seat_after_claim : SeatView → ℕ → SeatView
-seat_after_claim v from = record v { book = takes_piece v.board.piece v.board.records from v.book }
+seat_after_claim v from = record v { book = book_after_claim v.board.piece v.board.records from v.book }
 
 -- a lawful world of the seat's board, in which a seat has its book
 abbrev pub MomentOf : SeatView → Type 0

@@ -2,7 +2,7 @@
 ghost use Rattle.std.specs.Prelude.{◌≡◌, ℕ, ◌+◌, ◌^◌, ◌<◌, ◌≤◌, [], ◌∷◌, ◌++◌, List, length, slice_index, slice_index_or, ◌⊎◌, ◌≢◌, Some, None};
 ghost use Rattle.std.specs.Prelude.{replicate, EachIndex, IsOk, IsNone, IfOk, IfErr, OnOk, OnErr, IfSome, IfNone, min, true};
 ghost use Rattle.bw_core.specs.World.{tries_in, IsEnd, seen_at, end_at, owns, posts_in, posts_at, times, top};
-ghost use Rattle.bw_core.specs.Events.{looked, came_late, split_left, split_right, joined, is_told};
+ghost use Rattle.bw_core.specs.Events.{book_after_look, book_after_late_swap, left_book, right_book, book_after_join, book_without_pieces};
 ghost use Rattle.bw_core.specs.Steps.{first_book};
 ghost use Rattle.bw_board.specs.declared.board.Replaced.TheVariants.{Won, Late};
 ghost use Rattle.bw_board.specs.Public.{BoardView, SeatView, board_view, seat_view, IsBoard, IsIdleSeat, Sees, Posts};
@@ -219,7 +219,7 @@ impl Board {
         ensures free { IfSome result (λ r. (n : ℕ) → r.start ≤ n → n < r.end → owns n seat.old.book ≡ 0) }
         ensures alone { IfSome result (λ r. OwnsAlone seat.new r.start r.end) }
         ensures sound { IfSome result (λ _. IsSound seat.new) }
-        ensures none { IfNone result (seat.new ≡ record seat.old { book = is_told seat.old.book }) }
+        ensures none { IfNone result (seat.new ≡ record seat.old { book = book_without_pieces seat.old.book }) }
         ensures all { IfNone result (AllClaimed seat.new) }
         ensures told { seat.old.book.told ≡ true → result ≡ None }
     {
@@ -246,8 +246,8 @@ impl Board {
     pub fn split(&self, seat: Seat) -> Result<(Seat, Seat), Seat>
         requires board { seat.board ≡ self.now }
         ensures wide { 2 ≤ seat.book.width → IsOk result }
-        ensures left { IfOk result (λ t. t.0 ≡ record seat { book = split_left seat.book }) }
-        ensures right { IfOk result (λ t. t.1 ≡ record seat { book = split_right seat.book }) }
+        ensures left { IfOk result (λ t. t.0 ≡ record seat { book = left_book seat.book }) }
+        ensures right { IfOk result (λ t. t.1 ≡ record seat { book = right_book seat.book }) }
         ensures back { IfErr result (λ s. s ≡ seat) }
         ensures narrow { OnErr result (seat.book.width ≡ 1) }
     {
@@ -279,7 +279,7 @@ impl Board {
     pub fn join(&self, seat: Seat, other: Seat) -> Seat
         requires board { seat.board ≡ self.now }
         requires other { other.board ≡ self.now }
-        ensures joined { result ≡ record seat { book = joined self.now.first seat.book other.book } }
+        ensures joined { result ≡ record seat { book = book_after_join self.now.first seat.book other.book } }
         ensures seen { (page : ℕ) → IsEnd (seen_at seat.book page) (seen_at result.book page) }
         ensures other_seen { (page : ℕ) → IsEnd (seen_at other.book page) (seen_at result.book page) }
         ensures apart { (r : ℕ) → owns r seat.book + owns r other.book ≤ 1 }
@@ -330,7 +330,7 @@ impl Board {
     pub fn look(&self, seat: &mut Seat, page: u64) -> u64
         requires board { seat.old.board ≡ self.now }
         requires page { page < length self.now.first }
-        ensures seen { Sees seat.old seat.new page (looked seat.old.book page) }
+        ensures seen { Sees seat.old seat.new page (book_after_look seat.old.book page) }
         ensures head { result ≡ top self.now.floor (end_at seat.new.book page) (seen_at seat.new.book page) }
     {
         steps::look(&self.table.shared, &mut seat.place, page)
@@ -344,7 +344,7 @@ impl Board {
     pub fn peek(&self, seat: &mut Seat, page: u64) -> Result<Vec<u64, Alloc>, Memory>
         requires board { seat.old.board ≡ self.now }
         requires page { page < length self.now.first }
-        ensures seen { Sees seat.old seat.new page (looked seat.old.book page) }
+        ensures seen { Sees seat.old seat.new page (book_after_look seat.old.book page) }
         ensures chain { IfOk result (λ v. v.items ≡ seen_at seat.new.book page) }
         ensures once { IfOk result (λ v. (r : ℕ) → times r v.items ≤ 1) }
         ensures own { IfOk result (λ v. (r : ℕ) → posts_at page r seat.old.book.posted ≤ times r v.items) }
@@ -365,7 +365,7 @@ impl Board {
         requires spare { slice_index_or self.now.spares page None ≢ None }
         requires untried { tries_in page seat.old.book.swaps ≡ 0 }
         ensures won { result ≡ Won → Replaces seat.old seat.new page }
-        ensures late { result ≡ Late → Sees seat.old seat.new page (came_late seat.old.book page) }
+        ensures late { result ≡ Late → Sees seat.old seat.new page (book_after_late_swap seat.old.book page) }
         ensures more { result ≡ Late → (0 < length (seen_at seat.new.book page))
             ⊎ (slice_index_or self.now.spares page None ≡ Some (end_at seat.new.book page)) }
     {

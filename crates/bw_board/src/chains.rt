@@ -1,7 +1,7 @@
 //! The chain of a page: a post puts a record before it, and a peek reads it.
 ghost use Rattle.std.specs.Prelude.{◌≡◌, ℕ, ◌+◌, ◌^◌, ◌<◌, ◌≤◌, [], List, length, slice_index, None, IfOk};
 ghost use Rattle.bw_core.specs.World.{owns, posts_in, seen_at};
-ghost use Rattle.bw_core.specs.Events.{looked};
+ghost use Rattle.bw_core.specs.Events.{book_after_look};
 ghost use Rattle.bw_board.specs.Plays.{IsSeated, IsSane, PostsOver, SeesChain};
 
 use crate::steps::{attempt, follow, link, look};
@@ -52,7 +52,7 @@ pub fn peek(
     requires floor { floor ≡ place.old.me.0.floor }
     requires page { page < pages }
     ensures seat { IsSeated words.now.table_id place.new }
-    ensures seen { SeesChain place.old.me.0 place.new.me.0 page (looked place.old.me.0.book page) }
+    ensures seen { SeesChain place.old.me.0 place.new.me.0 page (book_after_look place.old.me.0.book page) }
     ensures chain { IfOk result (λ v. v.items ≡ seen_at place.new.me.0.book page) }
     ensures sane { IsSane place.new.me.0 }
 {

@@ -1,7 +1,7 @@
 //! The kinds of atomic step, one call each. A seat's view after a step is given in full, with what it knows of itself.
 ghost use Rattle.std.specs.Prelude.{◌≡◌, ◌≢◌, ℕ, ◌+◌, ◌^◌, ◌<◌, ◌≤◌, true, [], ◌∷◌, ◌++◌, List, length, slice_index, slice_index_or, ◌⊎◌, Some, None, false};
 ghost use Rattle.bw_core.specs.World.{top, end_at, times, tries_in, seen_at, owns, posts_in};
-ghost use Rattle.bw_core.specs.Events.{Resumes, looked, replaced, came_late, takes_piece, is_told, under, won, lost_to};
+ghost use Rattle.bw_core.specs.Events.{Resumes, book_after_look, book_after_swap, book_after_late_swap, book_after_claim, book_without_pieces, under, book_after_win, book_after_loss};
 ghost use Rattle.bw_board.specs.Plays.{IsSeated, IsSane, IsTop, SeesChain, sight_after_link, with_book};
 
 use crate::plays::{Aim, Claim, Follow, Link, Look, Replace, Settle, Try};
@@ -12,7 +12,7 @@ pub fn look(words: &Words, place: &mut Place, page: u64) -> u64
     requires seat { IsSeated words.now.table_id place.old }
     requires page { page < length place.old.me.0.first }
     ensures seat { IsSeated words.now.table_id place.new }
-    ensures seen { SeesChain place.old.me.0 place.new.me.0 page (looked place.old.me.0.book page) }
+    ensures seen { SeesChain place.old.me.0 place.new.me.0 page (book_after_look place.old.me.0.book page) }
     ensures head { IsTop place.new.me.0 page result }
     ensures sane { IsSane place.new.me.0 }
 {
@@ -62,9 +62,10 @@ pub fn attempt(
     requires under { place.old.me.0.book.under ≡ Some (under rec page lost true) }
     requires word { word ≡ place.old.me.0.link }
     ensures seat { IsSeated words.now.table_id place.new }
-    ensures won { result ≡ word → place.new.me.0 ≡ with_book place.old.me.0 (won place.old.me.0.book rec page lost) }
+    ensures won { result ≡ word → place.new.me.0
+        ≡ with_book place.old.me.0 (book_after_win place.old.me.0.book rec page lost) }
     ensures lost { result ≢ word
-        → SeesChain place.old.me.0 place.new.me.0 page (lost_to place.old.me.0.book rec page lost) }
+        → SeesChain place.old.me.0 place.new.me.0 page (book_after_loss place.old.me.0.book rec page lost) }
     ensures head { result ≢ word → IsTop place.new.me.0 page result }
     ensures sane { IsSane place.new.me.0 }
 {
@@ -97,9 +98,9 @@ pub fn claim(words: &Words, place: &mut Place, piece: u64) -> u64
     requires records_fit { place.old.me.0.records ≤ 2 ^ 33 }
     ensures seat { IsSeated words.now.table_id place.new }
     ensures taken { result < place.old.me.0.records → place.new.me.0
-        ≡ with_book place.old.me.0 (takes_piece piece place.old.me.0.records result place.old.me.0.book) }
+        ≡ with_book place.old.me.0 (book_after_claim piece place.old.me.0.records result place.old.me.0.book) }
     ensures told { place.old.me.0.records ≤ result
-        → place.new.me.0 ≡ with_book place.old.me.0 (is_told place.old.me.0.book) }
+        → place.new.me.0 ≡ with_book place.old.me.0 (book_without_pieces place.old.me.0.book) }
     ensures sane { IsSane place.new.me.0 }
 {
     words.fetch_add::<Claim>(place, 0, piece)
@@ -124,9 +125,10 @@ pub fn replace(words: &Words, place: &mut Place, page: u64, first: u64, spare: u
     requires spare { slice_index_or place.old.me.0.spares page None ≡ Some spare }
     requires untried { tries_in page place.old.me.0.book.swaps ≡ 0 }
     ensures seat { IsSeated words.now.table_id place.new }
-    ensures won { result ≡ first → place.new.me.0 ≡ with_book place.old.me.0 (replaced place.old.me.0.book page spare) }
+    ensures won { result ≡ first → place.new.me.0
+        ≡ with_book place.old.me.0 (book_after_swap place.old.me.0.book page spare) }
     ensures late { result ≢ first
-        → SeesChain place.old.me.0 place.new.me.0 page (came_late place.old.me.0.book page) }
+        → SeesChain place.old.me.0 place.new.me.0 page (book_after_late_swap place.old.me.0.book page) }
     ensures more { result ≢ first → (0 < length (seen_at place.new.me.0.book page))
         ⊎ (slice_index_or place.old.me.0.spares page None ≡ Some (end_at place.new.me.0.book page)) }
     ensures sane { IsSane place.new.me.0 }

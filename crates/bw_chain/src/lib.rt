@@ -18,5 +18,5 @@ pub use laws::{home_is_one, levels_are_found, way_is_one};
 pub use target::Target;
 pub use turn::Turn;
 
-/// Want of memory.
+/// Out of memory.
 pub use bw_key::Memory;

@@ -7,7 +7,7 @@ use lib.ListN.{get_elem?}
 use Rattle.std.proofs.lemmas.Bool.Decides.{nat_tests}
 use Rattle.bw_core.specs.declared.Span.{Span}
 use Rattle.bw_core.specs.World.{one_if, total, owns, open_width, rounded, Claimed, spent}
-use Rattle.bw_core.specs.Events.{span, takes_piece, is_told, split_left, split_right, joined}
+use Rattle.bw_core.specs.Events.{span, book_after_claim, book_without_pieces, left_book, right_book, book_after_join}
 use Rattle.bw_core.specs.declared.BookView.{BookView}
 use Rattle.bw_core.specs.declared.Played.TheVariants.{Done, NotAllowed}
 use Rattle.bw_core.specs.World.{World, Lawful}
@@ -31,8 +31,8 @@ open_part : (bs : List BookView) → total open_width bs ≤ total (λ b. b.widt
 open_part [] = omega arith
 open_part (b ∷ bs) = let h = open_part bs in elim b.told as (λ t. cond t 0 b.width + total open_width bs ≤ b.width + total (λ b. b.width) bs) [ true ↦ omega arith | false ↦ omega arith ]
 
-pub claim_takes : (piece records next : ℕ) (bs : List BookView) (i : ℕ) (b : BookView) → Claimed piece records next bs → get_elem? bs i ≡ some b → next < records → b.told ≡ false → Claimed piece records (next + piece) (set bs i (takes_piece piece records next b))
-claim_takes piece records next bs i b q at h fresh = let c : BookView = takes_piece piece records next b in record {
+pub claim_takes : (piece records next : ℕ) (bs : List BookView) (i : ℕ) (b : BookView) → Claimed piece records next bs → get_elem? bs i ≡ some b → next < records → b.told ≡ false → Claimed piece records (next + piece) (set bs i (book_after_claim piece records next b))
+claim_takes piece records next bs i b q at h fresh = let c : BookView = book_after_claim piece records next b in record {
   some_piece = q.some_piece;
   owned_is = λ r. let k = q.owned_is r in let t = total_set (λ (b : BookView). owns r b) bs i b c at in
       let a = total-append (λ (s : Span). one_if (leb s.from r && ltb r s.to)) b.owned (span next (min (next + piece) records) ∷ []) in let e = covers piece records next r h in omega arith;
@@ -45,8 +45,8 @@ claim_takes piece records next bs i b q at h fresh = let c : BookView = takes_pi
       let le : piece * total open_width bs ≤ piece * 1024 = mul-le-mul_left piece (omega arith) in subst (λ z. next + piece + piece * z ≤ rounded piece records + piece * 1024) (sym same) (omega arith);
 }
 
-pub claim_tells : (piece records next : ℕ) (bs : List BookView) (i : ℕ) (b : BookView) → Claimed piece records next bs → get_elem? bs i ≡ some b → records ≤ next → b.told ≡ false → 0 < b.width → Claimed piece records (next + piece) (set bs i (is_told b))
-claim_tells piece records next bs i b q at h fresh wide = let c : BookView = is_told b in record {
+pub claim_tells : (piece records next : ℕ) (bs : List BookView) (i : ℕ) (b : BookView) → Claimed piece records next bs → get_elem? bs i ≡ some b → records ≤ next → b.told ≡ false → 0 < b.width → Claimed piece records (next + piece) (set bs i (book_without_pieces b))
+claim_tells piece records next bs i b q at h fresh wide = let c : BookView = book_without_pieces b in record {
   some_piece = q.some_piece;
   owned_is = λ r. let k = q.owned_is r in let t = total_set (λ (b : BookView). owns r b) bs i b c at in let e = same_cover piece records next r h in omega arith;
   told_done = λ j d e told. omega arith;
@@ -75,8 +75,8 @@ halves : (t : Bool) (n : ℕ) → cond t 0 (n - n / 2) + cond t 0 (n / 2) ≡ co
 halves true n = refl
 halves false n = omega arith
 
-pub claimed_split : (piece records next : ℕ) (bs : List BookView) (i : ℕ) (b : BookView) → Claimed piece records next bs → get_elem? bs i ≡ some b → Claimed piece records next (set bs i (split_left b) ++ split_right b ∷ [])
-claimed_split piece records next bs i b q at = let l : BookView = split_left b in let r : BookView = split_right b in record {
+pub claimed_split : (piece records next : ℕ) (bs : List BookView) (i : ℕ) (b : BookView) → Claimed piece records next bs → get_elem? bs i ≡ some b → Claimed piece records next (set bs i (left_book b) ++ right_book b ∷ [])
+claimed_split piece records next bs i b q at = let l : BookView = left_book b in let r : BookView = right_book b in record {
   some_piece = q.some_piece;
   owned_is = λ z. let k = q.owned_is z in let t = total_set (λ (b : BookView). owns z b) bs i b l at in let a = total-append (λ (b : BookView). owns z b) (set bs i l) (r ∷ []) in omega arith;
   told_done = λ j d e done. ⊎_elim (λ (e : get_elem? (set bs i l) j ≡ some d). ⊎_elim (λ (t : (j ≡ i) × (l ≡ d)). q.told_done i b at (ap (λ (z : BookView). z.told) t.1 ∙ done))
@@ -96,9 +96,9 @@ or_told : (s t : Bool) (P : Type 0) → (s ≡ true → P) → (t ≡ true → P
 or_told true t P f g h = f refl
 or_told false t P f g h = g h
 
-pub claimed_join : (first : List ℕ) (piece records next : ℕ) (bs : List BookView) (i j : ℕ) (b d : BookView) → Claimed piece records next bs → get_elem? bs i ≡ some b → get_elem? bs j ≡ some d → get_elem? (set bs i (joined first b d)) j ≡ some d
-    → Claimed piece records next (set (set bs i (joined first b d)) j spent)
-claimed_join first piece records next bs i j b d q at there there' = let c : BookView = joined first b d in record {
+pub claimed_join : (first : List ℕ) (piece records next : ℕ) (bs : List BookView) (i j : ℕ) (b d : BookView) → Claimed piece records next bs → get_elem? bs i ≡ some b → get_elem? bs j ≡ some d → get_elem? (set bs i (book_after_join first b d)) j ≡ some d
+    → Claimed piece records next (set (set bs i (book_after_join first b d)) j spent)
+claimed_join first piece records next bs i j b d q at there there' = let c : BookView = book_after_join first b d in record {
   some_piece = q.some_piece;
   owned_is = λ z. let k = q.owned_is z in let s = total_set (λ (b : BookView). owns z b) bs i b c at in let t = total_set (λ (b : BookView). owns z b) (set bs i c) j d spent there' in
       let a = total-append (λ (s : Span). one_if (leb s.from z && ltb z s.to)) b.owned d.owned in omega arith;

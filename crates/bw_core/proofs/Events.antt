@@ -11,7 +11,7 @@ use Rattle.bw_core.specs.declared.BookView.{BookView}
 use Rattle.bw_core.specs.declared.Swap.{Swap}
 use Rattle.std.specs.List.{AllByRecursion}
 use Rattle.bw_core.specs.World.{SameStart, end_at, spare_at, wins_in, late, Keeps, World, Claimed, one_if, total, times, owns, posts_in, posts_at, seen_at, top, Meets, IsEnd, beneath, LawfulUnder, LawfulBook, Lawful}
-use Rattle.bw_core.specs.Events.{swap, replaced, came_late, takes_piece, is_told, span, moved, under, post, looked, linked, won, lost_to}
+use Rattle.bw_core.specs.Events.{swap, book_after_swap, book_after_late_swap, book_after_claim, book_without_pieces, span, world_with, under, post, book_after_look, book_after_link, book_after_win, book_after_loss}
 use Rattle.bw_core.proofs.Claims.{claimed_same, claimed_low, claim_takes, claim_tells}
 use Rattle.bw_core.proofs.Lists.{one_small, at_set, one_same, one_other, total-append, total_set, total-le, total-le_at, total_at, total_two, AllByRecursion-append, AllByRecursion-like, end_trans, end_self, end-length, end-times, beneath_more, meets_top, meets_set, same_top, late_first, late_other, late_within}
 
@@ -95,7 +95,7 @@ or_then first x y z (inr e) (inr h) = inr (e ∙ h)
 
 -- a book that takes no part in an event
 pub book_keeps : (w : World) (hs ls : List ℕ) (bs : List BookView) (f : ℕ → List ℕ) (l : ℕ → ℕ) (g : ℕ → List ℕ) (k : ℕ → ℕ) (b : BookView) → Grows w.first f l g k
-    → ((u : Under) → b.under ≡ Some u → u.armed ≡ true → get_or ls u.rec 0 ≡ get_or w.links u.rec 0) → LawfulBook w f l b → LawfulBook (moved w hs ls bs) g k b
+    → ((u : Under) → b.under ≡ Some u → u.armed ≡ true → get_or ls u.rec 0 ≡ get_or w.links u.rec 0) → LawfulBook w f l b → LawfulBook (world_with w hs ls bs) g k b
 book_keeps w hs ls bs f l g k b grows same ok = record {
   posts_own = ok.posts_own;
   posts_page = AllByRecursion-like _ _ b.posted (λ x h. (h.0, let a = end-beneath x.rec (f x.page) (g x.page) (grows x.page).0 in let c = late_within (get_or w.first x.page 0) (l x.page) (k x.page) (grows x.page).1 in let m = h.1 in omega arith)) ok.posts_page;
@@ -155,20 +155,20 @@ pub one_book : (w : World) (q : Lawful w) (i : ℕ) (b c : BookView) (hs ls : Li
     → ((r : ℕ) → owns r c ≡ owns r b) → c.width ≡ b.width → c.told ≡ b.told → Grows w.first q.fresh q.last f l
     → ((j : ℕ) (d : BookView) → j ≢ i → get_elem? w.books j ≡ some d → (u : Under) → d.under ≡ Some u → u.armed ≡ true → get_or ls u.rec 0 ≡ get_or w.links u.rec 0)
     → ((r : ℕ) → 0 < total (λ (x : BookView). posts_in r x.posted) w.books → get_or ls r 0 ≡ get_or w.links r 0)
-    → LawfulBook (moved w hs ls (set w.books i c)) f l c → Keeps w q (moved w hs ls (set w.books i c))
+    → LawfulBook (world_with w hs ls (set w.books i c)) f l c → Keeps w q (world_with w hs ls (set w.books i c))
 one_book w q i b c hs ls f l at hw lw met last_is swapped placed owned width told grows others stay mine =
-    build_on w q (moved w hs ls (set w.books i c)) f l start_same grows stay (hw ∙ q.head_each_page) (lw ∙ q.link_each_record) q.low q.spare_low met last_is
+    build_on w q (world_with w hs ls (set w.books i c)) f l start_same grows stay (hw ∙ q.head_each_page) (lw ∙ q.link_each_record) q.low q.spare_low met last_is
     (λ p h. let a = swapped p h in let k = q.swapped p h in let t = total_set (λ (x : BookView). wins_in p x.swaps) w.books i b c at in omega arith)
     (λ p r h. let a = placed p r h in let k = q.placed p r h in let t = total_set (λ (x : BookView). posts_at p r x.posted) w.books i b c at in omega arith)
     (claimed_same w.piece w.records w.next w.books i b c q.claims at owned width told)
-    (λ j d e. ⊎_elim (λ (t : (j ≡ i) × (c ≡ d)). subst (LawfulBook (moved w hs ls (set w.books i c)) f l) t.1 mine)
+    (λ j d e. ⊎_elim (λ (t : (j ≡ i) × (c ≡ d)). subst (LawfulBook (world_with w hs ls (set w.books i c)) f l) t.1 mine)
     (λ (t : (j ≢ i) × (get_elem? w.books j ≡ some d)). book_keeps w hs ls (set w.books i c) q.fresh q.last f l d grows (others j d t.0 t.1) (q.each j d t.1)) (at_set w.books i j c d e))
 
 pub stays : (first : List ℕ) (f : ℕ → List ℕ) (l : ℕ → ℕ) → Grows first f l f l
 stays first f l p = (end_self (f p), inr refl)
 
 -- a seat that sees a page's whole chain
-pub sees_all : (w : World) (q : Lawful w) (i : ℕ) (b : BookView) (p : ℕ) → get_elem? w.books i ≡ some b → b.live ≡ true → p < length w.first → LawfulBook w q.fresh q.last (looked b p (q.fresh p) (q.last p))
+pub sees_all : (w : World) (q : Lawful w) (i : ℕ) (b : BookView) (p : ℕ) → get_elem? w.books i ≡ some b → b.live ≡ true → p < length w.first → LawfulBook w q.fresh q.last (book_after_look b p (q.fresh p) (q.last p))
 sees_all w q i b p at live within = let ok = q.each i b at in let width = ok.seen_each_page live in let width' = ok.end_each_page live in
     let inside : p < length b.seen = omega arith in let inside' : p < length b.ends = omega arith in
     book_sees w q.fresh q.last b (set b.seen p (q.fresh p)) (set b.ends p (q.last p)) live (length-set b.seen p (q.fresh p)) (length-set b.ends p (q.last p))
@@ -180,8 +180,8 @@ sees_all w q i b p at live within = let ok = q.each i b at in let width = ok.see
     (λ n. (inr refl, ok.ends_is k live h))) ok
 
 pub look_keeps : (w : World) (q : Lawful w) (i : ℕ) (b : BookView) (p : ℕ) → get_elem? w.books i ≡ some b → b.live ≡ true → p < length w.first
-    → Keeps w q (moved w w.heads w.links (set w.books i (looked b p (q.fresh p) (q.last p))))
-look_keeps w q i b p at live within = let c : BookView = looked b p (q.fresh p) (q.last p) in
+    → Keeps w q (world_with w w.heads w.links (set w.books i (book_after_look b p (q.fresh p) (q.last p))))
+look_keeps w q i b p at live within = let c : BookView = book_after_look b p (q.fresh p) (q.last p) in
     one_book w q i b c w.heads w.links q.fresh q.last at refl refl q.met q.last_is (λ k h. refl) (λ k r h. refl) (λ r. refl) refl refl (stays w.first q.fresh q.last) (λ j d n e u is a. refl) (λ r h. refl)
     (book_keeps w w.heads w.links (set w.books i c) q.fresh q.last q.fresh q.last c (stays w.first q.fresh q.last) (λ u is a. refl) (sees_all w q i b p at live within))
 
@@ -209,9 +209,9 @@ live_under w f l b ok u is = live_or b.live refl
 
 pub link_keeps : (w : World) (q : Lawful w) (i : ℕ) (b : BookView) (r p lost : ℕ) → get_elem? w.books i ≡ some b → b.live ≡ true → p < length w.first → 0 < owns r b → posts_in r b.posted ≡ 0
     → lost ≤ length (seen_at b p) + late (get_or w.first p 0) (end_at b p)
-    → Keeps w q (moved w w.heads (set w.links r (top w.floor (end_at b p) (seen_at b p))) (set w.books i (linked b r p lost)))
+    → Keeps w q (world_with w w.heads (set w.links r (top w.floor (end_at b p) (seen_at b p))) (set w.books i (book_after_link b r p lost)))
 link_keeps w q i b r p lost at live within own none short =
-    let ok = q.each i b at in let c : BookView = linked b r p lost in let x = top w.floor (end_at b p) (seen_at b p) in
+    let ok = q.each i b at in let c : BookView = book_after_link b r p lost in let x = top w.floor (end_at b p) (seen_at b p) in
     let ls : List ℕ = set w.links r x in let wide : length ls ≡ length w.links = length-set w.links r x in
     let inside : r < length w.links = let a = is_record w q i b r at own in let n = q.link_each_record in omega arith in
     one_book w q i b c w.heads ls q.fresh q.last at refl wide (λ k h. meets_set w.floor w.links (get_or w.heads k 0) (q.fresh k) (q.last k) r x (absent w q i b r k at own none h) wide (q.met k h))
@@ -220,7 +220,7 @@ link_keeps w q i b r p lost at live within own none short =
     record {
       posts_own = ok.posts_own;
       posts_page = ok.posts_page;
-      lawful_under = λ u is. subst (LawfulUnder (moved w w.heads ls (set w.books i c)) c) (some_same (under r p lost true) u is) record {
+      lawful_under = λ u is. subst (LawfulUnder (world_with w w.heads ls (set w.books i c)) c) (some_same (under r p lost true) u is) record {
         on_page = within;
         own = own;
         unposted = none;
@@ -295,10 +295,10 @@ some_same : (a b : Under) → Some a ≡ Some b → a ≡ b
 some_same a b e = cc
 
 pub lose_keeps : (w : World) (q : Lawful w) (i : ℕ) (b : BookView) (r p lost : ℕ) → get_elem? w.books i ≡ some b → b.under ≡ Some (under r p lost true) → get_or w.heads p 0 ≢ get_or w.links r 0
-    → Keeps w q (moved w w.heads w.links (set w.books i (lost_to b r p lost (q.fresh p) (q.last p))))
+    → Keeps w q (world_with w w.heads w.links (set w.books i (book_after_loss b r p lost (q.fresh p) (q.last p))))
 lose_keeps w q i b r p lost at is miss =
     let ok = q.each i b at in let k = ok.lawful_under (under r p lost true) is in let live = live_under w q.fresh q.last b ok (under r p lost true) is in
-    let s = q.fresh p in let c : BookView = lost_to b r p lost s (q.last p) in let width = ok.seen_each_page live in let width' = ok.end_each_page live in let within : p < length w.first = k.on_page in
+    let s = q.fresh p in let c : BookView = book_after_loss b r p lost s (q.last p) in let width = ok.seen_each_page live in let width' = ok.end_each_page live in let within : p < length w.first = k.on_page in
     let inside : p < length b.seen = omega arith in let inside' : p < length b.ends = omega arith in
     let few : lost + 1 ≤ length (q.fresh p) + late (get_or w.first p 0) (q.last p) = longer w q i b (under r p lost true) at is refl miss in
     let seen = sees_all w q i b p at live within in
@@ -306,7 +306,7 @@ lose_keeps w q i b r p lost at is miss =
     record {
       posts_own = ok.posts_own;
       posts_page = ok.posts_page;
-      lawful_under = λ u is. subst (LawfulUnder (moved w w.heads w.links (set w.books i c)) c) (some_same (under r p (lost + 1) false) u is) record {
+      lawful_under = λ u is. subst (LawfulUnder (world_with w w.heads w.links (set w.books i c)) c) (some_same (under r p (lost + 1) false) u is) record {
         on_page = within;
         own = k.own;
         unposted = k.unposted;
@@ -335,11 +335,11 @@ and_there : (p k : ℕ) (b : Bool) → p ≢ k → one_if (eqb p k && b) ≡ 0
 and_there p k b n = ap (λ z. one_if (z && b)) (ne_eqb p k n)
 
 pub win_keeps : (w : World) (q : Lawful w) (i : ℕ) (b : BookView) (r p lost : ℕ) → get_elem? w.books i ≡ some b → b.under ≡ Some (under r p lost true) → get_or w.heads p 0 ≡ get_or w.links r 0
-    → Keeps w q (moved w (set w.heads p (w.floor + r)) w.links (set w.books i (won b r p lost)))
+    → Keeps w q (world_with w (set w.heads p (w.floor + r)) w.links (set w.books i (book_after_win b r p lost)))
 win_keeps w q i b r p lost at is hit =
     let u : Under = under r p lost true in
     let ok = q.each i b at in let k = ok.lawful_under u is in let live = live_under w q.fresh q.last b ok u is in let own : 0 < owns r b = k.own in let none : posts_in r b.posted ≡ 0 = k.unposted in
-    let c : BookView = won b r p lost in let width = ok.seen_each_page live in let within : p < length w.first = k.on_page in
+    let c : BookView = book_after_win b r p lost in let width = ok.seen_each_page live in let within : p < length w.first = k.on_page in
     let inside : p < length b.seen = omega arith in let whole = whole_seen w q i b u at is refl hit in
     let same : seen_at b p ≡ q.fresh p = whole.0 in let few : lost ≤ length (q.fresh p) + late (get_or w.first p 0) (q.last p) = whole.1 in
     let hs : List ℕ = set w.heads p (w.floor + r) in let f : ℕ → List ℕ = put q.fresh p (r ∷ q.fresh p) in
@@ -387,8 +387,8 @@ and_false true = refl
 and_false false = refl
 
 pub replace_keeps_late : (w : World) (q : Lawful w) (i : ℕ) (b : BookView) (p : ℕ) → get_elem? w.books i ≡ some b → b.live ≡ true → b.under ≡ None → p < length w.first
-    → Keeps w q (moved w w.heads w.links (set w.books i (came_late b p (q.fresh p) (q.last p))))
-replace_keeps_late w q i b p at live idle within = let ok = q.each i b at in let c : BookView = came_late b p (q.fresh p) (q.last p) in let seen = sees_all w q i b p at live within in
+    → Keeps w q (world_with w w.heads w.links (set w.books i (book_after_late_swap b p (q.fresh p) (q.last p))))
+replace_keeps_late w q i b p at live idle within = let ok = q.each i b at in let c : BookView = book_after_late_swap b p (q.fresh p) (q.last p) in let seen = sees_all w q i b p at live within in
     one_book w q i b c w.heads w.links q.fresh q.last at refl refl q.met q.last_is (λ k h. let a = wins_in-push k p false b.swaps in let n = and_false (eqb p k) in omega arith)
     (λ k r h. refl) (λ r. refl) refl refl (stays w.first q.fresh q.last) (λ j d n e u is a. refl) (λ r h. refl)
     record {
@@ -419,9 +419,9 @@ nothing_new fl links word [] last low m = (refl, m)
 nothing_new fl links word (r ∷ rs) last low m = let e = m.0 in absurd (omega arith)
 
 pub replace_keeps_won : (w : World) (q : Lawful w) (i : ℕ) (b : BookView) (p x : ℕ) → get_elem? w.books i ≡ some b → b.live ≡ true → b.under ≡ None → p < length w.first → spare_at w p ≡ Some x
-    → get_or w.heads p 0 ≡ get_or w.first p 0 → Keeps w q (moved w (set w.heads p x) w.links (set w.books i (replaced b p x)))
+    → get_or w.heads p 0 ≡ get_or w.first p 0 → Keeps w q (world_with w (set w.heads p x) w.links (set w.books i (book_after_swap b p x)))
 replace_keeps_won w q i b p x at live idle within spare hit =
-    let ok = q.each i b at in let c : BookView = replaced b p x in let hs : List ℕ = set w.heads p x in let l : ℕ → ℕ = put q.last p x in
+    let ok = q.each i b at in let c : BookView = book_after_swap b p x in let hs : List ℕ = set w.heads p x in let l : ℕ → ℕ = put q.last p x in
     let low = q.low p within in let none_new = nothing_new w.floor w.links (get_or w.heads p 0) (q.fresh p) (q.last p) (omega arith) (q.met p within) in
     let was : q.last p ≡ get_or w.first p 0 = sym none_new.1 ∙ hit in
     let room : p < length w.heads = let n = q.head_each_page in omega arith in let wide = ok.end_each_page live in let inside : p < length b.ends = omega arith in
@@ -486,12 +486,12 @@ claim_any w q i b c n at live idle live' idle' posted seen ends swaps width more
     }) (at_set w.books i j c d e))
 
 pub claim_keeps_piece : (w : World) (q : Lawful w) (i : ℕ) (b : BookView) → get_elem? w.books i ≡ some b → b.live ≡ true → b.under ≡ None → b.told ≡ false → w.next < w.records
-    → Keeps w q (record w { next = w.next + w.piece; books = set w.books i (takes_piece w.piece w.records w.next b) })
-claim_keeps_piece w q i b at live idle untold some_left = claim_any w q i b (takes_piece w.piece w.records w.next b) (w.next + w.piece) at live idle live idle refl refl refl refl refl
+    → Keeps w q (record w { next = w.next + w.piece; books = set w.books i (book_after_claim w.piece w.records w.next b) })
+claim_keeps_piece w q i b at live idle untold some_left = claim_any w q i b (book_after_claim w.piece w.records w.next b) (w.next + w.piece) at live idle live idle refl refl refl refl refl
     (λ r. let a = total-append (λ (s : Span). one_if (leb s.from r && ltb r s.to)) b.owned (span w.next (min (w.next + w.piece) w.records) ∷ []) in omega arith)
     (claim_takes w.piece w.records w.next w.books i b q.claims at some_left untold)
 
 pub claim_keeps_told : (w : World) (q : Lawful w) (i : ℕ) (b : BookView) → get_elem? w.books i ≡ some b → b.live ≡ true → b.under ≡ None → b.told ≡ false → w.records ≤ w.next
-    → Keeps w q (record w { next = w.next + w.piece; books = set w.books i (is_told b) })
-claim_keeps_told w q i b at live idle untold none_left = claim_any w q i b (is_told b) (w.next + w.piece) at live idle live idle refl refl refl refl refl (λ r. omega arith)
+    → Keeps w q (record w { next = w.next + w.piece; books = set w.books i (book_without_pieces b) })
+claim_keeps_told w q i b at live idle untold none_left = claim_any w q i b (book_without_pieces b) (w.next + w.piece) at live idle live idle refl refl refl refl refl (λ r. omega arith)
     (claim_tells w.piece w.records w.next w.books i b q.claims at none_left untold ((q.each i b at).some_width live))

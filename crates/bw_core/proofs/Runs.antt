@@ -10,7 +10,7 @@ use Rattle.bw_core.specs.declared.Played.{Played}
 use Rattle.bw_core.specs.declared.Post.{Post}
 use Rattle.bw_core.specs.declared.BookView.{BookView}
 use Rattle.bw_core.specs.World.{World, Lawful, LawfulBook, Keeps, IsEnd, one_if, total, times, posts_in, posts_at, seen_at, end_at, late}
-use Rattle.bw_core.specs.Events.{moved, under, looked, lost_to, came_late, Resumes}
+use Rattle.bw_core.specs.Events.{world_with, under, book_after_look, book_after_loss, book_after_late_swap, Resumes}
 use Rattle.bw_core.specs.Steps.{IsFresh, Looks, Links, Tries, Follows, Claims, Splits, Joins, Replaces, Applies, Runs, CanStart, start_world, first_book, IsWorld}
 use Rattle.bw_core.specs.Keeping.{FreshIsRead, StartIsLawful, FollowKeeps, EventKeeps, RunKeeps}
 use Rattle.bw_core.proofs.Lists.{meets_same, end_self, end_trans, end-times, late_first, total-le, total_at, some_member, AllByRecursion-at}
@@ -34,7 +34,7 @@ reads w q page s x P h fresh p = let t = fresh_is_read w q page s x h fresh in s
 look_event : (w : World) (q : Lawful w) (seat page : ℕ) (w' : World) (a : Played) → Looks w seat page w' a → Keeps w q w'
 look_event w q seat page w' a (inr t) = same_world w q w' t.1.0
 look_event w q seat page w' a (inl t) = let b = t.0 in let may = t.3 in subst (Keeps w q) (sym t.5)
-    (reads w q page t.1 t.2 (λ s x. Keeps w q (moved w w.heads w.links (set w.books seat (looked b page s x)))) may.1 t.4 (look_keeps w q seat b page may.0.0 may.0.1 may.1))
+    (reads w q page t.1 t.2 (λ s x. Keeps w q (world_with w w.heads w.links (set w.books seat (book_after_look b page s x)))) may.1 t.4 (look_keeps w q seat b page may.0.0 may.0.1 may.1))
 
 -- a record under way has lost at most so often
 pub resumes_few : (w : World) (q : Lawful w) (seat : ℕ) (b : BookView) (rec page lost : ℕ) → get_elem? w.books seat ≡ some b → Resumes b rec page lost → lost ≤ length (seen_at b page) + late (get_or w.first page 0) (end_at b page)
@@ -49,7 +49,7 @@ try_event : (w : World) (q : Lawful w) (seat rec page : ℕ) (w' : World) (a : P
 try_event w q seat rec page w' a (inr t) = same_world w q w' t.1.0
 try_event w q seat rec page w' a (inl (b, lost, may, inl t)) = subst (Keeps w q) (sym t.1) (win_keeps w q seat b rec page lost may.0.0 may.1 t.0)
 try_event w q seat rec page w' a (inl (b, lost, may, inr t)) = let h = ((q.each seat b may.0.0).lawful_under (under rec page lost true) may.1).on_page in subst (Keeps w q) (sym t.4)
-    (reads w q page t.0 t.1 (λ s x. Keeps w q (moved w w.heads w.links (set w.books seat (lost_to b rec page lost s x)))) h t.3 (lose_keeps w q seat b rec page lost may.0.0 may.1 t.2))
+    (reads w q page t.0 t.1 (λ s x. Keeps w q (world_with w w.heads w.links (set w.books seat (book_after_loss b rec page lost s x)))) h t.3 (lose_keeps w q seat b rec page lost may.0.0 may.1 t.2))
 
 follow_event : (w : World) (q : Lawful w) (seat rec : ℕ) (w' : World) (a : Played) → Follows w seat rec w' a → Keeps w q w'
 follow_event w q seat rec w' a (inr t) = same_world w q w' t.1.0
@@ -72,7 +72,7 @@ replace_event : (w : World) (q : Lawful w) (seat page : ℕ) (w' : World) (a : P
 replace_event w q seat page w' a (inr t) = same_world w q w' t.1.0
 replace_event w q seat page w' a (inl (b, spare, may, inl t)) = subst (Keeps w q) (sym t.1) (replace_keeps_won w q seat b page spare may.0.0 may.0.1 may.1 may.2 may.3 t.0)
 replace_event w q seat page w' a (inl (b, spare, may, inr t)) = subst (Keeps w q) (sym t.4)
-    (reads w q page t.0 t.1 (λ s x. Keeps w q (moved w w.heads w.links (set w.books seat (came_late b page s x)))) may.2 t.3 (replace_keeps_late w q seat b page may.0.0 may.0.1 may.1 may.2))
+    (reads w q page t.0 t.1 (λ s x. Keeps w q (world_with w w.heads w.links (set w.books seat (book_after_late_swap b page s x)))) may.2 t.3 (replace_keeps_late w q seat b page may.0.0 may.0.1 may.1 may.2))
 
 pub event_keeps : EventKeeps
 event_keeps w q (Look seat page) w' a h = look_event w q seat page w' a h

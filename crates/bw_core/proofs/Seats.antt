@@ -9,17 +9,17 @@ use Rattle.bw_core.specs.declared.Post.{Post}
 use Rattle.bw_core.specs.declared.Swap.{Swap}
 use Rattle.bw_core.specs.declared.BookView.{BookView}
 use Rattle.bw_core.specs.World.{wins_in, Keeps, World, one_if, posts_at, seen_at, IsEnd, LawfulBook, Lawful, spent}
-use Rattle.bw_core.specs.Events.{moved, split_left, split_right, longer_of, longest, later_of, latest, joined}
+use Rattle.bw_core.specs.Events.{world_with, left_book, right_book, longer_of, longest, later_of, latest, book_after_join}
 use Rattle.bw_core.specs.Keeping.{JoinSeesBoth}
 use Rattle.bw_core.proofs.Lists.{still_at, at_set, at_snoc, total-append, total_set, total_two, AllByRecursion-append, end_self, end-times}
 use Rattle.bw_core.proofs.Events.{start_same, build_on, stays, book_keeps, end_same}
 use Rattle.bw_core.proofs.Claims.{claimed_split, claimed_join}
 
 pub split_keeps : (w : World) (q : Lawful w) (i : ℕ) (b : BookView) → get_elem? w.books i ≡ some b → b.live ≡ true → b.under ≡ None → 2 ≤ b.width
-    → Keeps w q (moved w w.heads w.links (set w.books i (split_left b) ++ split_right b ∷ []))
+    → Keeps w q (world_with w w.heads w.links (set w.books i (left_book b) ++ right_book b ∷ []))
 split_keeps w q i b at live idle wide =
-    let ok = q.each i b at in let l : BookView = split_left b in let r : BookView = split_right b in let bs : List BookView = set w.books i l ++ r ∷ [] in
-    let w' : World = moved w w.heads w.links bs in
+    let ok = q.each i b at in let l : BookView = left_book b in let r : BookView = right_book b in let bs : List BookView = set w.books i l ++ r ∷ [] in
+    let w' : World = world_with w w.heads w.links bs in
     build_on w q w' q.fresh q.last start_same (stays w.first q.fresh q.last) (λ r h. refl) q.head_each_page q.link_each_record q.low q.spare_low q.met q.last_is
     (λ p h. let k = q.swapped p h in let f : BookView → ℕ = λ b. wins_in p b.swaps in let t = total_set f w.books i b l at in let a = total-append f (set w.books i l) (r ∷ []) in omega arith)
     (λ p z h. let k = q.placed p z h in let f : BookView → ℕ = λ b. posts_at p z b.posted in let t = total_set f w.books i b l at in let a = total-append f (set w.books i l) (r ∷ []) in omega arith)
@@ -102,7 +102,7 @@ latest_at (f ∷ fs) (x ∷ xs) (y ∷ ys) zero P h e k a b = elim (eqb x f) as 
 latest_at (f ∷ fs) (x ∷ xs) (y ∷ ys) (suc p) P h e k a b = latest_at fs xs ys p P (omega arith) (omega arith) (omega arith) a b
 
 join_parts : (w : World) (f : ℕ → List ℕ) (l : ℕ → ℕ) (b d : BookView) (p : ℕ) → LawfulBook w f l b → LawfulBook w f l d → b.live ≡ true → d.live ≡ true → p < length w.first
-    → IsEnd (seen_at b p) (seen_at (joined w.first b d) p) × IsEnd (seen_at d p) (seen_at (joined w.first b d) p) × IsEnd (seen_at (joined w.first b d) p) (f p)
+    → IsEnd (seen_at b p) (seen_at (book_after_join w.first b d) p) × IsEnd (seen_at d p) (seen_at (book_after_join w.first b d) p) × IsEnd (seen_at (book_after_join w.first b d) p) (f p)
 join_parts w f l b d p ok od lb ld h = let e : length b.seen ≡ length d.seen = ok.seen_each_page lb ∙ sym (od.seen_each_page ld) in let n = ok.seen_each_page lb in
     let at : get_or (longest b.seen d.seen) p [] ≡ longer_of (seen_at b p) (seen_at d p) = longest_at b.seen d.seen p (omega arith) e in
     subst (λ z. IsEnd (seen_at b p) z × IsEnd (seen_at d p) z × IsEnd z (f p)) (sym at) (longer_ends (seen_at b p) (seen_at d p) (f p) (ok.seen_end p lb h) (od.seen_end p ld h))
@@ -121,19 +121,19 @@ join_sees_both w q i j b d at there =
     let wide = ok.seen_each_page at.1 in let wide' = od.seen_each_page there.1 in record {
       left = λ p. elim (dec_lt p (length w.first)) [
         | yes h ↦ (join_parts w q.fresh q.last b d p ok od at.1 there.1 h).0
-        | no n ↦ empty_end (seen_at b p) (seen_at (joined w.first b d) p) (no_page b.seen p (omega arith))
+        | no n ↦ empty_end (seen_at b p) (seen_at (book_after_join w.first b d) p) (no_page b.seen p (omega arith))
       ];
       right = λ p. elim (dec_lt p (length w.first)) [
         | yes h ↦ (join_parts w q.fresh q.last b d p ok od at.1 there.1 h).1
-        | no n ↦ empty_end (seen_at d p) (seen_at (joined w.first b d) p) (no_page d.seen p (omega arith))
+        | no n ↦ empty_end (seen_at d p) (seen_at (book_after_join w.first b d) p) (no_page d.seen p (omega arith))
       ];
     }
 
 pub join_keeps : (w : World) (q : Lawful w) (i j : ℕ) (b d : BookView) → get_elem? w.books i ≡ some b → get_elem? w.books j ≡ some d → j ≢ i → b.live ≡ true → d.live ≡ true → b.under ≡ None → d.under ≡ None
-    → Keeps w q (moved w w.heads w.links (set (set w.books i (joined w.first b d)) j spent))
-join_keeps w q i j b d at there n lb ld idle idle' = let there' = still_at w.books i j (joined w.first b d) d n there in
-    let ok = q.each i b at in let od = q.each j d there in let c : BookView = joined w.first b d in let bs : List BookView = set (set w.books i c) j spent in
-    let w' : World = moved w w.heads w.links bs in let e : length b.seen ≡ length d.seen = ok.seen_each_page lb ∙ sym (od.seen_each_page ld) in
+    → Keeps w q (world_with w w.heads w.links (set (set w.books i (book_after_join w.first b d)) j spent))
+join_keeps w q i j b d at there n lb ld idle idle' = let there' = still_at w.books i j (book_after_join w.first b d) d n there in
+    let ok = q.each i b at in let od = q.each j d there in let c : BookView = book_after_join w.first b d in let bs : List BookView = set (set w.books i c) j spent in
+    let w' : World = world_with w w.heads w.links bs in let e : length b.seen ≡ length d.seen = ok.seen_each_page lb ∙ sym (od.seen_each_page ld) in
     build_on w q w' q.fresh q.last start_same (stays w.first q.fresh q.last) (λ r h. refl) q.head_each_page q.link_each_record q.low q.spare_low q.met q.last_is
     (λ p h. let k = q.swapped p h in let f : BookView → ℕ = λ b. wins_in p b.swaps in let s = total_set f w.books i b c at in let t = total_set f (set w.books i c) j d spent there' in
     let a = total-append (λ (x : Swap). one_if (eqb x.page p && x.won)) b.swaps d.swaps in omega arith)

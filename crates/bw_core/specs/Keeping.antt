@@ -9,8 +9,8 @@ use Rattle.bw_core.specs.declared.Played.{Played}
 use Rattle.bw_core.specs.declared.Played.TheVariants.{Done}
 use Rattle.std.specs.List.{AllByRecursion}
 use Rattle.bw_core.specs.World.{World, Lawful, Keeps, Armed, Meets, IsEnd, one_if, total, beneath, wins_in, owns, posts_in, posts_at, seen_at, end_at, spare_at, late, top, spent}
-use Rattle.bw_core.specs.Events.{moved, under, looked, linked, won, lost_to, takes_piece, is_told, split_left, split_right, joined, replaced, came_late}
-use Rattle.bw_core.specs.Steps.{IsFresh, IsSeat, Claims, Applies, Runs, CanStart, start_world, claimed}
+use Rattle.bw_core.specs.Events.{world_with, under, book_after_look, book_after_link, book_after_win, book_after_loss, book_after_claim, book_without_pieces, left_book, right_book, book_after_join, book_after_swap, book_after_late_swap}
+use Rattle.bw_core.specs.Steps.{IsFresh, IsSeat, Claims, Applies, Runs, CanStart, start_world, world_after_claim}
 
 -- the chain that the law speaks of is the one that the heads and links give
 abbrev pub FreshIsRead : Type 0
@@ -26,7 +26,8 @@ StartIsLawful = (first : List ℕ) (floor records piece : ℕ) (spares : List (O
 abbrev pub LookKeeps : Type 0
 LookKeeps = (w : World) (q : Lawful w) (seat : ℕ) (b : BookView) (page : ℕ) → get_elem? w.books seat ≡ some b
     → b.live ≡ true → page < length w.first
-    → Keeps w q (moved w w.heads w.links (slice_set w.books seat (looked b page (q.fresh page) (q.last page))))
+    → Keeps w q (world_with w w.heads w.links
+    (slice_set w.books seat (book_after_look b page (q.fresh page) (q.last page))))
 
 -- the top of the seen chain is stored as the link; the bound on `lost` is that of a record under way, and holds of a
 -- new record, which has lost nothing
@@ -34,21 +35,21 @@ abbrev pub LinkKeeps : Type 0
 LinkKeeps = (w : World) (q : Lawful w) (seat : ℕ) (b : BookView) (rec page lost : ℕ) → get_elem? w.books seat ≡ some b
     → b.live ≡ true → page < length w.first → 0 < owns rec b → posts_in rec b.posted ≡ 0
     → lost ≤ length (seen_at b page) + late (slice_index w.first page) (end_at b page)
-    → Keeps w q (moved w w.heads (slice_set w.links rec (top w.floor (end_at b page) (seen_at b page)))
-    (slice_set w.books seat (linked b rec page lost)))
+    → Keeps w q (world_with w w.heads (slice_set w.links rec (top w.floor (end_at b page) (seen_at b page)))
+    (slice_set w.books seat (book_after_link b rec page lost)))
 
 -- the head is the armed record's link, and becomes the record's word
 abbrev pub WinKeeps : Type 0
 WinKeeps = (w : World) (q : Lawful w) (seat : ℕ) (b : BookView) (rec page lost : ℕ) → get_elem? w.books seat ≡ some b
     → b.under ≡ Some (under rec page lost true) → slice_index w.heads page ≡ slice_index w.links rec
-    → Keeps w q (moved w (slice_set w.heads page (w.floor + rec)) w.links
-    (slice_set w.books seat (won b rec page lost)))
+    → Keeps w q (world_with w (slice_set w.heads page (w.floor + rec)) w.links
+    (slice_set w.books seat (book_after_win b rec page lost)))
 
 -- the head is another word, and the page's whole chain is seen
 abbrev pub LoseKeeps : Type 0
 LoseKeeps = (w : World) (q : Lawful w) (seat : ℕ) (b : BookView) (rec page lost : ℕ) → get_elem? w.books seat ≡ some b
     → b.under ≡ Some (under rec page lost true) → slice_index w.heads page ≢ slice_index w.links rec
-    → Keeps w q (moved w w.heads w.links (slice_set w.books seat (lost_to b rec page lost (q.fresh page)
+    → Keeps w q (world_with w w.heads w.links (slice_set w.books seat (book_after_loss b rec page lost (q.fresh page)
     (q.last page))))
 
 -- a follow changes nothing
@@ -59,26 +60,27 @@ FollowKeeps = (w : World) (q : Lawful w) → Keeps w q w
 abbrev pub ClaimKeepsPiece : Type 0
 ClaimKeepsPiece = (w : World) (q : Lawful w) (seat : ℕ) (b : BookView) → get_elem? w.books seat ≡ some b
     → b.live ≡ true → b.under ≡ None → b.told ≡ false → w.next < w.records
-    → Keeps w q (claimed w seat (takes_piece w.piece w.records w.next b))
+    → Keeps w q (world_after_claim w seat (book_after_claim w.piece w.records w.next b))
 
 -- a claim that finds none
 abbrev pub ClaimKeepsTold : Type 0
 ClaimKeepsTold = (w : World) (q : Lawful w) (seat : ℕ) (b : BookView) → get_elem? w.books seat ≡ some b
     → b.live ≡ true → b.under ≡ None → b.told ≡ false → w.records ≤ w.next
-    → Keeps w q (claimed w seat (is_told b))
+    → Keeps w q (world_after_claim w seat (book_without_pieces b))
 
 -- a seat parts in two
 abbrev pub SplitKeeps : Type 0
 SplitKeeps = (w : World) (q : Lawful w) (seat : ℕ) (b : BookView) → get_elem? w.books seat ≡ some b → b.live ≡ true
     → b.under ≡ None → 2 ≤ b.width
-    → Keeps w q (moved w w.heads w.links (slice_set w.books seat (split_left b) ++ split_right b ∷ []))
+    → Keeps w q (world_with w w.heads w.links (slice_set w.books seat (left_book b) ++ right_book b ∷ []))
 
 -- a seat takes over what another had
 abbrev pub JoinKeeps : Type 0
 JoinKeeps = (w : World) (q : Lawful w) (into other : ℕ) (b d : BookView) → get_elem? w.books into ≡ some b
     → get_elem? w.books other ≡ some d → other ≢ into → b.live ≡ true → d.live ≡ true
     → b.under ≡ None → d.under ≡ None
-    → Keeps w q (moved w w.heads w.links (slice_set (slice_set w.books into (joined w.first b d)) other spent))
+    → Keeps w q (world_with w w.heads w.links
+    (slice_set (slice_set w.books into (book_after_join w.first b d)) other spent))
 
 -- the head is the first word, and becomes the spare
 abbrev pub ReplaceKeepsWon : Type 0
@@ -86,13 +88,15 @@ ReplaceKeepsWon = (w : World) (q : Lawful w) (seat : ℕ) (b : BookView) (page s
     → get_elem? w.books seat ≡ some b → b.live ≡ true → b.under ≡ None → page < length w.first
     → spare_at w page ≡ Some spare
     → slice_index w.heads page ≡ slice_index w.first page
-    → Keeps w q (moved w (slice_set w.heads page spare) w.links (slice_set w.books seat (replaced b page spare)))
+    → Keeps w q (world_with w (slice_set w.heads page spare) w.links
+    (slice_set w.books seat (book_after_swap b page spare)))
 
 -- the page's whole chain is seen, and the try is written down as late
 abbrev pub ReplaceKeepsLate : Type 0
 ReplaceKeepsLate = (w : World) (q : Lawful w) (seat : ℕ) (b : BookView) (page : ℕ) → get_elem? w.books seat ≡ some b
     → b.live ≡ true → b.under ≡ None → page < length w.first
-    → Keeps w q (moved w w.heads w.links (slice_set w.books seat (came_late b page (q.fresh page) (q.last page))))
+    → Keeps w q (world_with w w.heads w.links
+    (slice_set w.books seat (book_after_late_swap b page (q.fresh page) (q.last page))))
 
 -- a head that is not the first word any more shows a new record, or the spare at the chain's end
 abbrev pub LateSawMore : Type 0
@@ -145,21 +149,21 @@ ArmedLinkIs = (w : World) (q : Lawful w) (seat : ℕ) (b : BookView) (u : Under)
 -- a join adds up what two seats own, posted and replaced
 abbrev pub JoinAdds : Type 0
 JoinAdds = (first : List ℕ) (b d : BookView) (rec page : ℕ)
-    → (owns rec (joined first b d) ≡ owns rec b + owns rec d)
-    × (posts_in rec (joined first b d).posted ≡ posts_in rec b.posted + posts_in rec d.posted)
-    × (posts_at page rec (joined first b d).posted ≡ posts_at page rec b.posted + posts_at page rec d.posted)
-    × (wins_in page (joined first b d).swaps ≡ wins_in page b.swaps + wins_in page d.swaps)
+    → (owns rec (book_after_join first b d) ≡ owns rec b + owns rec d)
+    × (posts_in rec (book_after_join first b d).posted ≡ posts_in rec b.posted + posts_in rec d.posted)
+    × (posts_at page rec (book_after_join first b d).posted ≡ posts_at page rec b.posted + posts_at page rec d.posted)
+    × (wins_in page (book_after_join first b d).swaps ≡ wins_in page b.swaps + wins_in page d.swaps)
 
 -- a claim adds its piece to what the seat owns, and nothing else
 abbrev pub ClaimAdds : Type 0
 ClaimAdds = (piece records next rec : ℕ) (b : BookView)
-    → owns rec (takes_piece piece records next b) ≡ owns rec b + one_if (nat_le next rec && nat_lt rec
+    → owns rec (book_after_claim piece records next b) ≡ owns rec b + one_if (nat_le next rec && nat_lt rec
     (min (next + piece) records))
 
 -- what both books saw of a page is an end of what the joined book has seen there
 pub record SeesBoth (first : List ℕ) (b d : BookView) : Type 0 where
-  pub left : (page : ℕ) → IsEnd (seen_at b page) (seen_at (joined first b d) page)
-  pub right : (page : ℕ) → IsEnd (seen_at d page) (seen_at (joined first b d) page)
+  pub left : (page : ℕ) → IsEnd (seen_at b page) (seen_at (book_after_join first b d) page)
+  pub right : (page : ℕ) → IsEnd (seen_at d page) (seen_at (book_after_join first b d) page)
 
 -- of any two live seats
 abbrev pub JoinSeesBoth : Type 0

@@ -8,7 +8,7 @@ use Rattle.bw_core.specs.declared.Event.TheVariants.{Look, Link, Try, Follow, Cl
 use Rattle.bw_core.specs.declared.Played.{Played}
 use Rattle.bw_core.specs.declared.Played.TheVariants.{Done, Lost, NotAllowed}
 use Rattle.bw_core.specs.World.{World, Meets, Lawful, owns, posts_in, tries_in, times, seen_at, end_at, spare_at, top, spent}
-use Rattle.bw_core.specs.Events.{moved, under, looked, linked, won, lost_to, takes_piece, is_told, split_left, split_right, joined, replaced, came_late, Resumes}
+use Rattle.bw_core.specs.Events.{world_with, under, book_after_look, book_after_link, book_after_win, book_after_loss, book_after_claim, book_without_pieces, left_book, right_book, book_after_join, book_after_swap, book_after_late_swap, Resumes}
 
 -- the new records of the page, newest first, down to the first word below the floor, which is x
 abbrev pub IsFresh : World → ℕ → List ℕ → ℕ → Type 0
@@ -29,7 +29,7 @@ MayLook w seat page b = IsSeat w seat b × (page < length w.first)
 -- it sees the whole chain of the page, and answers the head
 abbrev pub Looks : World → ℕ → ℕ → World → Played → Type 0
 Looks w seat page w' a = ((b : BookView) × (s : List ℕ) × (x : ℕ) × MayLook w seat page b × IsFresh w page s x
-    × (w' ≡ moved w w.heads w.links (slice_set w.books seat (looked b page s x)))
+    × (w' ≡ world_with w w.heads w.links (slice_set w.books seat (book_after_look b page s x)))
     × (a ≡ Done (slice_index w.heads page)))
     ⊎ (((b : BookView) → MayLook w seat page b → ⊥) × IsRefused w w' a)
 
@@ -41,8 +41,8 @@ MayLink w seat rec page b lost = IsSeat w seat b × (page < length w.first) × (
 -- it stores the top of the seen chain as the record's link, and answers that word
 abbrev pub Links : World → ℕ → ℕ → ℕ → World → Played → Type 0
 Links w seat rec page w' a = ((b : BookView) × (lost : ℕ) × MayLink w seat rec page b lost
-    × (w' ≡ moved w w.heads (slice_set w.links rec (top w.floor (end_at b page) (seen_at b page)))
-    (slice_set w.books seat (linked b rec page lost)))
+    × (w' ≡ world_with w w.heads (slice_set w.links rec (top w.floor (end_at b page) (seen_at b page)))
+    (slice_set w.books seat (book_after_link b rec page lost)))
     × (a ≡ Done (top w.floor (end_at b page) (seen_at b page))))
     ⊎ (((b : BookView) (lost : ℕ) → MayLink w seat rec page b lost → ⊥) × IsRefused w w' a)
 
@@ -53,14 +53,15 @@ MayTry w seat rec page b lost = IsSeat w seat b × (b.under ≡ Some (under rec 
 -- the head is still the record's link: the record becomes the head
 abbrev pub Wins : World → ℕ → ℕ → ℕ → BookView → ℕ → World → Played → Type 0
 Wins w seat rec page b lost w' a = (slice_index w.heads page ≡ slice_index w.links rec)
-    × (w' ≡ moved w (slice_set w.heads page (w.floor + rec)) w.links (slice_set w.books seat (won b rec page lost)))
+    × (w' ≡ world_with w (slice_set w.heads page (w.floor + rec)) w.links
+    (slice_set w.books seat (book_after_win b rec page lost)))
     × (a ≡ Done (w.floor + rec))
 
 -- the head is another word: the exchange is lost, and the present chain is seen
 abbrev pub Loses : World → ℕ → ℕ → ℕ → BookView → ℕ → World → Played → Type 0
 Loses w seat rec page b lost w' a = (s : List ℕ) × (x : ℕ) × (slice_index w.heads page ≢ slice_index w.links rec)
     × IsFresh w page s x
-    × (w' ≡ moved w w.heads w.links (slice_set w.books seat (lost_to b rec page lost s x)))
+    × (w' ≡ world_with w w.heads w.links (slice_set w.books seat (book_after_loss b rec page lost s x)))
     × (a ≡ Lost (slice_index w.heads page))
 
 -- it wins or loses
@@ -84,14 +85,15 @@ abbrev pub MayClaim : World → ℕ → BookView → Type 0
 MayClaim w seat b = IsSeat w seat b × (b.under ≡ None) × (b.told ≡ false)
 
 -- the world after a claim that left the seat's book as c
-abbrev pub claimed : World → ℕ → BookView → World
-claimed w seat c = record w { next = w.next + w.piece; books = slice_set w.books seat c }
+abbrev pub world_after_claim : World → ℕ → BookView → World
+world_after_claim w seat c = record w { next = w.next + w.piece; books = slice_set w.books seat c }
 
 -- it takes the next piece, or the seat is told that there is none; the answer is the number of the next record
 abbrev pub Claims : World → ℕ → World → Played → Type 0
 Claims w seat w' a = ((b : BookView) × MayClaim w seat b
-    × (((w.next < w.records) × (w' ≡ claimed w seat (takes_piece w.piece w.records w.next b))) ⊎ ((w.records ≤ w.next)
-    × (w' ≡ claimed w seat (is_told b))))
+    × (((w.next < w.records) × (w' ≡ world_after_claim w seat (book_after_claim w.piece w.records w.next b)))
+    ⊎ ((w.records ≤ w.next)
+    × (w' ≡ world_after_claim w seat (book_without_pieces b))))
     × (a ≡ Done w.next))
     ⊎ (((b : BookView) → MayClaim w seat b → ⊥) × IsRefused w w' a)
 
@@ -102,7 +104,7 @@ MaySplit w seat b = IsSeat w seat b × (b.under ≡ None) × (2 ≤ b.width)
 -- it makes a new last book, and answers its number
 abbrev pub Splits : World → ℕ → World → Played → Type 0
 Splits w seat w' a = ((b : BookView) × MaySplit w seat b
-    × (w' ≡ moved w w.heads w.links (slice_set w.books seat (split_left b) ++ split_right b ∷ []))
+    × (w' ≡ world_with w w.heads w.links (slice_set w.books seat (left_book b) ++ right_book b ∷ []))
     × (a ≡ Done (length w.books)))
     ⊎ (((b : BookView) → MaySplit w seat b → ⊥) × IsRefused w w' a)
 
@@ -113,7 +115,7 @@ MayJoin w into other b d = IsSeat w into b × IsSeat w other d × (other ≢ int
 -- one book gets what the other had, and the other is spent; the answer is the number of the other
 abbrev pub Joins : World → ℕ → ℕ → World → Played → Type 0
 Joins w into other w' a = ((b : BookView) × (d : BookView) × MayJoin w into other b d
-    × (w' ≡ moved w w.heads w.links (slice_set (slice_set w.books into (joined w.first b d)) other spent))
+    × (w' ≡ world_with w w.heads w.links (slice_set (slice_set w.books into (book_after_join w.first b d)) other spent))
     × (a ≡ Done other))
     ⊎ (((b d : BookView) → MayJoin w into other b d → ⊥) × IsRefused w w' a)
 
@@ -126,10 +128,10 @@ MayReplace w seat page b x = IsSeat w seat b × (b.under ≡ None) × (page < le
 abbrev pub Replaces : World → ℕ → ℕ → World → Played → Type 0
 Replaces w seat page w' a = ((b : BookView) × (spare : ℕ) × MayReplace w seat page b spare
     × (((slice_index w.heads page ≡ slice_index w.first page)
-    × (w' ≡ moved w (slice_set w.heads page spare) w.links (slice_set w.books seat (replaced b page spare)))
+    × (w' ≡ world_with w (slice_set w.heads page spare) w.links (slice_set w.books seat (book_after_swap b page spare)))
     × (a ≡ Done spare))
     ⊎ ((s : List ℕ) × (x : ℕ) × (slice_index w.heads page ≢ slice_index w.first page) × IsFresh w page s x
-    × (w' ≡ moved w w.heads w.links (slice_set w.books seat (came_late b page s x)))
+    × (w' ≡ world_with w w.heads w.links (slice_set w.books seat (book_after_late_swap b page s x)))
     × (a ≡ Lost (slice_index w.heads page)))))
     ⊎ (((b : BookView) (spare : ℕ) → MayReplace w seat page b spare → ⊥) × IsRefused w w' a)
 

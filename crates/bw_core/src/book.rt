@@ -2,7 +2,7 @@
 ghost use Rattle.std.specs.Prelude.{◌≡◌, ◌↔◌, ◌<◌, ◌≤◌, ℕ, ◌+◌, ◌^◌, length, map, IsTrue, IfOk, OnErr, MatchOption, true};
 ghost use Rattle.std.specs.List.{AllByRecursion};
 ghost use Rattle.bw_core.specs.World.{owns, posts_in, tries_in, times, seen_at, end_at, top, spent};
-ghost use Rattle.bw_core.specs.Events.{under, Resumes, looked, linked, won, lost_to, takes_piece, is_told, split_left, split_right, joined, replaced, came_late};
+ghost use Rattle.bw_core.specs.Events.{under, Resumes, book_after_look, book_after_link, book_after_win, book_after_loss, book_after_claim, book_without_pieces, left_book, right_book, book_after_join, book_after_swap, book_after_late_swap};
 ghost use Rattle.bw_core.specs.Steps.{first_book};
 ghost use Rattle.bw_core.specs.declared.BookView.{BookView};
 
@@ -227,14 +227,14 @@ impl Book {
 
     pub(crate) fn look(&mut self, page: u64, chain: Chain)
         requires { (page < length self.old.seen) × (page < length self.old.ends) }
-        ensures { self.new ≡ looked self.old page chain.records.items chain.last }
+        ensures { self.new ≡ book_after_look self.old page chain.records.items chain.last }
     {
         self.ends[page as usize] = chain.last;
         self.seen[page as usize] = chain.records;
     }
 
     pub(crate) fn link(&mut self, rec: u64, page: u64, lost: u64)
-        ensures { self.new ≡ linked self.old rec page lost }
+        ensures { self.new ≡ book_after_link self.old rec page lost }
     {
         self.under = Some(Under {
             rec,
@@ -246,7 +246,7 @@ impl Book {
 
     pub(crate) fn win(&mut self, alloc: Alloc, rec: u64, page: u64, lost: u64) -> Result<(), Memory>
         requires { page < length self.old.seen }
-        ensures ok { IfOk result (λ _. self.new ≡ won self.old rec page lost) }
+        ensures ok { IfOk result (λ _. self.new ≡ book_after_win self.old rec page lost) }
         ensures err { OnErr result (self.new ≡ self.old) }
     {
         let mut chain = Vec::new(alloc);
@@ -261,7 +261,7 @@ impl Book {
     pub(crate) fn lose(&mut self, rec: u64, page: u64, lost: u64, chain: Chain)
         requires pages { (page < length self.old.seen) × (page < length self.old.ends) }
         requires few { lost < 2 ^ 63 }
-        ensures { self.new ≡ lost_to self.old rec page lost chain.records.items chain.last }
+        ensures { self.new ≡ book_after_loss self.old rec page lost chain.records.items chain.last }
     {
         self.look(page, chain);
         let unarmed = Under {
@@ -275,8 +275,8 @@ impl Book {
 
     pub(crate) fn claim(&mut self, piece: u64, records: u64, from: u64) -> Result<(), Memory>
         requires { from + piece < 2 ^ 64 }
-        ensures piece { IfOk result (λ _. from < records → self.new ≡ takes_piece piece records from self.old) }
-        ensures told { IfOk result (λ _. records ≤ from → self.new ≡ is_told self.old) }
+        ensures piece { IfOk result (λ _. from < records → self.new ≡ book_after_claim piece records from self.old) }
+        ensures told { IfOk result (λ _. records ≤ from → self.new ≡ book_without_pieces self.old) }
         ensures err { OnErr result (self.new ≡ self.old) }
     {
         if from < records {
@@ -289,7 +289,7 @@ impl Book {
     }
 
     pub(crate) fn half(&self, alloc: Alloc) -> Result<Book, Memory>
-        ensures { IfOk result (λ b. b ≡ split_right self.now) }
+        ensures { IfOk result (λ b. b ≡ right_book self.now) }
     {
         Ok(Book {
             live: true,
@@ -302,7 +302,7 @@ impl Book {
     }
 
     pub(crate) fn narrow(&mut self)
-        ensures { self.new ≡ split_left self.old }
+        ensures { self.new ≡ left_book self.old }
     {
         self.width -= self.width / 2;
     }
@@ -311,7 +311,7 @@ impl Book {
         requires seen { (length self.now.seen ≡ length first.now) × (length other.now.seen ≡ length first.now) }
         requires ends { (length self.now.ends ≡ length first.now) × (length other.now.ends ≡ length first.now) }
         requires width { self.now.width + other.now.width < 2 ^ 64 }
-        ensures { IfOk result (λ b. b ≡ joined first.now self.now other.now) }
+        ensures { IfOk result (λ b. b ≡ book_after_join first.now self.now other.now) }
     {
         Ok(Book {
             live: self.live,
@@ -328,7 +328,7 @@ impl Book {
 
     pub(crate) fn replace(&mut self, page: u64, spare: u64) -> Result<(), Memory>
         requires { page < length self.old.ends }
-        ensures ok { IfOk result (λ _. self.new ≡ replaced self.old page spare) }
+        ensures ok { IfOk result (λ _. self.new ≡ book_after_swap self.old page spare) }
         ensures err { OnErr result (self.new ≡ self.old) }
     {
         self.swaps.push(Swap { page, won: true })?;
@@ -338,7 +338,7 @@ impl Book {
 
     pub(crate) fn come_late(&mut self, page: u64, chain: Chain) -> Result<(), Memory>
         requires { (page < length self.old.ends) × (page < length self.old.seen) }
-        ensures ok { IfOk result (λ _. self.new ≡ came_late self.old page chain.records.items chain.last) }
+        ensures ok { IfOk result (λ _. self.new ≡ book_after_late_swap self.old page chain.records.items chain.last) }
         ensures err { OnErr result (self.new ≡ self.old) }
     {
         self.swaps.push(Swap { page, won: false })?;

@@ -26,5 +26,5 @@ pub use writes::Write;
 /// The operations of a batch, the replies to them, and what a write does.
 pub use bw_model::{Action, Op, Reply};
 
-/// Want of memory.
+/// Out of memory.
 pub use bw_key::Memory;

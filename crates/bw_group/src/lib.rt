@@ -10,5 +10,5 @@ mod homes;
 pub use grouping::{Grouping, Point, group_end};
 pub use homes::{find_homes, run_from};
 
-/// Want of memory.
+/// Out of memory.
 pub use bw_key::Memory;

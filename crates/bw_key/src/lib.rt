@@ -13,7 +13,7 @@ use std::cmp::Ordering;
 use std::marker::Model;
 use thiserror::Error;
 
-/// Want of memory, the same in every crate of the workspace: the allocator refused a growth, since the system has no
+/// Out of memory, the same in every crate of the workspace: the allocator refused a growth, since the system has no
 /// more or the heap has reached its limit. Each call says what stands after it.
 #[derive(Clone, Copy, Debug, PartialEq, Eq, Error)]
 #[error("out of memory")]

@@ -13,7 +13,7 @@ abbrev pub Outcome : Type 0
 Outcome = Result (List Reply) Refusal
 
 -- An accepted batch is answered operation by operation. A batch is refused for its length exactly where it
--- has more operations than the most, and else only for want of memory.
+-- has more operations than the most, and else only where memory runs out.
 abbrev pub Answers : ℕ → List Op → Contents ValueBytes → Outcome → Type 0
 Answers most ops m (Ok replies) = (length ops ≤ most) × (replies ≡ replies_of ops m)
 Answers most ops m (Err (TooLong n limit)) = (most < length ops) × (n ≡ length ops) × (limit ≡ most)

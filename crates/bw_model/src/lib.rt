@@ -19,5 +19,5 @@ pub use ranges::is_below;
 pub use reference::ReferenceMap;
 pub use values::{VALUE_INLINE, VALUE_MAX, Value, ValueFault};
 
-/// Want of memory.
+/// Out of memory.
 pub use bw_key::Memory;

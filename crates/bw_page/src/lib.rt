@@ -16,5 +16,5 @@ pub use pages::{Page, PageId};
 /// The values of an index.
 pub use bw_model::Value;
 
-/// Want of memory.
+/// Out of memory.
 pub use bw_key::Memory;

@@ -8,7 +8,7 @@ use Rattle.std.specs.List.{AllByRecursion}
 use Rattle.bw_core.specs.declared.Post.{Post}
 use Rattle.bw_core.specs.declared.Span.{Span}
 use Rattle.bw_core.specs.World.{one_if, owns, posts_at, posts_in, total}
-use Rattle.bw_core.specs.Events.{is_told, joined, split_left, split_right}
+use Rattle.bw_core.specs.Events.{book_without_pieces, book_after_join, left_book, right_book}
 use Rattle.bw_core.proofs.Lists.{total-append}
 use Rattle.bw_board.specs.Plays.{lost_in}
 use Rattle.bw_board.specs.Public.{BoardView, SeatView, IsSound}
@@ -28,7 +28,7 @@ fresh_worked tree board w so = record {
 }
 
 -- a worker who is told that no record is left
-pub told_worked : (tree : TreeView) (board : BoardView) (w : Worker) (v : SeatView) → v ≡ record w.seat { book = is_told w.seat.book } → HasWorked tree board w → HasWorked tree board (record w { seat = v })
+pub told_worked : (tree : TreeView) (board : BoardView) (w : Worker) (v : SeatView) → v ≡ record w.seat { book = book_without_pieces w.seat.book } → HasWorked tree board w → HasWorked tree board (record w { seat = v })
 told_worked tree board w v told so = record {
   board_is = ap (λ (z : SeatView). z.board) told ∙ so.board_is;
   posted = λ r. ap (λ (z : SeatView). owns r z.book) told ∙ so.posted r ∙ sym (ap (λ (z : SeatView). posts_in r z.book.posted) told);
@@ -87,7 +87,7 @@ some_more one two w more = let n = ap (λ (l : List Worker). length l) more in l
 
 module _ (board : BoardView) (ws rest : List Worker) (w : Worker) (parts : ws ≡ w ∷ rest) where
   -- its seat in two
-  pub split_fresh : (one two : List Worker) (l r : SeatView) → one ≡ rest ++ (record { seat = l; lost = w.lost }) ∷ [] → two ≡ one ++ (record { seat = r; lost = 0 }) ∷ [] → l ≡ record w.seat { book = split_left w.seat.book } → r ≡ record w.seat { book = split_right w.seat.book } →
+  pub split_fresh : (one two : List Worker) (l r : SeatView) → one ≡ rest ++ (record { seat = l; lost = w.lost }) ∷ [] → two ≡ one ++ (record { seat = r; lost = 0 }) ∷ [] → l ≡ record w.seat { book = left_book w.seat.book } → r ≡ record w.seat { book = right_book w.seat.book } →
       AllByRecursion (HasClaimedNothing board) ws → AllByRecursion (HasClaimedNothing board) two
   split_fresh one two l r first second left right fresh =
       let all = subst (AllByRecursion (HasClaimedNothing board)) parts fresh in
@@ -106,7 +106,7 @@ module _ (board : BoardView) (ws rest : List Worker) (w : Worker) (parts : ws �
         lost = refl;
       }))
 
-  pub split_width : (one two : List Worker) (l r : SeatView) → one ≡ rest ++ (record { seat = l; lost = w.lost }) ∷ [] → two ≡ one ++ (record { seat = r; lost = 0 }) ∷ [] → l ≡ record w.seat { book = split_left w.seat.book } → r ≡ record w.seat { book = split_right w.seat.book } →
+  pub split_width : (one two : List Worker) (l r : SeatView) → one ≡ rest ++ (record { seat = l; lost = w.lost }) ∷ [] → two ≡ one ++ (record { seat = r; lost = 0 }) ∷ [] → l ≡ record w.seat { book = left_book w.seat.book } → r ≡ record w.seat { book = right_book w.seat.book } →
       total width_of two ≡ total width_of ws
   split_width one two l r first second left right =
       let a = ap (total width_of) second ∙ total-append width_of one ((record { seat = r; lost = 0 }) ∷ []) in

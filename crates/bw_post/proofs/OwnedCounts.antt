@@ -5,14 +5,14 @@ use Rattle.std.proofs.lemmas.Bool.Decides.{nat_tests}
 use Rattle.bw_core.specs.declared.Span.{Span}
 use Rattle.bw_core.specs.declared.BookView.{BookView}
 use Rattle.bw_core.specs.World.{one_if, total, owns}
-use Rattle.bw_core.specs.Events.{takes_piece}
+use Rattle.bw_core.specs.Events.{book_after_claim}
 use Rattle.bw_core.proofs.Lists.{total-append}
 
 -- whether r lies from k on, below `to`
 abbrev in_rest : ℕ → ℕ → ℕ → ℕ
 in_rest k to r = one_if (leb k r && ltb r to)
 
-owns_piece : (piece records n r : ℕ) (b : BookView) → owns r (takes_piece piece records n b) ≡ owns r b + in_rest n (min (n + piece) records) r
+owns_piece : (piece records n r : ℕ) (b : BookView) → owns r (book_after_claim piece records n b) ≡ owns r b + in_rest n (min (n + piece) records) r
 owns_piece piece records n r b = let a = total-append (λ (s : Span). one_if (leb s.from r && ltb r s.to)) b.owned (record { from = n; to = min (n + piece) records } ∷ []) in omega arith
 
 first_left : (k to r : ℕ) → k < to → in_rest k to r ≡ one_if (eqb k r) + in_rest (suc k) to r
@@ -43,9 +43,9 @@ owned_same zero b d e = refl
 owned_same (suc n) b d e = let h = owned_same n b d e in let o : owns n b ≡ owns n d = ap (λ (ss : List Span). total (λ s. one_if (leb s.from n && ltb n s.to)) ss) e in omega arith
 
 -- a claimed piece is one record more at least
-pub owned_more : (piece n start : ℕ) (b d : BookView) → start < n → start < min (start + piece) n → d.owned ≡ (takes_piece piece n start b).owned → ((r : ℕ) → owns r d ≤ 1) → n - owned_count n d < n - owned_count n b
+pub owned_more : (piece n start : ℕ) (b d : BookView) → start < n → start < min (start + piece) n → d.owned ≡ (book_after_claim piece n start b).owned → ((r : ℕ) → owns r d ≤ 1) → n - owned_count n d < n - owned_count n b
 owned_more piece n start b d less some e one =
-    let x : BookView = takes_piece piece n start b in
+    let x : BookView = book_after_claim piece n start b in
     let a = owned_lt n start b x less (λ r. (let e = owns_piece piece n start r b in omega arith))
     (let e = owns_piece piece n start start b in let f = first_left start (min (start + piece) n) start some in let s : one_if (eqb start start) ≡ 1 = ap one_if (eq-eqb start start refl) in omega arith) in
     let same = owned_same n d x e in let few = owned_few n d one in omega arith

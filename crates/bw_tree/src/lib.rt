@@ -14,7 +14,7 @@ pub use scans::Scans;
 pub use staging::Staged;
 pub use tree::Tree;
 
-/// Want of memory.
+/// Out of memory.
 pub use bw_key::Memory;
 /// The names of pages, and the leaves that a tree is made of.
 pub use bw_page::{Leaf, PageId};

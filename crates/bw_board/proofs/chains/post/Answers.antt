@@ -1,6 +1,6 @@
 use Rattle.std.proofs.Common.{arith, refl, sym, ap, subst, ◌∙◌, ◌≡◌, ◌<◌, ◌+◌, length}
 use Rattle.bw_core.specs.World.{owns, posts_in, spans_have}
-use Rattle.bw_core.specs.Events.{lost_to, won}
+use Rattle.bw_core.specs.Events.{book_after_loss, book_after_win}
 use Rattle.bw_board.specs.declared.table.Sight.{Sight}
 use Rattle.bw_board.specs.Plays.{SeesChain, with_book, sight_after_link}
 use Rattle.bw_board.proofs.Chase.{Chases, chase_starts, chase_goes, chase_wins}
@@ -30,11 +30,11 @@ pub returns-then-found-word-clause-posted : goal.returns-then-found-word-clause-
 returns-then-found-word-clause-posted c = let k = c.loop-word.invariant.chase in
     let won' = c.attempt-found.ensures.won c.if-found-word.true in
     chase_wins c.args.place.now.me.0 c.loop-word.place.me.0 c.attempt-found.new.place.me.0 c.args.page c.loop-word.word c.loop-word.lost c.args.rec k
-    (won' ∙ ap (λ (z : Sight). with_book z (won z.book c.args.rec c.args.page c.loop-word.lost)) c.link.ensures.linked)
+    (won' ∙ ap (λ (z : Sight). with_book z (book_after_win z.book c.args.rec c.args.page c.loop-word.lost)) c.link.ensures.linked)
 
 pub loop-word-preserved : goal.loop-word-preserved
 loop-word-preserved c = let k = c.loop-word.invariant.chase in let e = c.attempt-found.ensures in let miss = c.if-found-word.false in
-    let seen = subst (λ (z : Sight). SeesChain z c.attempt-found.new.place.me.0 c.args.page (lost_to z.book c.args.rec c.args.page c.loop-word.lost)) c.link.ensures.linked (e.lost miss) in record {
+    let seen = subst (λ (z : Sight). SeesChain z c.attempt-found.new.place.me.0 c.args.page (book_after_loss z.book c.args.rec c.args.page c.loop-word.lost)) c.link.ensures.linked (e.lost miss) in record {
       seat = e.seat;
       chase = chase_goes c.args.place.now.me.0 c.loop-word.place.me.0 c.attempt-found.new.place.me.0 c.args.page c.loop-word.word c.loop-word.lost c.args.rec c.attempt-found.result k seen e.sane (e.head miss);
     }

@@ -1,6 +1,6 @@
 use Rattle.std.proofs.Common.{arith, refl, sym, ap, ◌∙◌}
 use native.Mathlib.Decide.{dec_le}
-use Rattle.bw_core.specs.Events.{takes_piece}
+use Rattle.bw_core.specs.Events.{book_after_claim}
 use Rattle.bw_board.specs.declared.table.Sight.{Sight}
 use Rattle.bw_board.specs.Plays.{with_book}
 use Rattle.bw_board.proofs.Kept.{claims}
@@ -20,7 +20,7 @@ returns c = let e = c.fetch_add.ensures in let v : Sight = c.args.place.now.me.0
     | yes d ↦ stays_seated _ _ _ _ c.requires.seat e.0 t.stays (t.told d) refl refl refl
     | no d ↦ stays_seated _ _ _ _ c.requires.seat e.0 t.stays (t.taken (omega arith)) refl refl refl
   ];
-  taken = λ y. t.taken y ∙ ap (λ z. with_book v (takes_piece z v.records c.fetch_add.result v.book)) (sym p);
+  taken = λ y. t.taken y ∙ ap (λ z. with_book v (book_after_claim z v.records c.fetch_add.result v.book)) (sym p);
   told = t.told;
   sane = t.stays.sane;
 }

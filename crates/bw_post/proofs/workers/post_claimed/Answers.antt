@@ -1,5 +1,5 @@
 use Rattle.std.proofs.Common.{refl, ap, sym, ◌∙◌, ◌≡◌, ◌<◌, ◌+◌, arith, min}
-use Rattle.bw_core.specs.Events.{takes_piece}
+use Rattle.bw_core.specs.Events.{book_after_claim}
 use Rattle.bw_board.specs.Plays.{lost_in}
 use Rattle.bw_board.specs.Public.{SeatView}
 use Rattle.bw_board.proofs.WorkingLemmas.{left_claimed}
@@ -44,7 +44,7 @@ loop-span-smaller g c =
     let t = c.in-Some.ensures in
     let board : c.loop-span.worker.seat.board ≡ c.args.board.now = c.loop-span.invariant.worked.board_is in
     owned_more c.args.board.now.piece c.args.board.now.records c.in-Some.span.start c.loop-span.worker.seat.book c.post_piece.new.seat.book t.within (omega (arith, t.some, t.end))
-    (c.post_piece.ensures.owned ∙ ap (λ (v : SeatView). v.book.owned) t.claimed ∙ ap (λ z. (takes_piece z.piece z.records c.in-Some.span.start c.loop-span.worker.seat.book).owned) board) c.post_piece.ensures.once
+    (c.post_piece.ensures.owned ∙ ap (λ (v : SeatView). v.book.owned) t.claimed ∙ ap (λ z. (book_after_claim z.piece z.records c.in-Some.span.start c.loop-span.worker.seat.book).owned) board) c.post_piece.ensures.once
 
 pub returns-clause-finished : goal.returns-clause-finished
 returns-clause-finished g c = record {

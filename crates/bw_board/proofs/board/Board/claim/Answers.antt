@@ -1,5 +1,5 @@
 use Rattle.std.proofs.Common.{rules, sym, ap, subst, ◌∙◌, ◌≡◌, ◌+◌, min, true}
-use Rattle.bw_core.specs.Events.{is_told}
+use Rattle.bw_core.specs.Events.{book_without_pieces}
 use Rattle.bw_board.specs.Public.{SeatView, AllClaimed, seat_view, seat_after_claim}
 use Rattle.bw_board.proofs.Claimed.{all_claimed, piece_free, piece_alone, sound_shown}
 use Rattle.bw_board.proofs.board.Board.claim.Goals as goal
@@ -9,7 +9,7 @@ returns-then-seat-clause-all c = let i = c.seat.invariant in subst AllClaimed c.
 
 pub returns-else-from-self-clause-all : goal.returns-else-from-self-clause-all
 returns-else-from-self-clause-all c = let w : SeatView = seat_view c.claim-from.new.place.table_id c.claim-from.new.place.me.0 in
-    let told : w ≡ record c.args.seat.now { book = is_told c.args.seat.now.book } = search rules in
+    let told : w ≡ record c.args.seat.now { book = book_without_pieces c.args.seat.now.book } = search rules in
     all_claimed w c.claim-from.ensures.sane.moment (ap (λ (v : SeatView). v.book.told) told)
 
 pub returns-after-left-self-clause-free : goal.returns-after-left-self-clause-free

@@ -1,7 +1,7 @@
 use Rattle.std.proofs.Common.{ap, set, ◌∙◌}
 use lib.Seq.{map-set}
 use Rattle.bw_core.specs.declared.BookView.{BookView}
-use Rattle.bw_core.specs.Events.{looked}
+use Rattle.bw_core.specs.Events.{book_after_look}
 use Rattle.bw_core.proofs.book.Book.look.Goals as goal
 
 pub returns : goal.returns
@@ -17,4 +17,4 @@ returns c = let i = c.self.inside in
       width = i.width;
       told = i.told;
     } in b)
-    ∙ ap (λ (z : BookView). looked z c.args.page c.args.chain.records.items c.args.chain.last) c.self.view_is
+    ∙ ap (λ (z : BookView). book_after_look z c.args.page c.args.chain.records.items c.args.chain.last) c.self.view_is

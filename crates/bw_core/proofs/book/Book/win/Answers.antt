@@ -2,7 +2,7 @@ use Rattle.std.proofs.Common.{rules, arith, subst, sym, ap, set, get_or, map, le
 use Rattle.std.proofs.lemmas.List.{length-map}
 use lib.Seq.{map-set}
 use Rattle.bw_core.specs.declared.BookView.{BookView}
-use Rattle.bw_core.specs.Events.{won, post}
+use Rattle.bw_core.specs.Events.{book_after_win, post}
 use Rattle.bw_core.proofs.Members.{get_or-map}
 use Rattle.bw_core.proofs.book.Book.win.Goals as goal
 
@@ -23,4 +23,4 @@ returns-clause-ok c = let i = c.self.inside in
       width = i.width;
       told = i.told;
     } in b)
-    ∙ ap (λ (z : BookView). won z c.args.rec c.args.page c.args.lost) c.self.view_is
+    ∙ ap (λ (z : BookView). book_after_win z c.args.rec c.args.page c.args.lost) c.self.view_is

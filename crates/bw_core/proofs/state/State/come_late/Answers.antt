@@ -3,7 +3,7 @@ use Rattle.std.proofs.lemmas.List.{get_or_read}
 use Rattle.bw_core.specs.declared.BookView.{BookView}
 use Rattle.bw_core.specs.declared.Played.TheVariants.{Lost}
 use Rattle.bw_core.specs.World.{World}
-use Rattle.bw_core.specs.Events.{moved, came_late}
+use Rattle.bw_core.specs.Events.{world_with, book_after_late_swap}
 use Rattle.bw_core.specs.Inside.{view_of}
 use Rattle.bw_core.specs.Steps.{IsWorld, IsFresh, MayReplace, Replaces}
 use Rattle.bw_core.proofs.Allowed.{read_seat, seat_pages, page_heads}
@@ -24,6 +24,6 @@ returns-clause-ok c = let i = c.self.inside in let w : World = view_of i in let 
     let miss = subst (λ (z : World). get_or z.heads page 0 ≢ get_or z.first page 0) (sym c.self.view_is) c.requires.miss in
     let fresh : IsFresh w page s x = subst (λ (z : World). IsFresh z page s x) (sym c.self.view_is) c.in_ok-chain.ensures in
     let head : c.index.result.now ≡ get_or i.heads.items page 0 = get_or_read i.heads.items page _ (page_heads w k page may.2.2) c.index.ensures 0 in
-    let new : c.come_late.new.self ≡ came_late d page s x = c.in_ok-come_late.ensures.ok ∙ ap (λ (z : BookView). came_late z page s x) same in
-    subst (λ (z : World). Replaces z seat page (moved w w.heads w.links (set w.books seat c.come_late.new.self)) (Lost c.index.result.now)) c.self.view_is
-    (inl (d, may.1, may.2, inr (s, x, miss, fresh, ap (λ (z : BookView). moved w w.heads w.links (set w.books seat z)) new, ap (λ z. Lost z) head)))
+    let new : c.come_late.new.self ≡ book_after_late_swap d page s x = c.in_ok-come_late.ensures.ok ∙ ap (λ (z : BookView). book_after_late_swap z page s x) same in
+    subst (λ (z : World). Replaces z seat page (world_with w w.heads w.links (set w.books seat c.come_late.new.self)) (Lost c.index.result.now)) c.self.view_is
+    (inl (d, may.1, may.2, inr (s, x, miss, fresh, ap (λ (z : BookView). world_with w w.heads w.links (set w.books seat z)) new, ap (λ z. Lost z) head)))

@@ -2,7 +2,7 @@ use Rattle.std.proofs.Common.{arith, sym, ap, subst, refl, inl, ◌∙◌, ◌�
 use Rattle.bw_core.specs.declared.BookView.{BookView}
 use Rattle.bw_core.specs.declared.Played.TheVariants.{Done}
 use Rattle.bw_core.specs.World.{World}
-use Rattle.bw_core.specs.Events.{moved, joined}
+use Rattle.bw_core.specs.Events.{world_with, book_after_join}
 use Rattle.bw_core.specs.Inside.{view_of}
 use Rattle.bw_core.specs.Steps.{IsWorld, MayJoin, Joins}
 use Rattle.bw_core.proofs.Allowed.{read_seat, two_widths}
@@ -36,6 +36,6 @@ index_mut-requires-2 c = let i = c.self.inside in let w : World = view_of i in l
 
 pub returns-clause-ok : goal.returns-clause-ok
 returns-clause-ok c = let i = c.self.inside in let w : World = view_of i in let k : IsWorld w = subst IsWorld (sym c.self.view_is) c.requires in let may = subst (λ (z : World). (b : BookView) × (d : BookView) × MayJoin z c.args.into c.args.other b d) (sym c.self.view_is) (c.may_join.ensures.0 c.if-not-may_join.false) in let b : BookView = may.0 in let d : BookView = may.1 in let one : c.index.result.now ≡ b = read_seat w c.args.into b c.index.result.now may.2.0 c.index.ensures in let two : c.index-2.result.now ≡ d = read_seat w c.args.other d c.index-2.result.now may.2.1 c.index-2.ensures in let into = c.args.into in let other = c.args.other in
-    let both : c.in_ok-joined.joined ≡ joined w.first b d = c.in_ok-joined.ensures ∙ (λ j. joined (c.as_slice.ensures.value j) (one j) (two j)) in
-    subst (λ (z : World). Joins z into other (moved w w.heads w.links (set (set w.books into c.in_ok-joined.joined) other c.spent.result)) (Done other)) c.self.view_is
-    (inl (b, d, may.2, (λ j. moved w w.heads w.links (set (set w.books into (both j)) other (c.spent.ensures j))), refl))
+    let both : c.in_ok-joined.joined ≡ book_after_join w.first b d = c.in_ok-joined.ensures ∙ (λ j. book_after_join (c.as_slice.ensures.value j) (one j) (two j)) in
+    subst (λ (z : World). Joins z into other (world_with w w.heads w.links (set (set w.books into c.in_ok-joined.joined) other c.spent.result)) (Done other)) c.self.view_is
+    (inl (b, d, may.2, (λ j. world_with w w.heads w.links (set (set w.books into (both j)) other (c.spent.ensures j))), refl))

@@ -3,7 +3,7 @@ use Rattle.bw_core.specs.declared.BookView.{BookView}
 use Rattle.bw_core.specs.declared.Played.TheVariants.{Done}
 use Rattle.std.specs.List.{AllByRecursion}
 use Rattle.bw_core.specs.World.{World, seen_at, end_at, top}
-use Rattle.bw_core.specs.Events.{moved, linked}
+use Rattle.bw_core.specs.Events.{world_with, book_after_link}
 use Rattle.bw_core.specs.Inside.{view_of}
 use Rattle.bw_core.specs.Steps.{IsWorld, MayLink, Links}
 use Rattle.bw_core.proofs.Allowed.{read_seat, seat_pages, seen_words, own_link}
@@ -35,7 +35,7 @@ pub returns : goal.returns
 returns c = let w : World = view_of c.self.inside in let seat = c.args.seat in let rec = c.args.rec in let page = c.args.page in let lost = c.in-Some.lost in
     let may = subst (λ (z : World). (b : BookView) × MayLink z seat rec page b lost) (sym c.self.view_is) c.in-Some.ensures in let d : BookView = may.0 in
     let same : c.index_mut-book.result.now ≡ d = read_seat w seat d c.index_mut-book.result.now may.1.0 c.index_mut-book.ensures.value in
-    let new : c.link.new.self ≡ linked d rec page lost = c.link.ensures ∙ ap (λ (z : BookView). linked z rec page lost) same in
+    let new : c.link.new.self ≡ book_after_link d rec page lost = c.link.ensures ∙ ap (λ (z : BookView). book_after_link z rec page lost) same in
     let word : c.top-word.result ≡ top w.floor (end_at d page) (seen_at d page) = c.top-word.ensures ∙ ap (λ (z : BookView). top w.floor (end_at z page) (seen_at z page)) same in
-    subst (λ (z : World). Links z seat rec page (moved w w.heads (set w.links rec c.top-word.result) (set w.books seat c.link.new.self)) (Done c.top-word.result)) c.self.view_is
-    (inl (d, lost, may.1, (λ j. moved w w.heads (set w.links rec (word j)) (set w.books seat (new j))), ap (λ z. Done z) word))
+    subst (λ (z : World). Links z seat rec page (world_with w w.heads (set w.links rec c.top-word.result) (set w.books seat c.link.new.self)) (Done c.top-word.result)) c.self.view_is
+    (inl (d, lost, may.1, (λ j. world_with w w.heads (set w.links rec (word j)) (set w.books seat (new j))), ap (λ z. Done z) word))

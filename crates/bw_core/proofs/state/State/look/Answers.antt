@@ -3,7 +3,7 @@ use Rattle.std.proofs.lemmas.List.{get_or_read}
 use Rattle.bw_core.specs.declared.BookView.{BookView}
 use Rattle.bw_core.specs.declared.Played.TheVariants.{Done}
 use Rattle.bw_core.specs.World.{World}
-use Rattle.bw_core.specs.Events.{moved, looked}
+use Rattle.bw_core.specs.Events.{world_with, book_after_look}
 use Rattle.bw_core.specs.Inside.{view_of}
 use Rattle.bw_core.specs.Steps.{IsWorld, IsFresh, MayLook, Looks}
 use Rattle.bw_core.proofs.Allowed.{read_seat, seat_pages, page_heads}
@@ -27,6 +27,6 @@ returns-clause-ok c = let i = c.self.inside in let w : World = view_of i in let 
     let s = c.in_ok-chain.chain.records.items in let x = c.in_ok-chain.chain.last in
     let fresh : IsFresh w page s x = subst (λ (z : World). IsFresh z page s x) (sym c.self.view_is) c.in_ok-chain.ensures in
     let head : c.index.result.now ≡ get_or i.heads.items page 0 = get_or_read i.heads.items page _ (page_heads w k page may.1.1) c.index.ensures 0 in
-    let new : c.look.new.self ≡ looked d page s x = c.look.ensures ∙ ap (λ (z : BookView). looked z page s x) same in
-    subst (λ (z : World). Looks z seat page (moved w w.heads w.links (set w.books seat c.look.new.self)) (Done c.index.result.now)) c.self.view_is
-    (inl (d, s, x, may.1, fresh, ap (λ (z : BookView). moved w w.heads w.links (set w.books seat z)) new, ap (λ z. Done z) head))
+    let new : c.look.new.self ≡ book_after_look d page s x = c.look.ensures ∙ ap (λ (z : BookView). book_after_look z page s x) same in
+    subst (λ (z : World). Looks z seat page (world_with w w.heads w.links (set w.books seat c.look.new.self)) (Done c.index.result.now)) c.self.view_is
+    (inl (d, s, x, may.1, fresh, ap (λ (z : BookView). world_with w w.heads w.links (set w.books seat z)) new, ap (λ z. Done z) head))

@@ -3,7 +3,7 @@ use Rattle.std.proofs.lemmas.List.{get_or_read}
 use Rattle.bw_core.specs.declared.BookView.{BookView}
 use Rattle.bw_core.specs.declared.Played.TheVariants.{Lost}
 use Rattle.bw_core.specs.World.{World}
-use Rattle.bw_core.specs.Events.{moved, lost_to}
+use Rattle.bw_core.specs.Events.{world_with, book_after_loss}
 use Rattle.bw_core.specs.Inside.{view_of}
 use Rattle.bw_core.specs.Steps.{IsWorld, IsFresh, MayTry, Tries}
 use Rattle.bw_core.proofs.Allowed.{read_seat, seat_pages, page_heads, tried, tried_few}
@@ -33,6 +33,6 @@ returns-clause-ok c = let i = c.self.inside in let w : World = view_of i in let 
     let miss = subst (λ (z : World). get_or z.heads page 0 ≢ get_or z.links rec 0) (sym c.self.view_is) c.requires.miss in
     let fresh : IsFresh w page s x = subst (λ (z : World). IsFresh z page s x) (sym c.self.view_is) c.in_ok-chain.ensures in
     let head : c.index.result.now ≡ get_or i.heads.items page 0 = get_or_read i.heads.items page _ (page_heads w k page (tried w k seat rec page d lost may.1).on_page) c.index.ensures 0 in
-    let new : c.lose.new.self ≡ lost_to d rec page lost s x = c.lose.ensures ∙ ap (λ (z : BookView). lost_to z rec page lost s x) same in
-    subst (λ (z : World). Tries z seat rec page (moved w w.heads w.links (set w.books seat c.lose.new.self)) (Lost c.index.result.now)) c.self.view_is
-    (inl (d, lost, may.1, inr (s, x, miss, fresh, ap (λ (z : BookView). moved w w.heads w.links (set w.books seat z)) new, ap (λ z. Lost z) head)))
+    let new : c.lose.new.self ≡ book_after_loss d rec page lost s x = c.lose.ensures ∙ ap (λ (z : BookView). book_after_loss z rec page lost s x) same in
+    subst (λ (z : World). Tries z seat rec page (world_with w w.heads w.links (set w.books seat c.lose.new.self)) (Lost c.index.result.now)) c.self.view_is
+    (inl (d, lost, may.1, inr (s, x, miss, fresh, ap (λ (z : BookView). world_with w w.heads w.links (set w.books seat z)) new, ap (λ z. Lost z) head)))

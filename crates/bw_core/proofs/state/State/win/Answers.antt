@@ -2,7 +2,7 @@ use Rattle.std.proofs.Common.{arith, sym, ap, subst, refl, inl, ◌∙◌, ◌�
 use Rattle.bw_core.specs.declared.BookView.{BookView}
 use Rattle.bw_core.specs.declared.Played.TheVariants.{Done}
 use Rattle.bw_core.specs.World.{World}
-use Rattle.bw_core.specs.Events.{moved, won}
+use Rattle.bw_core.specs.Events.{world_with, book_after_win}
 use Rattle.bw_core.specs.Inside.{view_of}
 use Rattle.bw_core.specs.Steps.{IsWorld, MayTry, Tries}
 use Rattle.bw_core.proofs.Allowed.{read_seat, seat_pages, own_link, page_heads, tried}
@@ -26,6 +26,6 @@ pub returns-clause-ok : goal.returns-clause-ok
 returns-clause-ok c = let i = c.self.inside in let w : World = view_of i in let k : IsWorld w = subst IsWorld (sym c.self.view_is) c.requires.world in let may = subst (λ (z : World). (b : BookView) × MayTry z c.args.seat c.args.rec c.args.page b c.args.lost) (sym c.self.view_is) c.requires.may in let same : c.index_mut.result.now ≡ may.0 = read_seat w c.args.seat may.0 c.index_mut.result.now may.1.0 c.index_mut.ensures.value in
     let seat = c.args.seat in let rec = c.args.rec in let page = c.args.page in let lost = c.args.lost in let d : BookView = may.0 in
     let hit = subst (λ (z : World). get_or z.heads page 0 ≡ get_or z.links rec 0) (sym c.self.view_is) c.requires.hit in
-    let new : c.win.new.self ≡ won d rec page lost = c.in_ok-win.ensures.ok ∙ ap (λ (z : BookView). won z rec page lost) same in
-    subst (λ (z : World). Tries z seat rec page (moved w (set w.heads page (w.floor + rec)) w.links (set w.books seat c.win.new.self)) (Done (w.floor + rec))) c.self.view_is
-    (inl (d, lost, may.1, inl (hit, ap (λ (z : BookView). moved w (set w.heads page (w.floor + rec)) w.links (set w.books seat z)) new, refl)))
+    let new : c.win.new.self ≡ book_after_win d rec page lost = c.in_ok-win.ensures.ok ∙ ap (λ (z : BookView). book_after_win z rec page lost) same in
+    subst (λ (z : World). Tries z seat rec page (world_with w (set w.heads page (w.floor + rec)) w.links (set w.books seat c.win.new.self)) (Done (w.floor + rec))) c.self.view_is
+    (inl (d, lost, may.1, inl (hit, ap (λ (z : BookView). world_with w (set w.heads page (w.floor + rec)) w.links (set w.books seat z)) new, refl)))
