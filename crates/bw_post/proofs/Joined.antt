@@ -37,7 +37,7 @@ told_worked tree board w v told so = record {
 }
 
 -- what two workers did, in one
-pub worked_both : (tree : TreeView) (board : BoardView) (a b w : Worker) → IsBoardOf tree board → HasWorked tree board a → HasWorked tree board b → w.seat ≡ record a.seat { book = joined board.first a.seat.book b.seat.book } → w.lost ≡ a.lost + b.lost → HasWorked tree board w
+pub worked_both : (tree : TreeView) (board : BoardView) (a b w : Worker) → IsBoardOf tree board → HasWorked tree board a → HasWorked tree board b → w.seat ≡ record a.seat { book = book_after_join board.first a.seat.book b.seat.book } → w.lost ≡ a.lost + b.lost → HasWorked tree board w
 worked_both tree board a b w over first second both lost = record {
   board_is = ap (λ (v : SeatView). v.board) both ∙ first.board_is;
   posted = λ r. (
@@ -58,7 +58,7 @@ worked_both tree board a b w over first second both lost = record {
 }
 
 -- and what they lost together fits
-pub lost_together : (tree : TreeView) (board : BoardView) (a b : Worker) (v : SeatView) → IsBoardOf tree board → HasWorked tree board a → HasWorked tree board b → v ≡ record a.seat { book = joined board.first a.seat.book b.seat.book } → IsSound v → a.lost + b.lost < 18446744073709551616
+pub lost_together : (tree : TreeView) (board : BoardView) (a b : Worker) (v : SeatView) → IsBoardOf tree board → HasWorked tree board a → HasWorked tree board b → v ≡ record a.seat { book = book_after_join board.first a.seat.book b.seat.book } → IsSound v → a.lost + b.lost < 18446744073709551616
 lost_together tree board a b v over first second both sound =
     let few = lost_few v board (ap (λ (z : SeatView). z.board) both ∙ first.board_is) over.few over.spareless sound in
     let sum : lost_in v.book.posted ≡ lost_in a.seat.book.posted + lost_in b.seat.book.posted = ap (λ (z : SeatView). lost_in z.book.posted) both ∙ lost_both a.seat.book.posted b.seat.book.posted in
