@@ -1,5 +1,6 @@
 // Worked examples: that the calls succeed, which no contract says, and each growth of memory refused in turn.
 mod counts;
+mod groups;
 mod homes;
 mod making;
 mod reads;

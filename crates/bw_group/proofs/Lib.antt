@@ -1,6 +1,7 @@
 pub mod Lists
 pub mod Entries
 pub mod Groups
+pub mod PrefixLemmas
 pub mod Wholes
 pub mod RunLemmas
 mod HomeLemmas

@@ -6,6 +6,7 @@
 
 mod grouping;
 mod homes;
+mod prefixes;
 
 pub use grouping::{Grouping, Point, group_end};
 pub use homes::{find_homes, run_from};

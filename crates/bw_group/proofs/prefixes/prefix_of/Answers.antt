@@ -1,0 +1,24 @@
+use Rattle.std.proofs.Common.{ap, sym, ◌∙◌, add-one, arith, rules, ◌*◌, ◌+◌, ◌^◌, ◌<◌, ◌≡◌}
+use Rattle.bw_group.specs.Prefixes.{continued_by}
+use Rattle.bw_group.proofs.PrefixLemmas.{digits_fit, one_more}
+use Rattle.bw_group.proofs.prefixes.prefix_of.Goals as goal
+
+pub overflow_mul-prefix : goal.overflow_mul-prefix
+overflow_mul-prefix c =
+    let fits = digits_fit c.loop-place.place c.loop-place.prefix 0 c.loop-place.invariant.1 c.loop-place-test.true (omega arith) in
+    record { fits = omega (arith, fits.1) }
+
+pub overflow_add-prefix : goal.overflow_add-prefix
+overflow_add-prefix c =
+    let fits = digits_fit c.loop-place.place c.loop-place.prefix c.byte_at.result c.loop-place.invariant.1 c.loop-place-test.true c.byte_at.ensures.bound in
+    record { fits = fits.1 }
+
+pub loop-place-preserved : goal.loop-place-preserved
+loop-place-preserved c =
+    let place = c.loop-place.place in
+    let fits = digits_fit place c.loop-place.prefix c.byte_at.result c.loop-place.invariant.1 c.loop-place-test.true c.byte_at.ensures.bound in (
+      ap (λ n. n * 256 + c.byte_at.result) c.loop-place.invariant.0
+          ∙ ap (λ n. continued_by place 0 c.bytes-bytes.result.now * 256 + n) c.byte_at.ensures.byte
+          ∙ sym (rw add-one (one_more place 0 c.bytes-bytes.result.now)),
+      fits.0,
+    )
