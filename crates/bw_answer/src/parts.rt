@@ -1,5 +1,5 @@
 // The parts into which the points and the scans of a batch are cut, one for each task.
-ghost use Rattle.std.specs.Prelude.{◌≡◌, ◌+◌, ◌*◌, ◌<◌, ◌≤◌, ◌⊎◌, length, max, min, IfOk};
+ghost use Rattle.std.specs.Prelude.{◌≡◌, ℕ, ◌+◌, ◌*◌, ◌<◌, ◌≤◌, ◌⊎◌, length, max, min, IfOk};
 ghost use Rattle.std.specs.List.{AllByRecursion};
 ghost use Rattle.bw_answer.specs.Parts.{Cover, HasShares, IsPartOf, IsSpanOf};
 
@@ -32,6 +32,7 @@ pub fn count_parts(points: usize, scans: usize, workers: u64) -> usize
     ensures some { 0 < result }
     ensures workers { result ≤ max 1 workers }
     ensures worth { 1 < result → (result * 1024 ≤ points) ⊎ (result * 64 ≤ scans) }
+    ensures most { (n : ℕ) → n ≤ workers → (n * 1024 ≤ points) ⊎ (n * 64 ≤ scans) → n ≤ result }
 {
     let most = (points / LEAST_POINTS).max(scans / LEAST_SCANS) as u64;
     most.min(workers).max(1) as usize

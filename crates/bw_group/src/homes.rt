@@ -7,6 +7,8 @@ ghost use Rattle.std.specs.Ordering.{is_lt};
 ghost use Rattle.bw_key.specs.Order.{key_cmp};
 ghost use Rattle.bw_model.specs.Contents.{is_below_end};
 ghost use Rattle.bw_tree.specs.Levels.{IsOneHome, row};
+ghost use Rattle.bw_tree.specs.Slots.{slot_at};
+ghost use Rattle.bw_tree.specs.Scans.{high_of};
 ghost use Rattle.bw_group.specs.Points.{entries_in, entries_of, key_at};
 ghost use Rattle.bw_group.specs.Homes.{AreHomes, with_page};
 ghost use Rattle.bw_group.specs.declared.grouping.Point.{Point};
@@ -72,6 +74,8 @@ pub fn run_from(tree: &Tree, points: &[Point<'_>], start: usize) -> (PageId, usi
     ensures bound { result.1 ≤ length points.now }
     ensures homes { let run = entries_in points.now start result.1 in
         AllByRecursion (λ e. IsOneHome tree.now.slots tree.now.levels e.0 result.0) run }
+    ensures whole { result.1 < length points.now → (d : Point) →
+        is_below_end (high_of (slot_at tree.now.slots result.0)) (key_at points.now result.1 d) ≡ false }
 {
     tree.know_homes();
     let page = tree.route(points[start].key);
