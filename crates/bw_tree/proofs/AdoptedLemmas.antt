@@ -15,6 +15,8 @@ use Rattle.bw_chain.specs.Turns.{bare}
 use Rattle.bw_chain.specs.Levels.{IsHome, row, levels_under}
 use Rattle.bw_chain.specs.Chains.{Bases, Records, slot_of_word, slots_of}
 use Rattle.bw_tree.specs.Trees.{IsStanding, IsTree, StageWords, stage_of, view_of}
+use Rattle.bw_tree.specs.Words.{words_before}
+use Rattle.bw_tree.specs.declared.words.WordsBefore.{WordsBefore}
 use Rattle.bw_chain.specs.Records.{put_records, writes_in}
 use Rattle.bw_tree.specs.Stages.{IsPosted, IsPostedStage, adopted}
 use Rattle.bw_tree.specs.View.{TreeView, StageView, contents_at, contents_with}
@@ -85,9 +87,6 @@ module _ (heads heads' : List ℕ) (bases : Bases) (records : Records) (root nex
     abbrev after : Records
     after = earlier ++ put_records ws links
 
-    abbrev stage' : StageWords
-    stage' = record { records = n; ops = ops; before = Some heads }
-
     length_same : length after ≡ length records
     length_same = omega (arith, posted_length bases earlier ws links linked, posted_length bases earlier ws t.stage.links t.stage.linked, ap length t.stage.parts)
 
@@ -100,45 +99,6 @@ module _ (heads heads' : List ℕ) (bases : Bases) (records : Records) (root nex
     levels_now : levels_under (slots_of heads' bases after) root ≡ levels_under (slots_of heads bases earlier) root
     levels_now = levels_after heads heads' bases earlier root next (next + ops) ws links linked p.pages t.stage.rising t.stage.below (omega arith) t.stage.before chains
 
-    adopted_tree : IsTree heads' bases after root next (Some stage')
-    adopted_tree = record {
-      now = standing_after heads heads' bases earlier root next (next + ops) ws links linked p.pages t.stage.rising t.stage.below (omega arith) t.stage.before chains t.now.fits (omega (arith, t.now.few_records, length_same));
-      stage = record {
-        writes = ws;
-        links = links;
-        parts = ap (λ (r : Records). r ++ put_records ws links) (sym first_same);
-        linked = linked;
-        earlier = omega (arith, t.stage.earlier, length_same);
-        rising = t.stage.rising;
-        below = t.stage.below;
-        before = subst (λ (r : Records). IsStanding heads bases r root next) (sym first_same) t.stage.before;
-        same = ap (λ (r : Records). levels_under (slots_of heads bases r) root) first_same ∙ sym levels_now;
-      };
-    }
-
-    abbrev stage_with : Records → List WriteView → StageView
-    stage_with r w =
-        let was = slots_of heads bases r in
-        record { slots = was; levels = levels_under was root; heads = heads; records = n; ops = ops; writes = w; adopted = true }
-
-    pub adopt_all : IsAdoptedOn heads' bases after root next (Some stage') tree
-    adopt_all = record {
-      tree_is = adopted_tree;
-      contents = λ stamp.
-          contents_after_it heads heads' bases earlier root next (next + ops) ws links linked p.pages t.stage.rising t.stage.below (omega arith) t.stage.before chains stamp
-          ∙ ap (λ (s : List Slot). contents_as_of (from_entries (row_pairs s (row (levels_under s root) 0))) (ws ++ row_writes s (row (levels_under s root) 0)) stamp) (sym slots_same)
-          ∙ ap (λ (l : List WriteView). let s = slots_of heads bases records in contents_as_of (from_entries (row_pairs s (row (levels_under s root) 0))) (l ++ row_writes s (row (levels_under s root) 0)) stamp) (sym writes_are);
-      levels = levels_now ∙ ap (λ (s : List Slot). levels_under s root) (sym slots_same);
-      pages = λ q.
-          pages_after heads heads' bases earlier root next (next + ops) ws links linked p.pages t.stage.rising t.stage.below (omega arith) t.stage.before chains q ∙ ap (λ (s : List Slot). bare (slot_at s q)) (sym slots_same);
-      writes = λ q has.
-          subst (λ (s : List Slot). IsPermutation (filter (λ w. has_key (slot_at s q) w.key) (writes_in (drop n records)) ++ writes_over (slot_at s q)) (writes_over (slot_at (slots_of heads' bases after) q))) (sym slots_same)
-          (subst (λ (l : List WriteView). IsPermutation (filter (λ w. has_key (slot_at (slots_of heads bases earlier) q) w.key) l ++ writes_over (slot_at (slots_of heads bases earlier) q)) (writes_over (slot_at (slots_of heads' bases after) q))) (sym writes_are)
-          (writes_after heads heads' bases earlier root next (next + ops) ws links linked p.pages t.stage.rising t.stage.below (omega arith) t.stage.before chains q
-          (subst (λ (s : List Slot). Contains (row (levels_under s root) 0) q) slots_same has)));
-      staged_is = ap (λ r. Some (stage_with r (writes_in (drop n after)))) first_same ∙ ap (λ w. Some (stage_with earlier w)) (last_same ∙ sym writes_are);
-    }
-
     pub adopt_fits : n + length links ≤ length records
     adopt_fits = omega (arith, linked, count, posted_length bases earlier ws t.stage.links t.stage.linked, ap length t.stage.parts)
 
@@ -147,13 +107,60 @@ module _ (heads heads' : List ℕ) (bases : Bases) (records : Records) (root nex
         relinked earlier ws t.stage.links links records new t.stage.parts t.stage.linked linked deltas
         (subst (λ k. links_of new ≡ take k (links_of records) ++ links ++ drop (k + length links) (links_of records)) (sym count) links_are)
 
+    -- the words before the adoption, by what is kept of them
+    module _ (past : WordsBefore) (back : words_before (Some past) heads' ≡ heads) where
+      abbrev stage' : StageWords
+      stage' = record { records = n; ops = ops; before = Some past }
+
+      adopted_tree : IsTree heads' bases after root next (Some stage')
+      adopted_tree = record {
+        now = standing_after heads heads' bases earlier root next (next + ops) ws links linked p.pages t.stage.rising t.stage.below (omega arith) t.stage.before chains t.now.fits (omega (arith, t.now.few_records, length_same));
+        stage = record {
+          writes = ws;
+          links = links;
+          parts = ap (λ (r : Records). r ++ put_records ws links) (sym first_same);
+          linked = linked;
+          earlier = omega (arith, t.stage.earlier, length_same);
+          rising = t.stage.rising;
+          below = t.stage.below;
+          before = subst (λ (h : List ℕ). IsStanding h bases (take n after) root next) (sym back) (subst (λ (r : Records). IsStanding heads bases r root next) (sym first_same) t.stage.before);
+          same = ap (λ (h : List ℕ). levels_under (slots_of h bases (take n after)) root) back ∙ ap (λ (r : Records). levels_under (slots_of heads bases r) root) first_same ∙ sym levels_now;
+        };
+      }
+
+      abbrev stage_with : List ℕ → Records → List WriteView → StageView
+      stage_with h r w =
+          let was = slots_of h bases r in
+          record { slots = was; levels = levels_under was root; heads = h; records = n; ops = ops; writes = w; adopted = true }
+
+      pub adopt_all : IsAdoptedOn heads' bases after root next (Some stage') tree
+      adopt_all = record {
+        tree_is = adopted_tree;
+        contents = λ stamp.
+            contents_after_it heads heads' bases earlier root next (next + ops) ws links linked p.pages t.stage.rising t.stage.below (omega arith) t.stage.before chains stamp
+            ∙ ap (λ (s : List Slot). contents_as_of (from_entries (row_pairs s (row (levels_under s root) 0))) (ws ++ row_writes s (row (levels_under s root) 0)) stamp) (sym slots_same)
+            ∙ ap (λ (l : List WriteView). let s = slots_of heads bases records in contents_as_of (from_entries (row_pairs s (row (levels_under s root) 0))) (l ++ row_writes s (row (levels_under s root) 0)) stamp) (sym writes_are);
+        levels = levels_now ∙ ap (λ (s : List Slot). levels_under s root) (sym slots_same);
+        pages = λ q.
+            pages_after heads heads' bases earlier root next (next + ops) ws links linked p.pages t.stage.rising t.stage.below (omega arith) t.stage.before chains q ∙ ap (λ (s : List Slot). bare (slot_at s q)) (sym slots_same);
+        writes = λ q has.
+            subst (λ (s : List Slot). IsPermutation (filter (λ w. has_key (slot_at s q) w.key) (writes_in (drop n records)) ++ writes_over (slot_at s q)) (writes_over (slot_at (slots_of heads' bases after) q))) (sym slots_same)
+            (subst (λ (l : List WriteView). IsPermutation (filter (λ w. has_key (slot_at (slots_of heads bases earlier) q) w.key) l ++ writes_over (slot_at (slots_of heads bases earlier) q)) (writes_over (slot_at (slots_of heads' bases after) q))) (sym writes_are)
+            (writes_after heads heads' bases earlier root next (next + ops) ws links linked p.pages t.stage.rising t.stage.below (omega arith) t.stage.before chains q
+            (subst (λ (s : List Slot). Contains (row (levels_under s root) 0) q) slots_same has)));
+        staged_is =
+            ap (λ h. Some (stage_with h (take n after) (writes_in (drop n after)))) back
+            ∙ ap (λ r. Some (stage_with heads r (writes_in (drop n after)))) first_same
+            ∙ ap (λ w. Some (stage_with heads earlier w)) (last_same ∙ sym writes_are);
+      }
+
 -- What `adopt` does, from the words that it writes.
 pub record Adoption (heads heads' : List ℕ) (bases : Bases) (records : Records) (root next : ℕ) (tree : TreeView) (s : StageWords) (links : List ℕ) : Type 0 where
   pub fits : s.records + length links ≤ length records
-  pub all : (new : Records) → deltas_of new ≡ deltas_of records → links_of new ≡ take s.records (links_of records) ++ links ++ drop (s.records + length links) (links_of records) →
-      IsAdoptedOn heads' bases new root next (Some (record { records = s.records; ops = s.ops; before = Some heads })) tree
+  pub all : (past : WordsBefore) → words_before (Some past) heads' ≡ heads → (new : Records) → deltas_of new ≡ deltas_of records → links_of new ≡ take s.records (links_of records) ++ links ++ drop (s.records + length links) (links_of records) →
+      IsAdoptedOn heads' bases new root next (Some (record { records = s.records; ops = s.ops; before = Some past })) tree
 
-adoption_at : (heads heads' : List ℕ) (bases : Bases) (records : Records) (root next n ops : ℕ) (before : Option (List ℕ)) (links : List ℕ) → IsTree heads bases records root next (Some (record { records = n; ops = ops; before = before })) →
+adoption_at : (heads heads' : List ℕ) (bases : Bases) (records : Records) (root next n ops : ℕ) (before : Option WordsBefore) (links : List ℕ) → IsTree heads bases records root next (Some (record { records = n; ops = ops; before = before })) →
     let tree = view_of heads bases records root next (Some (record { records = n; ops = ops; before = before })) in IsPostedStage tree tree.staged heads' links → Adoption heads heads' bases records root next tree (record { records = n; ops = ops; before = before }) links
 adoption_at heads heads' bases records root next n ops (Some b) links t p = absurd (different p.0)
   where
@@ -161,8 +168,8 @@ adoption_at heads heads' bases records root next n ops (Some b) links t p = absu
     different e = cc
 adoption_at heads heads' bases records root next n ops None links t p = record {
   fits = adopt_fits heads heads' bases records root next n ops links t p.1;
-  all = λ new deltas links_are. subst (λ (r : Records). IsAdoptedOn heads' bases r root next (Some (record { records = n; ops = ops; before = Some heads })) (view_of heads bases records root next (Some (record { records = n; ops = ops; before = None }))))
-      (sym (adopt_links heads heads' bases records root next n ops links t p.1 new deltas links_are)) (adopt_all heads heads' bases records root next n ops links t p.1);
+  all = λ past back new deltas links_are. subst (λ (r : Records). IsAdoptedOn heads' bases r root next (Some (record { records = n; ops = ops; before = Some past })) (view_of heads bases records root next (Some (record { records = n; ops = ops; before = None }))))
+      (sym (adopt_links heads heads' bases records root next n ops links t p.1 new deltas links_are)) (adopt_all heads heads' bases records root next n ops links t p.1 past back);
 }
 
 pub adoption : (heads heads' : List ℕ) (bases : Bases) (records : Records) (root next : ℕ) (staged : Option StageWords) (tree : TreeView) (s : StageWords) (links : List ℕ) → IsTree heads bases records root next staged → view_of heads bases records root next staged ≡ tree → Some s ≡ staged →
@@ -174,12 +181,12 @@ adoption heads heads' bases records root next staged tree s links t is some p =
 
 -- and so of the words that were written
 pub adopted_with : (heads heads' : List ℕ) (bases : Bases) (records : Records) (root next : ℕ) (tree : TreeView) (s : StageWords) (links : List ℕ) → Adoption heads heads' bases records root next tree s links →
-    (words : List ℕ) (bases' : Bases) (new : Records) (staged : Option StageWords) (given before : List ℕ) → words ≡ heads' → bases' ≡ bases → given ≡ links → deltas_of new ≡ deltas_of records →
-    links_of new ≡ take s.records (links_of records) ++ given ++ drop (s.records + length given) (links_of records) → before ≡ heads → staged ≡ Some (record { records = s.records; ops = s.ops; before = Some before }) →
+    (words : List ℕ) (bases' : Bases) (new : Records) (staged : Option StageWords) (given : List ℕ) (past : WordsBefore) → words ≡ heads' → bases' ≡ bases → given ≡ links → deltas_of new ≡ deltas_of records →
+    links_of new ≡ take s.records (links_of records) ++ given ++ drop (s.records + length given) (links_of records) → words_before (Some past) words ≡ heads → staged ≡ Some (record { records = s.records; ops = s.ops; before = Some past }) →
     IsAdoptedOn words bases' new root next staged tree
-adopted_with heads heads' bases records root next tree s links a words bases' new staged given before same_words same_bases same_links deltas linked same_before staged_is =
+adopted_with heads heads' bases records root next tree s links a words bases' new staged given past same_words same_bases same_links deltas linked back staged_is =
     let links_are = subst (λ (l : List ℕ). links_of new ≡ take s.records (links_of records) ++ l ++ drop (s.records + length l) (links_of records)) same_links linked in
     subst (λ (h : List ℕ). IsAdoptedOn h bases' new root next staged tree) (sym same_words)
     (subst (λ (b : Bases). IsAdoptedOn heads' b new root next staged tree) (sym same_bases)
-    (subst (λ (o : Option StageWords). IsAdoptedOn heads' bases new root next o tree) (sym (staged_is ∙ ap (λ (h : List ℕ). Some (record { records = s.records; ops = s.ops; before = Some h })) same_before))
-    (a.all new deltas links_are)))
+    (subst (λ (o : Option StageWords). IsAdoptedOn heads' bases new root next o tree) (sym staged_is)
+    (a.all past (ap (words_before (Some past)) (sym same_words) ∙ back) new deltas links_are)))

@@ -12,6 +12,8 @@ pub mod PlacedLemmas
 pub mod AlikeLemmas
 pub mod RowWritesLemmas
 pub mod AdoptLemmas
+pub mod WordLemmas
 pub mod AdoptedLemmas
+pub mod AdoptedOnLemmas
 pub mod StagedLemmas
 pub mod FoldLemmas

@@ -8,7 +8,9 @@ use Rattle.bw_delta.specs.Writes.{WriteView}
 use Rattle.bw_delta.specs.declared.deltas.Delta.{Delta}
 use Rattle.bw_delta.specs.declared.deltas.Delta.TheVariants.{Put}
 use Rattle.bw_chain.specs.Chains.{Bases, Records, Ends, EndsAt, record_at}
-use Rattle.bw_tree.specs.Trees.{IsTree, IsStaged, StageWords, stage_of, view_of, words_before}
+use Rattle.bw_tree.specs.Trees.{IsTree, IsStaged, StageWords, stage_of, view_of}
+use Rattle.bw_tree.specs.Words.{words_before}
+use Rattle.bw_tree.specs.declared.words.WordsBefore.{WordsBefore}
 use Rattle.bw_chain.specs.Records.{put_records, writes_in}
 use Rattle.bw_tree.specs.Stages.{IsStagedAs}
 use Rattle.bw_tree.specs.View.{TreeView, staged_writes}
@@ -64,7 +66,7 @@ module _ (heads : List ℕ) (bases : Bases) (records : Records) (root next : ℕ
         omega (arith, whole, within),
       )
 
-  no_word : (b : Option (List ℕ)) → s.before ≡ b → is_some s.before ≡ false → words_before s.before heads ≡ heads
+  no_word : (b : Option WordsBefore) → s.before ≡ b → is_some s.before ≡ false → words_before s.before heads ≡ heads
   no_word None e none = ap (λ b. words_before b heads) e
   no_word (Some b) e none = absurd (different (sym (ap is_some e) ∙ none))
     where

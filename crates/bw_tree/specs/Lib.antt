@@ -1,6 +1,7 @@
 pub mod View
 pub mod Trees
 pub mod Stages
+pub mod Words
 pub mod Replaying
 pub mod Making
 pub mod Folding

@@ -11,6 +11,8 @@ use Rattle.bw_chain.specs.Chains.{AllEnd, Bases, Records, slots_of}
 use Rattle.bw_chain.specs.Records.{put_records, writes_in}
 use Rattle.bw_chain.specs.Reading.{row_writes}
 use Rattle.bw_tree.specs.View.{TreeView, StageView}
+use Rattle.bw_tree.specs.declared.words.WordsBefore.{WordsBefore}
+use Rattle.bw_tree.specs.Words.{words_before}
 
 -- the writes over all leaves of a tree
 abbrev pub leaf_writes : List Slot → ℕ → List WriteView
@@ -32,11 +34,7 @@ pub record IsStanding (heads : List ℕ) (bases : Bases) (records : Records) (ro
 pub record StageWords : Type 0 where
   pub records : ℕ
   pub ops : ℕ
-  pub before : Option (List ℕ)
-
-abbrev pub words_before : Option (List ℕ) → List ℕ → List ℕ
-words_before None heads = heads
-words_before (Some before) heads = before
+  pub before : Option WordsBefore
 
 abbrev pub stage_of : List ℕ → Bases → Records → ℕ → StageWords → StageView
 stage_of heads bases records root stage =

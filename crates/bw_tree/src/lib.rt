@@ -9,6 +9,7 @@ mod making;
 mod scans;
 mod staging;
 mod tree;
+mod words;
 
 pub use scans::Scans;
 pub use staging::Staged;

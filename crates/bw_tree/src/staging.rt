@@ -1,5 +1,5 @@
 // A staged batch.
-use bw_memory::Alloc;
+use crate::words::WordsBefore;
 use std::marker::Model;
 
 /// A batch that was staged.
@@ -21,14 +21,13 @@ pub(crate) struct Stage {
     /// How many stamps it takes.
     pub(crate) ops: u64,
     /// The mapping words before it, once others were adopted.
-    pub(crate) before: Option<Vec<u64, Alloc>>,
+    pub(crate) before: Option<WordsBefore>,
 }
 
 impl Model for Stage {
-    ghost use Rattle.std.specs.Option.{option_map};
     ghost use Rattle.bw_tree.specs.Trees.{StageWords};
 
     ghost Value = { StageWords };
 
-    ghost view = { λ s. record { records = s.records; ops = s.ops; before = option_map (λ v. v.items) s.before } };
+    ghost view = { λ s. record { records = s.records; ops = s.ops; before = s.before } };
 }

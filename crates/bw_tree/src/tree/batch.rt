@@ -6,14 +6,18 @@ ghost use Rattle.bw_delta.specs.Batches.{writes_of};
 ghost use Rattle.bw_tree.specs.View.{contents_at, contents_with, staged_writes};
 ghost use Rattle.bw_tree.specs.Stages.{IsPostedStage, IsReadInTurn, IsStagedAs, LeavesHaveAll};
 ghost use Rattle.bw_tree.specs.Stages.{accepted, adopted, is_adopted, staged_on, undone};
+ghost use Rattle.bw_tree.specs.Words.{IsPostedStageOn, put_words};
 
 use super::Tree;
 use crate::staging::{Stage, Staged};
+use crate::words::{WordsBefore, swap_words};
 use bw_board::Closed;
 use bw_chain::FLOOR;
 use bw_delta::Write;
 use bw_key::Memory;
+use bw_memory::Alloc;
 use bw_model::Op;
+use bw_page::PageId;
 use std::mem;
 
 impl Tree {
@@ -93,7 +97,33 @@ impl Tree {
             self.staged.replace(Stage {
                 records: stage.records,
                 ops: stage.ops,
-                before: Some(before),
+                before: Some(WordsBefore::OfAll(before)),
+            });
+        }
+    }
+
+    /// The same from the words of a board over some pages alone, in their order: those that have a key of a staged write
+    /// are among them. The words of other pages stay. It takes no memory, and a step for each of the pages and records.
+    pub fn adopt_on(&mut self, pages: Vec<PageId, Alloc>, closed: Closed)
+        requires { IsPostedStageOn self.old self.old.staged pages.items closed.heads closed.links }
+        ensures contents { (stamp : ℕ) → contents_at self.new stamp ≡ contents_with self.old stamp }
+        ensures pages { (p : ℕ) → bare (slot_at self.new.slots p) ≡ bare (slot_at self.old.slots p) }
+        ensures writes { LeavesHaveAll self.old self.new }
+        ensures root { self.new.root ≡ self.old.root }
+        ensures levels { self.new.levels ≡ self.old.levels }
+        ensures heads { self.new.heads ≡ put_words self.old.heads pages.entry.items closed.heads }
+        ensures records { self.new.records ≡ self.old.records }
+        ensures next { self.new.next ≡ self.old.next }
+        ensures staged { self.new.staged ≡ adopted self.old.staged }
+    {
+        let (words, links, _) = closed.into_parts();
+        if let Some(stage) = self.staged.take() {
+            self.chains.set_links(stage.records, &links);
+            let before = swap_words(&mut self.heads, &pages, words);
+            self.staged.replace(Stage {
+                records: stage.records,
+                ops: stage.ops,
+                before: Some(WordsBefore::OfPages(pages, before)),
             });
         }
     }
@@ -115,7 +145,7 @@ impl Tree {
         if let Some(stage) = self.staged.take() {
             self.chains.truncate(stage.records);
             if let Some(before) = stage.before {
-                self.heads = before;
+                before.put_back(&mut self.heads);
             }
         }
     }

@@ -1,0 +1,73 @@
+// Mapping words of some pages, put in their places.
+ghost use Rattle.std.specs.Prelude.{◌≡◌, ℕ, ◌<◌, ◌≤◌, Some, length};
+ghost use Rattle.std.specs.List.{AllByRecursion, slice_set};
+ghost use Rattle.bw_core.specs.World.{times};
+ghost use Rattle.bw_tree.specs.Words.{put_words, words_before, words_of};
+
+use bw_memory::Alloc;
+use bw_page::PageId;
+use std::mem;
+
+/// The mapping words that stood before a batch was adopted.
+#[derive(Debug, Drop)]
+pub(crate) enum WordsBefore {
+    /// Of all pages.
+    OfAll(Vec<u64, Alloc>),
+    /// Of these pages.
+    OfPages(Vec<PageId, Alloc>, Vec<u64, Alloc>),
+}
+
+impl WordsBefore {
+    /// Puts them back in their places. It takes no memory.
+    pub(crate) fn put_back(self, heads: &mut Vec<u64, Alloc>)
+        ensures { heads.new.items ≡ words_before (Some self) heads.old.items }
+    {
+        match self {
+            WordsBefore::OfAll(words) => *heads = words,
+            WordsBefore::OfPages(pages, words) => put_words(heads, &pages, &words),
+        }
+    }
+}
+
+// Puts words in the places of pages. A page that isn't there has none.
+fn put_words(heads: &mut [u64], pages: &[PageId], words: &[u64])
+    ensures { heads.new ≡ put_words heads.old pages.now words.now }
+{
+    for place in 0..pages.len().min(words.len()) {
+        let page = pages[place];
+        let at = page.0 as usize;
+        if at < heads.len() {
+            heads[at] = words[place];
+        }
+    }
+}
+
+/// Puts words in the places of pages, no two of which are one, and answers the words that stood there. It takes no memory.
+pub(crate) fn swap_words(
+    heads: &mut Vec<u64, Alloc>,
+    pages: &[PageId],
+    mut words: Vec<u64, Alloc>,
+) -> Vec<u64, Alloc>
+    requires count { length words.items ≡ length pages.now }
+    requires there { AllByRecursion (λ p. p < length heads.old.items) pages.now }
+    requires once { (p : ℕ) → times p pages.now ≤ 1 }
+    ensures heads { heads.new.items ≡ put_words heads.old.items pages.now words.entry.items }
+    ensures words { result.items ≡ words_of heads.old.items pages.now }
+{
+    swap_each(heads, pages, &mut words);
+    words
+}
+
+// The same in lists of as many words.
+fn swap_each(heads: &mut [u64], pages: &[PageId], words: &mut [u64])
+    requires count { length words.old ≡ length pages.now }
+    requires there { AllByRecursion (λ p. p < length heads.old) pages.now }
+    requires once { (p : ℕ) → times p pages.now ≤ 1 }
+    ensures heads { heads.new ≡ put_words heads.old pages.now words.old }
+    ensures words { words.new ≡ words_of heads.old pages.now }
+{
+    for place in 0..pages.len() {
+        let page = pages[place];
+        mem::swap(&mut heads[page.0 as usize], &mut words[place]);
+    }
+}
