@@ -10,8 +10,8 @@ use Rattle.bw_tree.specs.Folding.{leaf_ranges}
 use Rattle.bw_tree.specs.Levels.{row}
 use Rattle.bw_tree.specs.Scans.{high_of}
 use Rattle.bw_tree.specs.Slots.{Slot, Free, Gone, Live, slot_at}
-use Rattle.bw_tree.specs.Stages.{accepted, adopted, is_adopted, staged_on, undone}
-use Rattle.bw_tree.specs.Turns.{bare}
+use Rattle.bw_tree.specs.Stages.{accepted_tree, adopted_stage, is_adopted, staged_on, undone_tree}
+use Rattle.bw_tree.specs.Turns.{slot_without_writes}
 use Rattle.bw_tree.specs.View.{TreeView, StageView, contents_at, contents_with}
 use Rattle.bw_post.specs.Posting.{IsWaiting}
 use Rattle.bw_batch.specs.Stages.{operations_staged}
@@ -35,13 +35,13 @@ module _ (before tree : TreeView) (ops : List Op) (is : tree ≡ staged_on befor
 abbrev range_of : Slot → KeyBytes × Option KeyBytes
 range_of page = (low_of page, high_of page)
 
-bare_range : (page : Slot) → range_of (bare page) ≡ range_of page
+bare_range : (page : Slot) → range_of (slot_without_writes page) ≡ range_of page
 bare_range (Live s) = refl
 bare_range (Gone l) = refl
 bare_range Free = refl
 
 -- so leaves that differ in writes alone have the same ranges
-pub same_leaves : (tree after : TreeView) → after.levels ≡ tree.levels → ((p : ℕ) → bare (slot_at after.slots p) ≡ bare (slot_at tree.slots p)) → leaf_ranges after ≡ leaf_ranges tree
+pub same_leaves : (tree after : TreeView) → after.levels ≡ tree.levels → ((p : ℕ) → slot_without_writes (slot_at after.slots p) ≡ slot_without_writes (slot_at tree.slots p)) → leaf_ranges after ≡ leaf_ranges tree
 same_leaves tree after levels pages = ap (λ (l : List (List ℕ)). map (λ p. range_of (slot_at after.slots p)) (row l 0)) levels ∙ along (row tree.levels 0)
   where
     along : (ps : List ℕ) → map (λ p. range_of (slot_at after.slots p)) ps ≡ map (λ p. range_of (slot_at tree.slots p)) ps
@@ -53,33 +53,33 @@ same_leaves tree after levels pages = ap (λ (l : List (List ℕ)). map (λ p. r
         cc
 
 -- with the batch undone the tree is as before
-pub undone_is : (before tree after : TreeView) (ops : List Op) → before.staged ≡ None → tree ≡ staged_on before ops → undone after after.staged ≡ undone tree tree.staged → undone after after.staged ≡ before
+pub undone_is : (before tree after : TreeView) (ops : List Op) → before.staged ≡ None → tree ≡ staged_on before ops → undone_tree after after.staged ≡ undone_tree tree tree.staged → undone_tree after after.staged ≡ before
 undone_is before tree after ops none is same =
     same
-    ∙ ap (λ (t : TreeView). undone t t.staged) is
+    ∙ ap (λ (t : TreeView). undone_tree t t.staged) is
     ∙ ap (λ (o : Option StageView). record before { staged = o }) (sym none)
 
 -- an adopted batch is undone like a staged one
-pub same_undone : (tree after : TreeView) (ops : List Op) → IsWaiting tree tree.staged ops → after.root ≡ tree.root → after.next ≡ tree.next → after.staged ≡ adopted tree.staged → undone after after.staged ≡ undone tree tree.staged
-same_undone tree after ops waiting root next staged = ap (undone after) staged ∙ by tree.staged waiting
+pub same_undone : (tree after : TreeView) (ops : List Op) → IsWaiting tree tree.staged ops → after.root ≡ tree.root → after.next ≡ tree.next → after.staged ≡ adopted_stage tree.staged → undone_tree after after.staged ≡ undone_tree tree tree.staged
+same_undone tree after ops waiting root next staged = ap (undone_tree after) staged ∙ by tree.staged waiting
   where
-    by : (o : Option StageView) → IsWaiting tree o ops → undone after (adopted o) ≡ undone tree o
+    by : (o : Option StageView) → IsWaiting tree o ops → undone_tree after (adopted_stage o) ≡ undone_tree tree o
     by None none = absurd none
     by (Some stage) so =
         ap (λ (r : ℕ). record after { slots = stage.slots; root = r; levels = stage.levels; heads = stage.heads; records = stage.records; staged = None }) root
         ∙ ap (λ (n : ℕ). record tree { slots = stage.slots; levels = stage.levels; heads = stage.heads; records = stage.records; next = n; staged = None }) next
 
-pub adopted_now : (tree after : TreeView) (ops : List Op) → IsWaiting tree tree.staged ops → after.staged ≡ adopted tree.staged → is_adopted after.staged ≡ true
+pub adopted_now : (tree after : TreeView) (ops : List Op) → IsWaiting tree tree.staged ops → after.staged ≡ adopted_stage tree.staged → is_adopted after.staged ≡ true
 adopted_now tree after ops waiting staged = ap is_adopted staged ∙ by tree.staged waiting
   where
-    by : (o : Option StageView) → IsWaiting tree o ops → is_adopted (adopted o) ≡ true
+    by : (o : Option StageView) → IsWaiting tree o ops → is_adopted (adopted_stage o) ≡ true
     by None none = absurd none
     by (Some stage) so = refl
 
-pub same_count : (tree after : TreeView) → after.staged ≡ adopted tree.staged → operations_staged after.staged ≡ operations_staged tree.staged
+pub same_count : (tree after : TreeView) → after.staged ≡ adopted_stage tree.staged → operations_staged after.staged ≡ operations_staged tree.staged
 same_count tree after staged = ap operations_staged staged ∙ by tree.staged
   where
-    by : (o : Option StageView) → operations_staged (adopted o) ≡ operations_staged o
+    by : (o : Option StageView) → operations_staged (adopted_stage o) ≡ operations_staged o
     by None = refl
     by (Some stage) = refl
 
@@ -102,14 +102,14 @@ pub record IsAccepted (before after : TreeView) (ops : List Op) : Type 0 where
   pub leaves : leaf_ranges after ≡ leaf_ranges before
 
 pub accepted_as : (before tree now after : TreeView) (ops : List Op) → tree ≡ staged_on before ops → ((i : ℕ) → contents_with tree (before.next + i) ≡ contents_after (take i ops) (contents_at before before.next)) →
-    now.next ≡ tree.next → now.records ≡ tree.records → ((stamp : ℕ) → contents_at now stamp ≡ contents_with tree stamp) → is_adopted now.staged ≡ true → operations_staged now.staged ≡ operations_staged tree.staged → leaf_ranges now ≡ leaf_ranges tree → after ≡ accepted now now.staged →
+    now.next ≡ tree.next → now.records ≡ tree.records → ((stamp : ℕ) → contents_at now stamp ≡ contents_with tree stamp) → is_adopted now.staged ≡ true → operations_staged now.staged ≡ operations_staged tree.staged → leaf_ranges now ≡ leaf_ranges tree → after ≡ accepted_tree now now.staged →
     IsAccepted before after ops
 accepted_as before tree now after ops is reads next records same so count leaves accepted_is = by now.staged so count accepted_is
   where
     different : false ≡ true → ⊥
     different e = cc
 
-    by : (o : Option StageView) → is_adopted o ≡ true → operations_staged o ≡ operations_staged tree.staged → after ≡ accepted now o → IsAccepted before after ops
+    by : (o : Option StageView) → is_adopted o ≡ true → operations_staged o ≡ operations_staged tree.staged → after ≡ accepted_tree now o → IsAccepted before after ops
     by None none count is' = absurd (different none)
     by (Some stage) adopted count is' =
         let ops_are : stage.ops ≡ length ops = count ∙ ap (λ (t : TreeView). operations_staged t.staged) is in

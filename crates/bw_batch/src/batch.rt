@@ -4,7 +4,7 @@ ghost use Rattle.bw_core.specs.Keeping.{pairs_of};
 ghost use Rattle.bw_delta.specs.Batches.{writes_of};
 ghost use Rattle.bw_model.specs.Model.{contents_after, replies_of};
 ghost use Rattle.bw_tree.specs.Folding.{leaf_ranges};
-ghost use Rattle.bw_tree.specs.Stages.{is_adopted, undone};
+ghost use Rattle.bw_tree.specs.Stages.{is_adopted, undone_tree};
 ghost use Rattle.bw_tree.specs.View.{contents_at, contents_with, staged_writes};
 ghost use Rattle.bw_post.specs.Posting.{IsWaiting};
 ghost use Rattle.bw_batch.specs.Stages.{operations_staged};
@@ -86,7 +86,7 @@ fn answer_staged<R: Threads + Sync, G: Gate>(
     ensures next { tree.new.next ≡ tree.old.next }
     ensures adopted { OnOk result (is_adopted tree.new.staged ≡ true) }
     ensures count { operations_staged tree.new.staged ≡ operations_staged tree.old.staged }
-    ensures undone { undone tree.new tree.new.staged ≡ undone tree.old tree.old.staged }
+    ensures undone { undone_tree tree.new tree.new.staged ≡ undone_tree tree.old tree.old.staged }
 {
     let (piece, workers) = (options.piece(), options.workers());
     let Posting { closed, lost } = post_all(rt, alloc, tree, batch, piece, workers, gate)?;

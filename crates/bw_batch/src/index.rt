@@ -121,7 +121,8 @@ impl Index {
     /// The index over a tree, with what it holds. The tree has no staged batch.
     ///
     /// Pages are not split yet, so this is how an index gets more than one leaf: `Tree::from_level` makes a tree of
-    /// leaves.
+    /// leaves. The tree, its keys and its values should be made on `alloc` too: they stay where they were made, and so
+    /// do their copies.
     pub fn from_tree(alloc: Alloc, options: Options, tree: Tree) -> Index
         requires { tree.staged ≡ None }
         ensures contents { contents_of result ≡ contents_at tree tree.next }

@@ -10,7 +10,7 @@ use Rattle.bw_delta.specs.declared.deltas.Delta.{Delta}
 use Rattle.bw_delta.specs.declared.deltas.Delta.TheVariants.{Put, Split, Absorb, Removed, AddChild, DropChild}
 use Rattle.bw_chain.specs.Walk.{Leads, walked, ended}
 use Rattle.bw_chain.specs.Slots.{Slot, Body, Pairs, Children, Free, Gone, Live}
-use Rattle.bw_chain.specs.Turns.{IsOther, bare, bare_body}
+use Rattle.bw_chain.specs.Turns.{IsOther, slot_without_writes, body_without_writes}
 use Rattle.bw_chain.specs.Chains.{Bases, Records, Ends, EndsAt, IsShaped, record_at, link_of, linked_word, body_written, delta_in, deltas_at, changed, change, based, slot_of_word}
 use Rattle.bw_chain.proofs.WalkLemmas.{walked_is, ended_is, way_falls_within}
 
@@ -126,18 +126,18 @@ on_base bases records word ends none = by ends.0 ends.1.0 ends.1.1
     by (w ∷ ws) e h = absurd (no_next (sym (ap linked_word none) ∙ h.way.1.1))
 
 -- a write leaves the rest of a page
-pub bare_put : (bases : Bases) (w : WriteView) (slot : Slot) → bare (change bases (Put w) slot) ≡ bare slot
+pub bare_put : (bases : Bases) (w : WriteView) (slot : Slot) → slot_without_writes (change bases (Put w) slot) ≡ slot_without_writes slot
 bare_put bases w Free = refl
 bare_put bases w (Gone l) = refl
 bare_put bases w (Live s) = ap (λ b. Live (record s { body = b })) (bare_written w s.body)
   where
-    bare_written : (w : WriteView) (b : Body) → bare_body (body_written w b) ≡ bare_body b
+    bare_written : (w : WriteView) (b : Body) → body_without_writes (body_written w b) ≡ body_without_writes b
     bare_written w (Pairs pairs writes) = refl
     bare_written w (Children level children) = refl
 
 -- under a write lies the rest of the chain
 pub record UnderPut (bases : Bases) (records : Records) (word under : ℕ) : Type 0 where
-  pub same : bare (slot_of_word bases records word) ≡ bare (slot_of_word bases records under)
+  pub same : slot_without_writes (slot_of_word bases records word) ≡ slot_without_writes (slot_of_word bases records under)
   pub ends : Ends bases records under
   pub less : length (walked (link_of records) (length records) under) < length (walked (link_of records) (length records) word)
 
@@ -145,7 +145,7 @@ pub under_put : (bases : Bases) (records : Records) (word under_it : ℕ) (d : D
 under_put bases records word under_it d w ends at put =
     let u = under bases records word (d, under_it) ends at in
     record {
-      same = ap bare (u.state ∙ ap (λ d. change bases d (slot_of_word bases records under_it)) put) ∙ bare_put bases w (slot_of_word bases records under_it);
+      same = ap slot_without_writes (u.state ∙ ap (λ d. change bases d (slot_of_word bases records under_it)) put) ∙ bare_put bases w (slot_of_word bases records under_it);
       ends = subst (λ d. Below bases records d under_it) put u.ends;
       less = u.less;
     }

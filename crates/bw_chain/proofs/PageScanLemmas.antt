@@ -21,7 +21,7 @@ use Rattle.bw_delta.specs.declared.deltas.Delta.TheVariants.{Put}
 use Rattle.bw_chain.specs.Slots.{Slot, Free, Gone, Live, is_leaf}
 use Rattle.bw_chain.specs.Walk.{walked}
 use Rattle.bw_chain.specs.Chains.{Bases, Records, Ends, record_at, link_of, change, plain, slot_of_word}
-use Rattle.bw_chain.specs.Turns.{bare, over, plain_at, IsNoWrite}
+use Rattle.bw_chain.specs.Turns.{slot_without_writes, over, plain_at, IsNoWrite}
 use Rattle.bw_chain.specs.Reading.{EndsAbove, base_of, writes_over, value_in}
 use Rattle.bw_chain.specs.Scans.{IsLeafReplay, ArePairsOn, high_of}
 use Rattle.bw_chain.proofs.ChainLemmas.{Below, under}
@@ -145,7 +145,7 @@ replayed_leaf_ok slot leaf writes end (Ok replay) all ends base so = replayed_le
 replayed_leaf_ok slot leaf writes end (Err e) all ends base so = so
 
 -- what lies under the writes of a chain over a base leaf
-pub base_on : (bases : Bases) (slot : Slot) (o : Option (Bor Delta)) (page : Option (Bor Page)) (b : Bor Page) (leaf : LeafView ValueBytes) → page ≡ Some b → b.now ≡ LeafPage leaf → bare slot ≡ bare (over bases o (plain_at page)) → IsNoWrite o →
+pub base_on : (bases : Bases) (slot : Slot) (o : Option (Bor Delta)) (page : Option (Bor Page)) (b : Bor Page) (leaf : LeafView ValueBytes) → page ≡ Some b → b.now ≡ LeafPage leaf → slot_without_writes slot ≡ slot_without_writes (over bases o (plain_at page)) → IsNoWrite o →
     (key : KeyBytes) → EndsAbove slot key → base_of slot key ≡ find key_cmp key leaf.pairs
 base_on bases slot o page b leaf is is_leaf_page same other key above =
     base_through bases slot o page key same other above ∙ ap (λ (p : Option (Bor Page)). base_of (plain_at p) key) is ∙ ap (λ (p : Page). base_of (plain p) key) is_leaf_page

@@ -17,7 +17,7 @@ use Rattle.bw_delta.specs.declared.deltas.Delta.TheVariants.{Put, Split, Absorb,
 use Rattle.bw_chain.specs.Slots.{Slot, slot_at, Body, Pairs, Children, Free, Gone, Live, is_leaf, body_is_leaf}
 use Rattle.bw_chain.specs.Walk.{walked}
 use Rattle.bw_chain.specs.Chains.{Bases, Records, Ends, record_at, link_of, change, body_written, body_below, based, slot_of_word}
-use Rattle.bw_chain.specs.Turns.{bare, bare_body, over, plain_at, IsNoWrite, IsOther}
+use Rattle.bw_chain.specs.Turns.{slot_without_writes, body_without_writes, over, plain_at, IsNoWrite, IsOther}
 use Rattle.bw_chain.specs.Reading.{EndsAbove, base_of, body_pairs, writes_over, body_writes}
 use Rattle.bw_chain.proofs.ChainLemmas.{Below, under, under_other, on_base}
 
@@ -95,12 +95,12 @@ pub none_at_base : (bases : Bases) (records : Records) (word : ℕ) → Ends bas
 none_at_base bases records word ends none = ap writes_over (on_base bases records word ends none) ∙ no_writes_on_base (slice_get bases word)
 
 -- what is under the writes depends on the bare page
-base_bare : (slot : Slot) (key : KeyBytes) → base_of (bare slot) key ≡ base_of slot key
+base_bare : (slot : Slot) (key : KeyBytes) → base_of (slot_without_writes slot) key ≡ base_of slot key
 base_bare Free key = refl
 base_bare (Gone l) key = refl
 base_bare (Live s) key = by s.body
   where
-    by : (b : Body) → find key_cmp key (body_pairs (bare_body b)) ≡ find key_cmp key (body_pairs b)
+    by : (b : Body) → find key_cmp key (body_pairs (body_without_writes b)) ≡ find key_cmp key (body_pairs b)
     by (Pairs pairs writes) = refl
     by (Children level children) = refl
 
@@ -149,16 +149,16 @@ pub found_all : (found : List (Bor WriteView)) (key : KeyBytes) (here all : List
 found_all found key here all nothing so_far = sym (nil_right (pointed_to found)) ∙ sym (ap (λ (l : List WriteView). pointed_to found ++ writes_to key l) nothing) ∙ so_far
 
 -- the value under a chain's writes, from its base page
-pub base_through : (bases : Bases) (slot : Slot) (o : Option (Bor Delta)) (page : Option (Bor Page)) (key : KeyBytes) → bare slot ≡ bare (over bases o (plain_at page)) → IsNoWrite o → EndsAbove slot key → base_of slot key ≡ base_of (plain_at page) key
+pub base_through : (bases : Bases) (slot : Slot) (o : Option (Bor Delta)) (page : Option (Bor Page)) (key : KeyBytes) → slot_without_writes slot ≡ slot_without_writes (over bases o (plain_at page)) → IsNoWrite o → EndsAbove slot key → base_of slot key ≡ base_of (plain_at page) key
 base_through bases slot o page key same other above =
     sym (base_bare slot key) ∙ ap (λ (s : Slot). base_of s key) same ∙ base_bare (over bases o (plain_at page)) key ∙ by o other (there above)
   where
-    ends_bare : (a : Slot) → EndsAbove a key → EndsAbove (bare a) key
+    ends_bare : (a : Slot) → EndsAbove a key → EndsAbove (slot_without_writes a) key
     ends_bare Free h = h
     ends_bare (Gone l) h = h
     ends_bare (Live s) h = h
 
-    ends_back : (a : Slot) → EndsAbove (bare a) key → EndsAbove a key
+    ends_back : (a : Slot) → EndsAbove (slot_without_writes a) key → EndsAbove a key
     ends_back Free h = h
     ends_back (Gone l) h = h
     ends_back (Live s) h = h

@@ -14,7 +14,7 @@ use Rattle.bw_chain.specs.declared.target.Target.{Target}
 use Rattle.bw_chain.specs.Slots.{Slot, PageState, Body, Pairs, Children, Free, Gone, Live, level_of, children_of, side_of_slot}
 use Rattle.bw_chain.specs.Chains.{Bases, change, body_below, below}
 use Rattle.bw_chain.specs.Scans.{high_of}
-use Rattle.bw_chain.specs.Turns.{IsTurn, IsWithin, bare, bare_body}
+use Rattle.bw_chain.specs.Turns.{IsTurn, IsWithin, slot_without_writes, body_without_writes}
 use Rattle.bw_chain.specs.Targets.{IsTurnFor, IsWithinFor, SeparatorsAgree, StandsFor, StandsOn, is_upto, lies_from, lies_past}
 use Rattle.bw_chain.proofs.TargetLemmas.{holds, holds_not, lies_no_more}
 
@@ -25,7 +25,7 @@ no_next : {q : ℕ} → None ≡ Some q → ⊥
 no_next e = cc
 
 -- a turn depends on what lies under the writes
-turn_bare : (slot : Slot) (key : KeyBytes) (t : Turn) → IsTurn (bare slot) key t → IsTurn slot key t
+turn_bare : (slot : Slot) (key : KeyBytes) (t : Turn) → IsTurn (slot_without_writes slot) key t → IsTurn slot key t
 turn_bare Free key t h = h
 turn_bare (Gone l) key t h = by t h
   where
@@ -33,50 +33,50 @@ turn_bare (Gone l) key t h = by t h
     by t h = h
 turn_bare (Live s) key Here h = (h.0, by s.body h.1)
   where
-    by : (b : Body) → level_of (bare_body b) ≡ 0 → level_of b ≡ 0
+    by : (b : Body) → level_of (body_without_writes b) ≡ 0 → level_of b ≡ 0
     by (Pairs pairs writes) e = e
     by (Children level children) e = e
 turn_bare (Live s) key (Right q) h = h
 turn_bare (Live s) key (Down c) h = (h.0, by s.body h.1)
   where
-    by : (b : Body) → IsLastUpto key (children_of (bare_body b)) c → IsLastUpto key (children_of b) c
+    by : (b : Body) → IsLastUpto key (children_of (body_without_writes b)) c → IsLastUpto key (children_of b) c
     by (Pairs pairs writes) e = e
     by (Children level children) e = e
 turn_bare (Live s) key (Left l) h = h
 
-bare_turn : (slot : Slot) (key : KeyBytes) (t : Turn) → IsTurn slot key t → IsTurn (bare slot) key t
+bare_turn : (slot : Slot) (key : KeyBytes) (t : Turn) → IsTurn slot key t → IsTurn (slot_without_writes slot) key t
 bare_turn Free key t h = h
 bare_turn (Gone l) key t h = h
 bare_turn (Live s) key Here h = (h.0, by s.body h.1)
   where
-    by : (b : Body) → level_of b ≡ 0 → level_of (bare_body b) ≡ 0
+    by : (b : Body) → level_of b ≡ 0 → level_of (body_without_writes b) ≡ 0
     by (Pairs pairs writes) e = e
     by (Children level children) e = e
 bare_turn (Live s) key (Right q) h = h
 bare_turn (Live s) key (Down c) h = (h.0, by s.body h.1)
   where
-    by : (b : Body) → IsLastUpto key (children_of b) c → IsLastUpto key (children_of (bare_body b)) c
+    by : (b : Body) → IsLastUpto key (children_of b) c → IsLastUpto key (children_of (body_without_writes b)) c
     by (Pairs pairs writes) e = e
     by (Children level children) e = e
 bare_turn (Live s) key (Left l) h = h
 
 -- and so does whether a key stands for what is sought
-bare_children : (b : Body) → children_of (bare_body b) ≡ children_of b
+bare_children : (b : Body) → children_of (body_without_writes b) ≡ children_of b
 bare_children (Pairs pairs writes) = refl
 bare_children (Children level children) = refl
 
-stands_bare : (target : Target) (slot : Slot) (key : KeyBytes) → StandsOn target key slot → StandsOn target key (bare slot)
+stands_bare : (target : Target) (slot : Slot) (key : KeyBytes) → StandsOn target key slot → StandsOn target key (slot_without_writes slot)
 stands_bare target Free key h = h
 stands_bare target (Gone l) key h = h
 stands_bare target (Live s) key h = subst (λ (cs : List (KeyBytes × ℕ)). StandsFor target key s.high cs) (sym (bare_children s.body)) h
 
-bare_stands : (target : Target) (slot : Slot) (key : KeyBytes) → StandsOn target key (bare slot) → StandsOn target key slot
+bare_stands : (target : Target) (slot : Slot) (key : KeyBytes) → StandsOn target key (slot_without_writes slot) → StandsOn target key slot
 bare_stands target Free key h = h
 bare_stands target (Gone l) key h = h
 bare_stands target (Live s) key h = subst (λ (cs : List (KeyBytes × ℕ)). StandsFor target key s.high cs) (bare_children s.body) h
 
 -- pages that are alike but for the writes have the same turns
-pub turns_alike : (target : Target) (slot other : Slot) (t : Turn) → bare slot ≡ bare other → IsTurnFor target other t → IsTurnFor target slot t
+pub turns_alike : (target : Target) (slot other : Slot) (t : Turn) → slot_without_writes slot ≡ slot_without_writes other → IsTurnFor target other t → IsTurnFor target slot t
 turns_alike target slot other t same turned = λ key stands.
     turn_bare slot key t (subst (λ (o : Slot). IsTurn o key t) (sym same)
     (bare_turn other key t (turned key (bare_stands target other key (subst (λ (o : Slot). StandsOn target key o) same (stands_bare target slot key stands))))))

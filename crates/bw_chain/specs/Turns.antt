@@ -44,14 +44,14 @@ StartsUpto (Gone l) key = Unit {0}
 StartsUpto Free key = ⊥
 
 -- a page without the writes over it
-abbrev pub bare_body : Body → Body
-bare_body (Pairs pairs writes) = Pairs pairs []
-bare_body (Children level children) = Children level children
+abbrev pub body_without_writes : Body → Body
+body_without_writes (Pairs pairs writes) = Pairs pairs []
+body_without_writes (Children level children) = Children level children
 
-abbrev pub bare : Slot → Slot
-bare (Live s) = Live (record s { body = bare_body s.body })
-bare (Gone l) = Gone l
-bare Free = Free
+abbrev pub slot_without_writes : Slot → Slot
+slot_without_writes (Live s) = Live (record s { body = body_without_writes s.body })
+slot_without_writes (Gone l) = Gone l
+slot_without_writes Free = Free
 
 -- what a change, if there is one, makes of a page
 abbrev pub over : Bases → Option (Bor Delta) → Slot → Slot

@@ -5,7 +5,7 @@ ghost use Rattle.bw_delta.specs.Arenas.{deltas_of, links_of};
 ghost use Rattle.bw_delta.specs.Batches.{writes_of};
 ghost use Rattle.bw_chain.specs.Chains.{IsChain, based, chains_over, floor_word, link_of, page_at, record_at};
 ghost use Rattle.bw_chain.specs.Records.{IsWrite, IsWriteAt, unlinked};
-ghost use Rattle.bw_chain.specs.Turns.{IsNoWrite, bare, over, plain_at};
+ghost use Rattle.bw_chain.specs.Turns.{IsNoWrite, slot_without_writes, over, plain_at};
 
 use crate::records::{append_writes, put_write};
 use bw_delta::{Arena, Delta, Write};
@@ -129,7 +129,7 @@ impl Chains {
     fn lowest(&self, head: u64) -> u64
         requires { IsChain self.now head }
         ensures ends { IsChain self.now result }
-        ensures same { bare (page_at self.now head) ≡ bare (page_at self.now result) }
+        ensures same { slot_without_writes (page_at self.now head) ≡ slot_without_writes (page_at self.now result) }
         ensures last { (under : ℕ) → link_of self.now.records result ≡ Some under → under < floor_word }
     {
         let mut word = head;
@@ -146,7 +146,8 @@ impl Chains {
     // of its records the lowest alone is looked at.
     pub(crate) fn under_writes(&self, head: u64) -> (Option<&Delta>, Option<&Page>)
         requires { IsChain self.now head }
-        ensures same { bare (page_at self.now head) ≡ bare (over self.now.bases result.0 (plain_at result.1)) }
+        ensures same { slot_without_writes (page_at self.now head)
+            ≡ slot_without_writes (over self.now.bases result.0 (plain_at result.1)) }
         ensures other { IsNoWrite result.0 }
     {
         let word = self.lowest(head);

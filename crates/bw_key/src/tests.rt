@@ -155,7 +155,7 @@ fn one_byte(alloc: Alloc) -> Result<Vec<u8, Alloc>, Memory> {
 }
 
 #[test]
-fn a_refused_push_is_want_of_memory(rt: HostRuntime) -> Result<(), Fail> {
+fn a_refused_push_is_out_of_memory(rt: HostRuntime) -> Result<(), Fail> {
     let alloc = heap(&rt, rt.alloc());
     alloc.refuse(1);
     assert!(rt; one_byte(alloc).is_err());

@@ -28,7 +28,7 @@ use Rattle.bw_delta.proofs.Stagings.{AreBelow, below_all, distinct_over}
 use Rattle.bw_key.specs.Order.{key_eq}
 use Rattle.bw_chain.specs.Slots.{Slot, PageState, Live, Free, slot_at, has_key, is_leaf}
 use Rattle.bw_chain.specs.Reading.{writes_over, row_pairs, row_writes}
-use Rattle.bw_chain.specs.Turns.{bare}
+use Rattle.bw_chain.specs.Turns.{slot_without_writes}
 use Rattle.bw_chain.specs.Levels.{AreLevels, IsHome, row, levels_under}
 use Rattle.bw_chain.specs.Chains.{Bases, Records, Ends, slot_of_word, slots_of}
 use Rattle.bw_tree.specs.Trees.{IsStanding}
@@ -265,8 +265,8 @@ module _ (heads heads' : List ℕ) (bases : Bases) (first : Records) (root next 
       (λ key u lt. sym (same_filtered (λ w. key_eq key w.key) (ws ++ row_writes old_slots leaves) (row_writes new_slots leaves) u moved whole_distinct)))
 
   -- each page is as it was, but for its writes
-  pub pages_after : (p : ℕ) → bare (slot_at new_slots p) ≡ bare (slot_at old_slots p)
-  pages_after p = let o = placed p in ap bare o.is ∙ put_bare bases o.writes (slot_at old_slots p)
+  pub pages_after : (p : ℕ) → slot_without_writes (slot_at new_slots p) ≡ slot_without_writes (slot_at old_slots p)
+  pages_after p = let o = placed p in ap slot_without_writes o.is ∙ put_bare bases o.writes (slot_at old_slots p)
 
   -- and a leaf of the leaf level has those of its range
   pub writes_after : (p : ℕ) → Contains leaves p → IsPermutation (filter (λ w. has_key (slot_at old_slots p) w.key) ws ++ writes_over (slot_at old_slots p)) (writes_over (slot_at new_slots p))

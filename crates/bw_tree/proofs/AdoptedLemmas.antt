@@ -11,14 +11,14 @@ use Rattle.bw_delta.specs.Writes.{WriteView}
 use Rattle.bw_delta.specs.ContentsAsOf.{contents_as_of}
 use Rattle.bw_chain.specs.Slots.{Slot, slot_at, has_key}
 use Rattle.bw_chain.specs.Reading.{writes_over, row_pairs, row_writes}
-use Rattle.bw_chain.specs.Turns.{bare}
+use Rattle.bw_chain.specs.Turns.{slot_without_writes}
 use Rattle.bw_chain.specs.Levels.{IsHome, row, levels_under}
 use Rattle.bw_chain.specs.Chains.{Bases, Records, slot_of_word, slots_of}
 use Rattle.bw_tree.specs.Trees.{IsStanding, IsTree, StageWords, stage_of, view_of}
 use Rattle.bw_tree.specs.Words.{words_before}
 use Rattle.bw_tree.specs.declared.words.WordsBefore.{WordsBefore}
 use Rattle.bw_chain.specs.Records.{put_records, writes_in}
-use Rattle.bw_tree.specs.Stages.{IsPosted, IsPostedStage, adopted}
+use Rattle.bw_tree.specs.Stages.{IsPosted, IsPostedStage, adopted_stage}
 use Rattle.bw_tree.specs.View.{TreeView, StageView, contents_at, contents_with}
 use Rattle.bw_tree.proofs.AdoptLemmas.{ChainOf, contents_after_it, levels_after, pages_after, relinked, standing_after, writes_after, writes_put_in}
 use Rattle.bw_chain.proofs.GrowthLemmas.{append_extends, drop_front, same_map, still_ends, take_front}
@@ -35,9 +35,9 @@ pub record IsAdoptedOn (heads : List ℕ) (bases : Bases) (records : Records) (r
   pub tree_is : IsTree heads bases records root next staged
   pub contents : (stamp : ℕ) → contents_at (view_of heads bases records root next staged) stamp ≡ contents_with tree stamp
   pub levels : levels_under (slots_of heads bases records) root ≡ tree.levels
-  pub pages : (p : ℕ) → bare (slot_at (slots_of heads bases records) p) ≡ bare (slot_at tree.slots p)
+  pub pages : (p : ℕ) → slot_without_writes (slot_at (slots_of heads bases records) p) ≡ slot_without_writes (slot_at tree.slots p)
   pub writes : (p : ℕ) → Contains (row tree.levels 0) p → IsPermutation (writes_with tree p) (writes_over (slot_at (slots_of heads bases records) p))
-  pub staged_is : (view_of heads bases records root next staged).staged ≡ adopted tree.staged
+  pub staged_is : (view_of heads bases records root next staged).staged ≡ adopted_stage tree.staged
 
 module _ (heads heads' : List ℕ) (bases : Bases) (records : Records) (root next n ops : ℕ) (links : List ℕ) where
   abbrev stage : StageWords
@@ -142,7 +142,7 @@ module _ (heads heads' : List ℕ) (bases : Bases) (records : Records) (root nex
             ∙ ap (λ (l : List WriteView). let s = slots_of heads bases records in contents_as_of (from_entries (row_pairs s (row (levels_under s root) 0))) (l ++ row_writes s (row (levels_under s root) 0)) stamp) (sym writes_are);
         levels = levels_now ∙ ap (λ (s : List Slot). levels_under s root) (sym slots_same);
         pages = λ q.
-            pages_after heads heads' bases earlier root next (next + ops) ws links linked p.pages t.stage.rising t.stage.below (omega arith) t.stage.before chains q ∙ ap (λ (s : List Slot). bare (slot_at s q)) (sym slots_same);
+            pages_after heads heads' bases earlier root next (next + ops) ws links linked p.pages t.stage.rising t.stage.below (omega arith) t.stage.before chains q ∙ ap (λ (s : List Slot). slot_without_writes (slot_at s q)) (sym slots_same);
         writes = λ q has.
             subst (λ (s : List Slot). IsPermutation (filter (λ w. has_key (slot_at s q) w.key) (writes_in (drop n records)) ++ writes_over (slot_at s q)) (writes_over (slot_at (slots_of heads' bases after) q))) (sym slots_same)
             (subst (λ (l : List WriteView). IsPermutation (filter (λ w. has_key (slot_at (slots_of heads bases earlier) q) w.key) l ++ writes_over (slot_at (slots_of heads bases earlier) q)) (writes_over (slot_at (slots_of heads' bases after) q))) (sym writes_are)

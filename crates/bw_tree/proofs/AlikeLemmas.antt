@@ -12,7 +12,7 @@ use Rattle.bw_chain.specs.Slots.{Slot, PageState, Body, Pairs, Children, Free, G
 use Rattle.bw_chain.specs.Levels.{Stands, SideBySide, AreLevels, StartsWith, LeadsBelow, row}
 use Rattle.bw_chain.specs.Chains.{Bases, body_written, change}
 use Rattle.bw_chain.specs.Reading.{body_pairs, pairs_under, row_pairs}
-use Rattle.bw_chain.specs.Turns.{bare}
+use Rattle.bw_chain.specs.Turns.{slot_without_writes}
 use Rattle.bw_chain.proofs.ChainLemmas.{bare_put}
 use Rattle.bw_tree.proofs.PostedLemmas.{put_over}
 
@@ -163,6 +163,6 @@ module _ (bases : Bases) (old new : List Slot) (over : (p : ℕ) → IsPutOver b
       ap (λ (l : List (KeyBytes × ValueBytes)). l ++ row_pairs new ps) (ap pairs_under o.is ∙ put_pairs o.writes (slot_at old p)) ∙ ap (λ (l : List (KeyBytes × ValueBytes)). pairs_under (slot_at old p) ++ l) (pairs_alike ps)
 
 -- a page without the writes over it
-pub put_bare : (bases : Bases) (ws : List WriteView) (slot : Slot) → bare (put_over bases ws slot) ≡ bare slot
+pub put_bare : (bases : Bases) (ws : List WriteView) (slot : Slot) → slot_without_writes (put_over bases ws slot) ≡ slot_without_writes slot
 put_bare bases [] slot = refl
 put_bare bases (w ∷ ws) slot = bare_put bases w (put_over bases ws slot) ∙ put_bare bases ws slot

@@ -51,14 +51,14 @@ IsReadInTurn old new ops =
     (i : ℕ) → contents_with new (old.next + i) ≡ contents_after (take i ops) (contents_at old old.next)
 
 -- the stage once its writes stand in the chains
-abbrev pub adopted : Option StageView → Option StageView
-adopted None = None
-adopted (Some stage) = Some (record stage { adopted = true })
+abbrev pub adopted_stage : Option StageView → Option StageView
+adopted_stage None = None
+adopted_stage (Some stage) = Some (record stage { adopted = true })
 
 -- the tree as it was before the batch
-abbrev pub undone : TreeView → Option StageView → TreeView
-undone tree None = tree
-undone tree (Some stage) =
+abbrev pub undone_tree : TreeView → Option StageView → TreeView
+undone_tree tree None = tree
+undone_tree tree (Some stage) =
     record tree {
       slots = stage.slots;
       levels = stage.levels;
@@ -68,9 +68,9 @@ undone tree (Some stage) =
     }
 
 -- the tree behind the batch
-abbrev pub accepted : TreeView → Option StageView → TreeView
-accepted tree None = tree
-accepted tree (Some stage) = record tree { next = tree.next + stage.ops; staged = None }
+abbrev pub accepted_tree : TreeView → Option StageView → TreeView
+accepted_tree tree None = tree
+accepted_tree tree (Some stage) = record tree { next = tree.next + stage.ops; staged = None }
 
 -- of the staged writes, those of a page's range, with the writes that the page has
 abbrev pub writes_with : TreeView → ℕ → List WriteView

@@ -1,11 +1,11 @@
 // The life of a batch: staged, adopted, and then accepted or undone.
 ghost use Rattle.std.specs.Prelude.{◌≡◌, ℕ, ◌<◌, ◌≤◌, ◌+◌, ◌^◌, true, None, Some, length, slice_get, IfOk, OnOk, OnErr, MatchOption};
 ghost use Rattle.bw_chain.specs.Slots.{slot_at};
-ghost use Rattle.bw_chain.specs.Turns.{bare};
+ghost use Rattle.bw_chain.specs.Turns.{slot_without_writes};
 ghost use Rattle.bw_delta.specs.Batches.{writes_of};
 ghost use Rattle.bw_tree.specs.View.{contents_at, contents_with, staged_writes};
 ghost use Rattle.bw_tree.specs.Stages.{IsPostedStage, IsReadInTurn, IsStagedAs, LeavesHaveAll};
-ghost use Rattle.bw_tree.specs.Stages.{accepted, adopted, is_adopted, staged_on, undone};
+ghost use Rattle.bw_tree.specs.Stages.{accepted_tree, adopted_stage, is_adopted, staged_on, undone_tree};
 ghost use Rattle.bw_tree.specs.Words.{IsPostedStageOn, put_words};
 
 use super::Tree;
@@ -81,14 +81,15 @@ impl Tree {
     pub fn adopt(&mut self, closed: Closed)
         requires { IsPostedStage self.old self.old.staged closed.heads closed.links }
         ensures contents { (stamp : ℕ) → contents_at self.new stamp ≡ contents_with self.old stamp }
-        ensures pages { (p : ℕ) → bare (slot_at self.new.slots p) ≡ bare (slot_at self.old.slots p) }
+        ensures pages { (p : ℕ) → slot_without_writes (slot_at self.new.slots p)
+            ≡ slot_without_writes (slot_at self.old.slots p) }
         ensures writes { LeavesHaveAll self.old self.new }
         ensures root { self.new.root ≡ self.old.root }
         ensures levels { self.new.levels ≡ self.old.levels }
         ensures heads { self.new.heads ≡ closed.heads }
         ensures records { self.new.records ≡ self.old.records }
         ensures next { self.new.next ≡ self.old.next }
-        ensures staged { self.new.staged ≡ adopted self.old.staged }
+        ensures staged { self.new.staged ≡ adopted_stage self.old.staged }
     {
         let (heads, links, _) = closed.into_parts();
         if let Some(stage) = self.staged.take() {
@@ -107,14 +108,15 @@ impl Tree {
     pub fn adopt_on(&mut self, pages: Vec<PageId, Alloc>, closed: Closed)
         requires { IsPostedStageOn self.old self.old.staged pages.items closed.heads closed.links }
         ensures contents { (stamp : ℕ) → contents_at self.new stamp ≡ contents_with self.old stamp }
-        ensures pages { (p : ℕ) → bare (slot_at self.new.slots p) ≡ bare (slot_at self.old.slots p) }
+        ensures pages { (p : ℕ) → slot_without_writes (slot_at self.new.slots p)
+            ≡ slot_without_writes (slot_at self.old.slots p) }
         ensures writes { LeavesHaveAll self.old self.new }
         ensures root { self.new.root ≡ self.old.root }
         ensures levels { self.new.levels ≡ self.old.levels }
         ensures heads { self.new.heads ≡ put_words self.old.heads pages.entry.items closed.heads }
         ensures records { self.new.records ≡ self.old.records }
         ensures next { self.new.next ≡ self.old.next }
-        ensures staged { self.new.staged ≡ adopted self.old.staged }
+        ensures staged { self.new.staged ≡ adopted_stage self.old.staged }
     {
         let (words, links, _) = closed.into_parts();
         if let Some(stage) = self.staged.take() {
@@ -131,7 +133,7 @@ impl Tree {
     /// Ends the stage of a batch that was adopted: it stays, and the next stamp is the one behind its operations.
     pub fn accept(&mut self)
         requires { is_adopted self.old.staged ≡ true }
-        ensures { self.new ≡ accepted self.old self.old.staged }
+        ensures { self.new ≡ accepted_tree self.old self.old.staged }
     {
         if let Some(stage) = self.staged.take() {
             self.next += stage.ops;
@@ -140,7 +142,7 @@ impl Tree {
 
     /// Ends the stage of a batch, adopted or not: the tree is as before it. It takes no memory.
     pub fn undo(&mut self)
-        ensures { self.new ≡ undone self.old self.old.staged }
+        ensures { self.new ≡ undone_tree self.old self.old.staged }
     {
         if let Some(stage) = self.staged.take() {
             self.chains.truncate(stage.records);
