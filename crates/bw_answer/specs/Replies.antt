@@ -14,6 +14,7 @@ use Rattle.bw_model.specs.declared.operations.Reply.TheVariants.{Absent}
 use Rattle.bw_delta.specs.Writes.{WriteView}
 use Rattle.bw_delta.specs.History.{history, action_at}
 use Rattle.bw_tree.specs.View.{TreeView, contents_at}
+use Rattle.bw_group.specs.Homes.{AreHomes, HomesView}
 use Rattle.bw_group.specs.Points.{Entry, entries_at, entries_of, places_of, HasRisingPlaces, IsEntryOf}
 use Rattle.bw_model.specs.Model.{key_of}
 use Rattle.bw_group.specs.declared.grouping.Point.{Point}
@@ -28,6 +29,7 @@ pub record ReaderView : Type 0 where
   pub tree : TreeView
   pub ops : List Op
   pub base : ℕ
+  pub homes : HomesView
 
 -- the map before the batch
 abbrev pub contents_before : ReaderView → Contents ValueBytes
@@ -40,6 +42,7 @@ replies_to batch = replies_of batch.ops (contents_before batch)
 pub record IsReadInTurn (batch : ReaderView) : Type 0 where
   pub reads : HasContentsInTurn batch.tree batch.base batch.ops
   pub fits : batch.base + length batch.ops ≤ 2 ^ 40
+  pub homes : AreHomes batch.tree batch.ops batch.homes
 
 -- a place with the reply that the batch wants there
 abbrev pub answer_to : ReaderView → ℕ → Answer

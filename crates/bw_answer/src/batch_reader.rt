@@ -16,7 +16,7 @@ ghost use Rattle.bw_model.specs.Model.{IsReplyAt};
 use crate::parts::Part;
 use crate::write_groups::{group_of, writes_by_key};
 use bw_delta::{Reading, Write};
-use bw_group::{Point, group_end, run_from};
+use bw_group::{Homes, Point, group_end};
 use bw_key::Memory;
 use bw_memory::Alloc;
 use bw_model::{Op, Reply, Value};
@@ -32,6 +32,7 @@ pub(crate) struct BatchReader<'a> {
     pub(crate) tree: &'a Tree,
     pub(crate) ops: &'a [Op],
     pub(crate) base: u64,
+    pub(crate) homes: &'a Homes,
 }
 
 impl<'a> Model for BatchReader<'a> {
@@ -39,9 +40,9 @@ impl<'a> Model for BatchReader<'a> {
 
     ghost Value = { ReaderView };
 
-    ghost view = { λ b. record { tree = b.tree.now; ops = b.ops.now; base = b.base } };
+    ghost view = { λ b. record { tree = b.tree.now; ops = b.ops.now; base = b.base; homes = b.homes.now } };
 
-    ghost invariant = { λ b. IsReadInTurn (record { tree = b.tree.now; ops = b.ops.now; base = b.base }) };
+    ghost invariant = { λ b. IsReadInTurn (record { tree = b.tree.now; ops = b.ops.now; base = b.base; homes = b.homes.now }) };
 }
 
 /// The reply to the operation at a place of a batch.
@@ -52,7 +53,8 @@ pub(crate) struct Answer {
 }
 
 impl<'a> BatchReader<'a> {
-    /// The answers to the points and scans of each part, in lists of their own. The parts are shared out among threads.
+    /// The answers to the points and scans of each part, in lists of their own. The parts are shared out among threads; one
+    /// that is alone is answered here.
     pub(crate) fn answer_parts<R: Threads + Sync>(
         &self,
         rt: &R,
@@ -67,6 +69,9 @@ impl<'a> BatchReader<'a> {
         ensures { let places = flat_map (places_in (point_places points.now) scans.now) parts.now in
             IfOk result (λ lists. flat_map (λ list. list.items) lists.items ≡ answers_to self.now places) }
     {
+        if let [part] = parts {
+            return self.answer_alone(alloc, points, scans, *part);
+        }
         parts
             .par_iter()
             .with_min_len(1)
@@ -80,6 +85,25 @@ impl<'a> BatchReader<'a> {
                 { self.answer_part(alloc, points, scans, *part) },
             )
             .collect::<Result<Vec<Vec<Answer, Alloc>, Alloc>, Memory>>(rt, alloc)?
+    }
+
+    // The list of the answers to a part that is alone.
+    fn answer_alone(
+        &self,
+        alloc: Alloc,
+        points: &[Point<'_>],
+        scans: &[usize],
+        part: Part,
+    ) -> Result<Vec<Vec<Answer, Alloc>, Alloc>, Memory>
+        requires points { ArePointsOf self.now.ops (entries_of points.now) }
+        requires scans { AllByRecursion (IsScanOf self.now.ops) scans.now }
+        requires within { IsPartOf (length points.now) (length scans.now) part }
+        ensures { let places = places_in (point_places points.now) scans.now part in
+            IfOk result (λ lists. flat_map (λ list. list.items) lists.items ≡ answers_to self.now places) }
+    {
+        let mut lists = Vec::new(alloc);
+        lists.push(self.answer_part(alloc, points, scans, part)?)?;
+        Ok(lists)
     }
 
     // The answers to the points and the scans of a part.
@@ -116,7 +140,7 @@ impl<'a> BatchReader<'a> {
     {
         let mut start = 0;
         while start < points.len() {
-            let (page, end) = run_from(self.tree, points, start);
+            let (page, end) = self.homes.run_from(points, start);
             self.answer_run(alloc, page, &points[start..end], answers)?;
             start = end;
         }

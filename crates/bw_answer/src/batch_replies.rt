@@ -3,11 +3,12 @@ ghost use Rattle.std.specs.Prelude.{◌≡◌, ◌+◌, ◌<◌, ◌≤◌, ◌^
 ghost use Rattle.std.specs.List.{AllByRecursion};
 ghost use Rattle.bw_model.specs.Model.{replies_of};
 ghost use Rattle.bw_tree.specs.View.{contents_at};
+ghost use Rattle.bw_group.specs.Homes.{AreHomes};
 ghost use Rattle.bw_answer.specs.Replies.{HasContentsInTurn, with_answers};
 
 use crate::batch_reader::{Answer, BatchReader};
 use crate::parts::{count_parts, parts};
-use bw_group::Grouping;
+use bw_group::{Grouping, Homes};
 use bw_key::Memory;
 use bw_memory::Alloc;
 use bw_model::{Replies, Reply};
@@ -21,8 +22,8 @@ use std::thread::Threads;
 /// are cut into at most `workers` parts alike in length, and so are the scans; the parts are answered side by side. A
 /// batch of under 2,048 operations on keys and under 128 scans is one part, and starts no thread.
 ///
-/// In a part each leaf that has a key of it is searched for once. The writes over it are sorted by key, and each key's
-/// are then passed once, beside the operations on the key. So the cost doesn't depend on how many of them are on one
+/// `homes` are the pages of the batch's keys, so that no leaf is searched for again. In a part the writes over each leaf
+/// that has a key of it are sorted by key, and each key's are then passed once, beside the operations on the key. So the cost doesn't depend on how many of them are on one
 /// key. The scans of a part are read one after another, a leaf with writes in an ordered map that is made once
 /// (`Scans`). A leaf that lies in several parts has its writes sorted, or its map made, in each. `Memory` is answered
 /// where a list, a map or a reply finds none, in any part.
@@ -32,14 +33,16 @@ pub fn replies<R: Threads + Sync>(
     tree: &Tree,
     base: u64,
     batch: &Grouping<'_>,
+    homes: &Homes,
     workers: u64,
 ) -> Result<Replies, Memory>
+    requires homes { AreHomes tree.now batch.now.ops homes.now }
     requires reads { HasContentsInTurn tree.now base batch.now.ops }
     requires fits { base + length batch.now.ops ≤ 2 ^ 40 }
     ensures { IfOk result (λ replies. replies ≡ replies_of batch.now.ops (contents_at tree.now base)) }
 {
     let count = count_parts(batch.points().len(), batch.scans().len(), workers);
-    replies_in_parts(rt, alloc, tree, base, batch, count)
+    replies_in_parts(rt, alloc, tree, base, batch, homes, count)
 }
 
 /// The replies to a batch, as `replies` gives them, where it is cut into at most so many parts, however few its
@@ -50,8 +53,10 @@ pub fn replies_in_parts<R: Threads + Sync>(
     tree: &Tree,
     base: u64,
     batch: &Grouping<'_>,
+    homes: &Homes,
     count: usize,
 ) -> Result<Replies, Memory>
+    requires homes { AreHomes tree.now batch.now.ops homes.now }
     requires reads { HasContentsInTurn tree.now base batch.now.ops }
     requires fits { base + length batch.now.ops ≤ 2 ^ 40 }
     requires count { 0 < count }
@@ -61,6 +66,7 @@ pub fn replies_in_parts<R: Threads + Sync>(
         tree,
         ops: batch.ops(),
         base,
+        homes,
     };
     let (points, scans) = (batch.points(), batch.scans());
     let parts = parts(alloc, points.len(), scans.len(), count)?;

@@ -89,8 +89,14 @@ fn answer_staged<R: Threads + Sync, G: Gate>(
     ensures undone { undone_tree tree.new tree.new.staged ≡ undone_tree tree.old tree.old.staged }
 {
     let (piece, workers) = (options.piece(), options.workers());
-    let Posting { closed, lost } = post_all(rt, alloc, tree, batch, piece, workers, gate)?;
-    tree.adopt(closed);
-    let replies = replies(rt, alloc, tree, tree.next_stamp(), batch, workers)?;
+    let Posting {
+        homes,
+        pages,
+        closed,
+        lost,
+    } = post_all(rt, alloc, tree, batch, piece, workers, gate)?;
+    tree.adopt_on(pages, closed);
+    let base = tree.next_stamp();
+    let replies = replies(rt, alloc, tree, base, batch, &homes, workers)?;
     Ok(Answered { replies, lost })
 }

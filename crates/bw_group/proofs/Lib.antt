@@ -4,4 +4,7 @@ pub mod Groups
 pub mod PrefixLemmas
 pub mod Wholes
 pub mod RunLemmas
+pub mod PassedPages
 mod HomeLemmas
+pub mod HomeReads
+pub mod SameHomes

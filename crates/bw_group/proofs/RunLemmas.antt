@@ -13,32 +13,30 @@ use Rattle.bw_tree.specs.Scans.{high_of}
 use Rattle.bw_tree.specs.Slots.{Slot, slot_at}
 use Rattle.bw_group.specs.Points.{Entry, entries_of}
 use Rattle.bw_group.specs.declared.grouping.Point.{Point}
-use Rattle.bw_group.proofs.Entries.{part_holds}
+use Rattle.bw_group.proofs.Entries.{part_holds, seen_length}
 use Rattle.bw_group.proofs.Groups.{ranks}
 use Rattle.bw_group.proofs.Lists.{all_append, in_rest, part_more, seen_rest}
-
--- points below an end
-abbrev pub AreBelow : Option KeyBytes → List Point → Type 0
-AreBelow end ps = AllByRecursion (λ e. T (is_below_end end e.0)) (entries_of ps)
 
 -- what a test told that didn't end the run
 pub is_under : (b c : Bool) → b ≡ c → b ≡ true → T c
 is_under b c e f = subst T (sym f ∙ e) tt
 
--- one point more that is below it
-pub below_more : (end : Option KeyBytes) (ps : List Point) (n m : ℕ) (p : Point) → n ≤ m → m < length ps → p ≡ get_or ps m p → T (is_below_end end p.key.now) →
-    AreBelow end (take (m - n) (drop n ps)) → AreBelow end (take (m + 1 - n) (drop n ps))
-below_more end ps n m p le lt is below so =
-    let part = take (m - n) (drop n ps) in
-    subst (AreBelow end) (sym (part_more ps n m p le lt is))
-    (subst (AllByRecursion (λ e. T (is_below_end end e.0))) (sym (map-append (λ (q : Point). (q.key.now, q.place)) part (p ∷ [])))
-    (all_append (λ e. T (is_below_end end e.0)) (entries_of part) ((p.key.now, p.place) ∷ []) so (below, tt)))
+module _ (P : Entry → Type 0) where
+  -- a run of points with one more
+  pub run_more : (ps : List Point) (n m : ℕ) (p : Point) → n ≤ m → m < length ps → p ≡ get_or ps m p → P (p.key.now, p.place) →
+      AllByRecursion P (entries_of (take (m - n) (drop n ps))) → AllByRecursion P (entries_of (take (m + 1 - n) (drop n ps)))
+  run_more ps n m p le lt is here so =
+      let part = take (m - n) (drop n ps) in
+      subst (λ (l : List Point). AllByRecursion P (entries_of l)) (sym (part_more ps n m p le lt is))
+      (subst (AllByRecursion P) (sym (map-append (λ (q : Point). (q.key.now, q.place)) part (p ∷ [])))
+      (all_append P (entries_of part) ((p.key.now, p.place) ∷ []) so (here, tt)))
 
-pub below_one : (end : Option KeyBytes) (ps : List Point) (n : ℕ) (d : Point) → n < length ps → T (is_below_end end (get_or ps n d).key.now) → AreBelow end (take (n + 1 - n) (drop n ps))
-below_one end ps n d lt below =
-    let p = get_or ps n d in
-    let none : n - n ≡ 0 = omega arith in
-    below_more end ps n n p (omega arith) lt (get_or_default ps n d p lt) below (subst (λ k. AreBelow end (take k (drop n ps))) (sym none) tt)
+  -- and with its first alone
+  pub run_one : (ps : List Point) (n : ℕ) (d : Point) → n < length ps → P ((get_or ps n d).key.now, (get_or ps n d).place) → AllByRecursion P (entries_of (take (n + 1 - n) (drop n ps)))
+  run_one ps n d lt here =
+      let p = get_or ps n d in
+      let none : n - n ≡ 0 = omega arith in
+      run_more ps n n p (omega arith) lt (get_or_default ps n d p lt) here (subst (λ k. AllByRecursion P (entries_of (take k (drop n ps)))) (sym none) tt)
 
 -- what holds of each element holds of all
 all_from_each : {X : Type 0} (P : X → Type 0) (xs : List X) → ((i : ℕ) (d : X) → i < length xs → P (get_or xs i d)) → AllByRecursion P xs
@@ -66,10 +64,20 @@ part_above ps n k d sorted lt =
     ap (λ (x : Entry). is_lt (key_cmp x.0 key)) (in_rest es n i e)
     ∙ sym (ap (λ (x : Entry). is_lt (key_cmp (get_or es (n + i) e).0 x.0)) first) ∙ far)))
 
-not_holds : (b : Bool) → b ≡ false → T (not b)
+-- a later point has no smaller key
+pub later_above : (ps : List Point) (n m : ℕ) (d : Point) → AreSorted ps → n ≤ m → m < length ps → is_lt (key_cmp (get_or ps m d).key.now (get_or ps n d).key.now) ≡ false
+later_above ps n m d sorted le lt =
+    let es = entries_of ps in
+    let e : Entry = (d.key.now, d.place) in
+    let seen : Point → Entry = λ p. (p.key.now, p.place) in
+    let far = sorted_far (λ (a b : Entry). is_lt (key_cmp a.0 b.0)) (ranks (λ (x : Entry). x.0)) es sorted n m e le (omega (arith, lt, seen_length ps)) in
+    sym (ap (λ (x : Entry). is_lt (key_cmp x.0 (get_or ps n d).key.now)) (get_or-map seen ps m d e lt))
+    ∙ sym (ap (λ (x : Entry). is_lt (key_cmp (get_or es m e).0 x.0)) (get_or-map seen ps n d e (omega (arith, le, lt)))) ∙ far
+
+pub not_holds : (b : Bool) → b ≡ false → T (not b)
 not_holds b e = subst (λ a. T (not a)) (sym e) tt
 
-holds_not : (b : Bool) → T (not b) → b ≡ false
+pub holds_not : (b : Bool) → T (not b) → b ≡ false
 holds_not true h = absurd h
 holds_not false h = refl
 

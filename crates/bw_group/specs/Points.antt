@@ -43,6 +43,10 @@ entries_in points start end = entries_of (take (end - start) (drop start points)
 abbrev pub key_at : List Point → ℕ → Point → KeyBytes
 key_at points place d = (slice_index_or points place d).key.now
 
+-- and its place in the batch
+abbrev pub place_at : List Point → ℕ → Point → ℕ
+place_at points place d = (slice_index_or points place d).place
+
 -- the places of entries
 abbrev pub places_of : List Entry → List ℕ
 places_of = map (λ e. e.1)

@@ -1,5 +1,5 @@
 // The homes of a batch, and the runs of points that are at home on one page.
-ghost use Rattle.std.specs.Prelude.{◌≡◌, ◌<◌, ◌≤◌, false, T, length, IfOk};
+ghost use Rattle.std.specs.Prelude.{◌≡◌, ◌≢◌, ◌<◌, ◌≤◌, false, Some, T, length, slice_get, IfOk};
 ghost use Rattle.std.specs.List.{AllByRecursion, Contains};
 ghost use Rattle.std.specs.List.Sorted.{IsSortedBy};
 ghost use Rattle.std.specs.Option.{option_copied};
@@ -9,8 +9,8 @@ ghost use Rattle.bw_model.specs.Contents.{is_below_end};
 ghost use Rattle.bw_tree.specs.Levels.{IsOneHome, row};
 ghost use Rattle.bw_tree.specs.Slots.{slot_at};
 ghost use Rattle.bw_tree.specs.Scans.{high_of};
-ghost use Rattle.bw_group.specs.Points.{entries_in, entries_of, key_at};
-ghost use Rattle.bw_group.specs.Homes.{AreHomes, with_page};
+ghost use Rattle.bw_group.specs.Points.{entries_in, entries_of, key_at, place_at};
+ghost use Rattle.bw_group.specs.Homes.{AreHomes, HasPageAt, IsPageAt, number_of, with_number};
 ghost use Rattle.bw_group.specs.declared.grouping.Point.{Point};
 
 use crate::grouping::{Grouping, Point};
@@ -18,54 +18,126 @@ use bw_key::{Key, Memory};
 use bw_memory::Alloc;
 use bw_model::is_below;
 use bw_tree::{PageId, Tree};
+use std::marker::Model;
 
-/// Finds the page of each operation's key, by the operation's place in the batch: the tree's `route`. The page of an
-/// operation that has no key means nothing.
+/// The homes of a batch: the pages of its keys, in the order of the keys and none twice, and for each operation that has a
+/// key the number of its page among them. So whoever works on the pages of a batch has lists as long as the batch, and none
+/// as long as the index.
+#[derive(Drop)]
+pub struct Homes {
+    pages: Vec<PageId, Alloc>,
+    numbers: Vec<usize, Alloc>,
+}
+
+impl Model for Homes {
+    ghost use Rattle.bw_group.specs.Homes.{HomesView};
+
+    ghost Value = { HomesView };
+
+    ghost view = { λ h. record { pages = h.pages.items; numbers = h.numbers.items } };
+}
+
+impl Homes {
+    /// The pages, in the order of their keys.
+    pub fn pages(&self) -> &[PageId]
+        ensures { result.now ≡ self.now.pages }
+    {
+        &self.pages
+    }
+
+    /// The number of the page of an operation's key, by the operation's place in the batch. It means nothing where the
+    /// operation has no key.
+    pub fn number_at(&self, place: usize) -> usize
+        requires { place < length self.now.numbers }
+        ensures { slice_get self.now.numbers place ≡ Some result }
+    {
+        self.numbers[place]
+    }
+
+    /// The run of points that begins at `start`: their page, and where the run ends: at the first point behind it with
+    /// another number. It compares no keys.
+    pub fn run_from(&self, points: &[Point<'_>], start: usize) -> (PageId, usize)
+        requires start { start < length points.now }
+        requires pages { AllByRecursion (λ e. HasPageAt self.now e.1) (entries_of points.now) }
+        ensures more { start < result.1 }
+        ensures bound { result.1 ≤ length points.now }
+        ensures page { let run = entries_in points.now start result.1 in
+            AllByRecursion (λ e. IsPageAt self.now result.0 e.1) run }
+        ensures whole { result.1 < length points.now → (d : Point) →
+            number_of self.now (place_at points.now result.1 d) ≢ number_of self.now (place_at points.now start d) }
+    {
+        let number = self.numbers[points[start].place];
+        (
+            self.pages[number],
+            self.run_end(points, start, number),
+        )
+    }
+
+    // Where the run of points with a number stops that begins at `start`.
+    fn run_end(&self, points: &[Point<'_>], start: usize, number: usize) -> usize
+        requires start { start < length points.now }
+        requires places { AllByRecursion (λ e. e.1 < length self.now.numbers) (entries_of points.now) }
+        requires first { (d : Point) → number_of self.now (place_at points.now start d) ≡ number }
+        ensures more { start < result }
+        ensures bound { result ≤ length points.now }
+        ensures same { let run = entries_in points.now start result in
+            AllByRecursion (λ e. number_of self.now e.1 ≡ number) run }
+        ensures whole { result < length points.now → (d : Point) →
+            number_of self.now (place_at points.now result d) ≢ number }
+    {
+        for end in start + 1..points.len() {
+            if self.numbers[points[end].place] != number {
+                return end;
+            }
+        }
+        points.len()
+    }
+}
+
+/// Finds the page of each operation's key: the tree's `route`.
 ///
-/// It searches for each leaf once that has a key of the batch, in the order of the keys. `Memory` is answered where
-/// the list finds none.
-pub fn find_homes(
-    alloc: Alloc,
-    tree: &Tree,
-    batch: &Grouping<'_>,
-) -> Result<Vec<PageId, Alloc>, Memory>
-    ensures { IfOk result (λ homes. AreHomes tree.now batch.now.ops homes.items) }
+/// It searches for each leaf once that has a key of the batch, in the order of the keys. `Memory` is answered where a
+/// list finds none.
+pub fn find_homes(alloc: Alloc, tree: &Tree, batch: &Grouping<'_>) -> Result<Homes, Memory>
+    ensures { IfOk result (AreHomes tree.now batch.now.ops) }
 {
-    let mut homes = no_homes(alloc, batch.ops.len())?;
+    let mut pages = Vec::new(alloc);
+    let mut numbers = no_numbers(alloc, batch.ops.len())?;
     let points = &batch.points;
     let mut start = 0;
     while start < points.len() {
-        let (page, end) = run_from(tree, points, start);
-        set_homes(&mut homes, &points[start..end], page);
+        let (page, end) = find_run(tree, points, start);
+        set_numbers(&mut numbers, &points[start..end], pages.len());
+        pages.push(page)?;
         start = end;
     }
-    Ok(homes)
+    Ok(Homes { pages, numbers })
 }
 
-// Page 0 for each of so many operations, until its home is set.
-fn no_homes(alloc: Alloc, len: usize) -> Result<Vec<PageId, Alloc>, Memory>
-    ensures { IfOk result (λ homes. length homes.items ≡ len) }
+// Number 0 for each of so many operations, until its page is found.
+fn no_numbers(alloc: Alloc, len: usize) -> Result<Vec<usize, Alloc>, Memory>
+    ensures { IfOk result (λ numbers. length numbers.items ≡ len) }
 {
-    let mut homes = Vec::with_capacity(alloc, len)?;
+    let mut numbers = Vec::with_capacity(alloc, len)?;
     for _ in 0..len {
-        homes.push(PageId(0))?;
+        numbers.push(0)?;
     }
-    Ok(homes)
+    Ok(numbers)
 }
 
-// Lists a page as the home of each of the points.
-fn set_homes(homes: &mut [PageId], points: &[Point<'_>], page: PageId)
-    requires { AllByRecursion (λ e. e.1 < length homes.old) (entries_of points.now) }
-    ensures { homes.new ≡ with_page homes.old (entries_of points.now) page }
+// Lists a page's number for each of the points.
+fn set_numbers(numbers: &mut [usize], points: &[Point<'_>], number: usize)
+    requires { AllByRecursion (λ e. e.1 < length numbers.old) (entries_of points.now) }
+    ensures { numbers.new ≡ with_number numbers.old (entries_of points.now) number }
 {
     for point in points {
-        homes[point.place] = page;
+        numbers[point.place] = number;
     }
 }
 
-/// The run of points that begins at `start`: their page, on which they all are at home, and where the run ends. It
-/// costs a search for the page, and for each point of the run a comparison of its key with the page's end.
-pub fn run_from(tree: &Tree, points: &[Point<'_>], start: usize) -> (PageId, usize)
+// The run of points that begins at `start`: their page, on which they all are at home, and where the run ends. It costs a
+// search for the page, and for each point of the run a comparison of its key with the page's end.
+fn find_run(tree: &Tree, points: &[Point<'_>], start: usize) -> (PageId, usize)
     requires start { start < length points.now }
     requires sorted { IsSortedBy (λ d e. is_lt (key_cmp d.0 e.0)) (entries_of points.now) }
     ensures there { result.0 < length tree.now.heads }

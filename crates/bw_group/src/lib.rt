@@ -9,7 +9,7 @@ mod homes;
 mod prefixes;
 
 pub use grouping::{Grouping, Point, group_end};
-pub use homes::{find_homes, run_from};
+pub use homes::{Homes, find_homes};
 
 /// Out of memory.
 pub use bw_key::Memory;

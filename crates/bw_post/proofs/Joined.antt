@@ -19,26 +19,26 @@ use Rattle.bw_post.proofs.Homes.{none_home, same_home}
 use Rattle.bw_post.proofs.Lost.{lost_both, lost_few}
 
 -- a worker who didn't claim yet has posted all that it claimed
-pub fresh_worked : (tree : TreeView) (board : BoardView) (w : Worker) → HasClaimedNothing board w → HasWorked tree board w
-fresh_worked tree board w so = record {
+pub fresh_worked : (tree : TreeView) (pages : List ℕ) (board : BoardView) (w : Worker) → HasClaimedNothing board w → HasWorked tree pages board w
+fresh_worked tree pages board w so = record {
   board_is = so.board_is;
   posted = λ r. ap (λ (ss : List Span). total (λ s. one_if (leb s.from r && ltb r s.to)) ss) so.owned ∙ sym (ap (posts_in r) so.posted);
-  homes = none_home tree w.seat so.posted;
+  homes = none_home tree pages w.seat so.posted;
   lost = so.lost ∙ sym (ap lost_in so.posted);
 }
 
 -- a worker who is told that no record is left
-pub told_worked : (tree : TreeView) (board : BoardView) (w : Worker) (v : SeatView) → v ≡ record w.seat { book = book_without_pieces w.seat.book } → HasWorked tree board w → HasWorked tree board (record w { seat = v })
-told_worked tree board w v told so = record {
+pub told_worked : (tree : TreeView) (pages : List ℕ) (board : BoardView) (w : Worker) (v : SeatView) → v ≡ record w.seat { book = book_without_pieces w.seat.book } → HasWorked tree pages board w → HasWorked tree pages board (record w { seat = v })
+told_worked tree pages board w v told so = record {
   board_is = ap (λ (z : SeatView). z.board) told ∙ so.board_is;
   posted = λ r. ap (λ (z : SeatView). owns r z.book) told ∙ so.posted r ∙ sym (ap (λ (z : SeatView). posts_in r z.book.posted) told);
-  homes = same_home tree w.seat v (ap (λ (z : SeatView). z.book.posted) told) so.homes;
+  homes = same_home tree pages w.seat v (ap (λ (z : SeatView). z.book.posted) told) so.homes;
   lost = so.lost ∙ sym (ap (λ (z : SeatView). lost_in z.book.posted) told);
 }
 
 -- what two workers did, in one
-pub worked_both : (tree : TreeView) (board : BoardView) (a b w : Worker) → IsBoardOf tree board → HasWorked tree board a → HasWorked tree board b → w.seat ≡ record a.seat { book = book_after_join board.first a.seat.book b.seat.book } → w.lost ≡ a.lost + b.lost → HasWorked tree board w
-worked_both tree board a b w over first second both lost = record {
+pub worked_both : (tree : TreeView) (pages : List ℕ) (board : BoardView) (a b w : Worker) → HasWorked tree pages board a → HasWorked tree pages board b → w.seat ≡ record a.seat { book = book_after_join board.first a.seat.book b.seat.book } → w.lost ≡ a.lost + b.lost → HasWorked tree pages board w
+worked_both tree pages board a b w first second both lost = record {
   board_is = ap (λ (v : SeatView). v.board) both ∙ first.board_is;
   posted = λ r. (
       let owned : owns r w.seat.book ≡ owns r a.seat.book + owns r b.seat.book = ap (λ (v : SeatView). owns r v.book) both ∙ total-append (λ (s : Span). one_if (leb s.from r && ltb r s.to)) a.seat.book.owned b.seat.book.owned in
@@ -49,7 +49,7 @@ worked_both tree board a b w over first second both lost = record {
   homes = λ p r some. (
       let all : posts_at p r w.seat.book.posted ≡ posts_at p r a.seat.book.posted + posts_at p r b.seat.book.posted =
       ap (λ (v : SeatView). posts_at p r v.book.posted) both ∙ total-append (λ (x : Post). one_if (eqb x.page p && eqb x.rec r)) a.seat.book.posted b.seat.book.posted in
-      elim (cases_lt 0 (posts_at p r a.seat.book.posted)) as (λ c. IsHomeOfRecord tree r p) [
+      elim (cases_lt 0 (posts_at p r a.seat.book.posted)) as (λ c. IsHomeOfRecord tree pages r p) [
         | inl here ↦ first.homes p r here
         | inr none ↦ second.homes p r (omega (arith, all, some, none))
       ]
@@ -58,8 +58,8 @@ worked_both tree board a b w over first second both lost = record {
 }
 
 -- and what they lost together fits
-pub lost_together : (tree : TreeView) (board : BoardView) (a b : Worker) (v : SeatView) → IsBoardOf tree board → HasWorked tree board a → HasWorked tree board b → v ≡ record a.seat { book = book_after_join board.first a.seat.book b.seat.book } → IsSound v → a.lost + b.lost < 18446744073709551616
-lost_together tree board a b v over first second both sound =
+pub lost_together : (tree : TreeView) (pages : List ℕ) (board : BoardView) (a b : Worker) (v : SeatView) → IsBoardOf tree pages board → HasWorked tree pages board a → HasWorked tree pages board b → v ≡ record a.seat { book = book_after_join board.first a.seat.book b.seat.book } → IsSound v → a.lost + b.lost < 18446744073709551616
+lost_together tree pages board a b v over first second both sound =
     let few = lost_few v board (ap (λ (z : SeatView). z.board) both ∙ first.board_is) over.few over.spareless sound in
     let sum : lost_in v.book.posted ≡ lost_in a.seat.book.posted + lost_in b.seat.book.posted = ap (λ (z : SeatView). lost_in z.book.posted) both ∙ lost_both a.seat.book.posted b.seat.book.posted in
     omega (arith, few.1, sum, first.lost, second.lost)
@@ -120,8 +120,8 @@ module _ (board : BoardView) (ws rest : List Worker) (w : Worker) (parts : ws �
       omega (arith, b, ap (λ (v : SeatView). v.book.width) same, ap (total width_of) parts)
 
 -- one more worker's seat joined
-pub all_joined : (tree : TreeView) (board : BoardView) (ws rest : List Worker) (w : Worker) → ws ≡ w ∷ rest → AllByRecursion (HasFinished tree board) ws → HasFinished tree board w × AllByRecursion (HasFinished tree board) rest
-all_joined tree board ws rest w parts all = subst (AllByRecursion (HasFinished tree board)) parts all
+pub all_joined : (tree : TreeView) (pages : List ℕ) (board : BoardView) (ws rest : List Worker) (w : Worker) → ws ≡ w ∷ rest → AllByRecursion (HasFinished tree pages board) ws → HasFinished tree pages board w × AllByRecursion (HasFinished tree pages board) rest
+all_joined tree pages board ws rest w parts all = subst (AllByRecursion (HasFinished tree pages board)) parts all
 
 -- the last of some workers, and the others
 pub last_popped : {X : Type 0} (P : X → Type 0) (ws rest : List X) (o : Option X) (w : X) → ws ≡ rest ++ option_to_list o → o ≡ Some w → AllByRecursion P ws → AllByRecursion P rest × P w

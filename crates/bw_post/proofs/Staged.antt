@@ -1,7 +1,7 @@
 -- The place of a staged write's operation, and its home.
-use Rattle.std.proofs.Common.{◌≡◌, ℕ, zero, suc, ◌+◌, ◌-◌, ◌<◌, ◌≤◌, List, [], ◌∷◌, ◌++◌, length, get_or, Option, Some, None, refl, sym, ap, ◌∙◌, subst, arith}
+use Rattle.std.proofs.Common.{◌≡◌, ℕ, zero, suc, ◌+◌, ◌-◌, ◌<◌, ◌≤◌, List, [], ◌∷◌, ◌++◌, length, Option, Some, None, refl, sym, ap, ◌∙◌, subst, arith}
 use Rattle.std.specs.Prelude.{slice_get}
-use Rattle.std.proofs.lemmas.Option.{get_or_from_slice_get, slice_get_within}
+use Rattle.std.proofs.lemmas.Option.{slice_get_within}
 use Rattle.std.specs.Option.{option_map}
 use Rattle.bw_key.specs.Order.{KeyBytes}
 use Rattle.bw_model.specs.declared.operations.Action.{Action}
@@ -10,7 +10,7 @@ use Rattle.bw_model.specs.declared.operations.Op.TheVariants.{Get, Insert, Upser
 use Rattle.bw_delta.specs.Batches.{stamped, write_of, writes_of}
 use Rattle.bw_delta.specs.Writes.{WriteView}
 use Rattle.bw_tree.specs.View.{TreeView, StageView, staged_writes}
-use Rattle.bw_group.specs.Homes.{AreHomes, HasHome}
+use Rattle.bw_group.specs.Homes.{AreHomes, HasHome, HomesView, IsHomeNumber}
 use Rattle.bw_model.specs.Model.{key_of}
 use Rattle.bw_post.specs.Posting.{AreStagedHomes, IsWaiting}
 
@@ -63,20 +63,24 @@ placed (op ∷ ops) base r w at = by (write_of op) refl r (λ n at. placed ops (
           key = ap Some (key_written op write is ∙ ap (λ (v : WriteView). Some v.key) same);
         }
 
--- so the pages of the operations' keys have those of the staged writes
-pub staged_homes : (tree : TreeView) (ops : List Op) (pages : List ℕ) → IsWaiting tree tree.staged ops → AreHomes tree ops pages → AreStagedHomes tree pages
-staged_homes tree ops pages waiting are r w at = by tree.staged waiting at
+-- so the homes of the operations' keys are those of the staged writes
+pub staged_homes : (tree : TreeView) (ops : List Op) (homes : HomesView) → IsWaiting tree tree.staged ops → AreHomes tree ops homes → AreStagedHomes tree homes
+staged_homes tree ops homes waiting are r w at = by tree.staged waiting at
   where
-    by : (o : Option StageView) → IsWaiting tree o ops → slice_get (staged_writes o) r ≡ Some w → (tree.next ≤ w.stamp) × HasHome tree pages (w.stamp - tree.next) w.key
+    by : (o : Option StageView) → IsWaiting tree o ops → slice_get (staged_writes o) r ≡ Some w → (tree.next ≤ w.stamp) × HasHome tree homes (w.stamp - tree.next) w.key
     by None none at = absurd none
     by (Some stage) is at =
         let p = placed ops tree.next r w (ap (λ (l : List WriteView). slice_get l r) (sym is.1) ∙ at) in
         let less : p.place ≡ w.stamp - tree.next = omega (arith, p.stamp) in
-        (omega (arith, p.stamp), subst (λ n. HasHome tree pages n w.key) less (are.each p.place w.key p.key))
+        (omega (arith, p.stamp), subst (λ n. HasHome tree homes n w.key) less (are.each p.place w.key p.key))
 
--- the place of a write has a page
-pub home_within : (tree : TreeView) (pages : List ℕ) (place : ℕ) (key : KeyBytes) → HasHome tree pages place key → place < length pages
-home_within tree pages place key h = slice_get_within pages place h.page h.at
+-- the place of a write has a number
+pub number_within : (tree : TreeView) (homes : HomesView) (place : ℕ) (key : KeyBytes) → HasHome tree homes place key → place < length homes.numbers
+number_within tree homes place key h = slice_get_within homes.numbers place h.number h.at
 
-pub home_read : (tree : TreeView) (pages : List ℕ) (place : ℕ) (key : KeyBytes) (i d : ℕ) → (h : HasHome tree pages place key) → i ≡ place → get_or pages i d ≡ h.page
-home_read tree pages place key i d h is = ap (λ n. get_or pages n d) is ∙ get_or_from_slice_get pages place h.page d h.at
+-- that of the key's home
+pub home_read : (tree : TreeView) (homes : HomesView) (place number : ℕ) (key : KeyBytes) → HasHome tree homes place key → slice_get homes.numbers place ≡ Some number → IsHomeNumber tree homes.pages key number
+home_read tree homes place number key h at = subst (IsHomeNumber tree homes.pages key) (one_number (sym h.at ∙ at)) h.home
+  where
+    one_number : {m n : ℕ} → Some m ≡ Some n → m ≡ n
+    one_number e = cc

@@ -1,33 +1,42 @@
 // Posting the records of a staged batch to the pages of their keys.
-ghost use Rattle.std.specs.Prelude.{◌≡◌, ◌<◌, ◌≤◌, None, length, replicate, IfOk};
+ghost use Rattle.std.specs.Prelude.{◌≡◌, ◌<◌, ◌≤◌, [], length, IfOk};
+ghost use Rattle.std.specs.List.{AllByRecursion};
 ghost use Rattle.bw_core.specs.Keeping.{pairs_of};
-ghost use Rattle.bw_tree.specs.Stages.{IsPostedStage};
 ghost use Rattle.bw_tree.specs.View.{staged_writes};
+ghost use Rattle.bw_tree.specs.Words.{IsPostedStageOn, words_of};
+ghost use Rattle.bw_group.specs.Homes.{AreHomes};
 ghost use Rattle.bw_post.specs.Posting.{IsWaiting};
 
 use crate::gates::Gate;
 use crate::workers::{join_workers, post_side_by_side, seat_workers};
 use bw_board::{Board, Closed};
-use bw_group::{Grouping, find_homes};
+use bw_group::{Grouping, Homes, find_homes};
 use bw_key::Memory;
 use bw_memory::Alloc;
+use bw_page::PageId;
 use bw_tree::Tree;
 use std::thread::Threads;
 
-/// The words that posting leaves, and how many exchanges it lost.
+/// What posting leaves.
 #[derive(Drop)]
 pub struct Posting {
+    /// The pages of the batch's keys.
+    pub homes: Homes,
+    /// Those over whose words the records were posted: all of them, or none where the batch has no write.
+    pub pages: Vec<PageId, Alloc>,
+    /// Their words, in their order, and the links of the records.
     pub closed: Closed,
+    /// How many exchanges the workers lost to one another.
     pub lost: u64,
 }
 
-/// Posts each record of the staged batch to the page of its key, over a board of the tree's mapping words. So many
-/// workers, and no more than there are pieces, claim pieces of so many records side by side, each in a thread of its own
-/// where one can be made. `gate` is called round the posting of each record.
+/// Posts each record of the staged batch to the page of its key, over a board of the mapping words of the batch's pages. So
+/// many workers, and no more than there are pieces, claim pieces of so many records side by side, each in a thread of its
+/// own where one can be made. `gate` is called round the posting of each record.
 ///
 /// The batch is staged and not adopted. It costs a search for each leaf that has a key of the batch, an exchange for each
-/// record and for each that is lost, and a copy of the mapping words. After `Memory` the tree is as before, with the
-/// batch still staged.
+/// record and for each that is lost, and some copies of the words of these leaves: nothing that grows with the index but the
+/// depth of a search. After `Memory` the tree is as before, with the batch still staged.
 pub fn post_all<R: Threads + Sync, G: Gate>(
     rt: &R,
     alloc: Alloc,
@@ -39,28 +48,53 @@ pub fn post_all<R: Threads + Sync, G: Gate>(
 ) -> Result<Posting, Memory>
     requires waiting { IsWaiting tree.now tree.now.staged batch.now.ops }
     requires piece { (0 < piece) × (piece ≤ 4096) }
-    ensures posted { IfOk result (λ posting.
-        IsPostedStage tree.now tree.now.staged posting.closed.heads posting.closed.links) }
+    ensures homes { IfOk result (λ posting. AreHomes tree.now batch.now.ops posting.homes) }
+    ensures posted { IfOk result (λ posting. IsPostedStageOn tree.now tree.now.staged posting.pages.items
+        posting.closed.heads posting.closed.links) }
     ensures lost { IfOk result (λ posting. posting.lost ≤ pairs_of (length (staged_writes tree.now.staged))) }
 {
     let staged = tree.staged().unwrap();
-    let pages = find_homes(alloc, tree, batch)?;
-    let heads = tree.heads();
-    let spares = no_spares(alloc, heads.len())?;
-    let (board, seat) = Board::open(alloc, heads, staged.floor, staged.records, piece, &spares)?;
+    let homes = find_homes(alloc, tree, batch)?;
+    let pages = written_pages(alloc, &homes, staged.records)?;
+    let heads = heads_of(alloc, tree, &pages)?;
+    let (board, seat) = Board::open(alloc, &heads, staged.floor, staged.records, piece, &[])?;
     let pieces = staged.records.div_ceil(piece);
     let mut crew = seat_workers(alloc, &board, seat, workers.min(pieces) as usize)?;
-    post_side_by_side(rt, tree, &pages, &board, gate, &mut crew);
-    let whole = join_workers(tree, &board, crew);
+    post_side_by_side(rt, tree, &homes, &board, gate, &mut crew);
+    let whole = join_workers(tree, &homes, &board, crew);
+    let closed = board.close(whole.seat)?;
     Ok(Posting {
-        closed: board.close(whole.seat)?,
+        homes,
+        pages,
+        closed,
         lost: whole.lost,
     })
 }
 
-// No spare for so many pages.
-fn no_spares(alloc: Alloc, pages: usize) -> Result<Vec<Option<u64>, Alloc>, Memory>
-    ensures { IfOk result (λ spares. spares.items ≡ replicate pages None) }
+// The pages to which so many records are posted: a batch of reads posts to none.
+fn written_pages(
+    alloc: Alloc,
+    homes: &Homes,
+    records: u64,
+) -> Result<Vec<PageId, Alloc>, Memory>
+    ensures some { 0 < records → IfOk result (λ pages. pages.items ≡ homes.now.pages) }
+    ensures none { records ≡ 0 → IfOk result (λ pages. pages.items ≡ []) }
 {
-    Ok(vec![in alloc; None; pages]?)
+    if records == 0 {
+        return Ok(Vec::new(alloc));
+    }
+    Ok(Vec::from_slice(alloc, homes.pages())?)
+}
+
+// The mapping words of pages.
+fn heads_of(alloc: Alloc, tree: &Tree, pages: &[PageId]) -> Result<Vec<u64, Alloc>, Memory>
+    requires { AllByRecursion (λ p. p < length tree.now.heads) pages.now }
+    ensures { IfOk result (λ words. words.items ≡ words_of tree.now.heads pages.now) }
+{
+    let heads = tree.heads();
+    let mut words = Vec::with_capacity(alloc, pages.len())?;
+    for page in pages {
+        words.push(heads[page.0 as usize])?;
+    }
+    Ok(words)
 }

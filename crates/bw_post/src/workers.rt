@@ -11,9 +11,9 @@ ghost use Rattle.bw_post.specs.Posting.{IsBoardOf, IsHomeOfRecord, width_of};
 
 use crate::gates::Gate;
 use bw_board::{Board, Seat};
+use bw_group::Homes;
 use bw_key::Memory;
 use bw_memory::Alloc;
-use bw_page::PageId;
 use bw_tree::Tree;
 use std::ops::Range;
 use std::thread::{Threads, for_each_mut};
@@ -64,60 +64,60 @@ pub(crate) fn seat_workers(
 pub(crate) fn post_side_by_side<R: Threads + Sync, G: Gate>(
     rt: &R,
     tree: &Tree,
-    pages: &[PageId],
+    homes: &Homes,
     board: &Board,
     gate: &G,
     workers: &mut [Worker],
 )
-    requires over { IsBoardOf tree.now board.now }
-    requires pages { AreStagedHomes tree.now pages.now }
+    requires over { IsBoardOf tree.now homes.now.pages board.now }
+    requires staged { AreStagedHomes tree.now homes.now }
     requires some { 0 < length workers.old }
     requires fresh { AllByRecursion (HasClaimedNothing board.now) workers.old }
-    ensures finished { AllByRecursion (HasFinished tree.now board.now) workers.new }
+    ensures finished { AllByRecursion (HasFinished tree.now homes.now.pages board.now) workers.new }
     ensures width { map width_of workers.new ≡ map width_of workers.old }
 {
     let post = move |_place: usize, worker: &mut Worker|
-        requires { IsSync G.row × IsBoardOf tree.now board.now × AreStagedHomes tree.now pages.now
+        requires { IsSync G.row × IsBoardOf tree.now homes.now.pages board.now × AreStagedHomes tree.now homes.now
             × HasClaimedNothing board.now worker.now }
-        ensures { HasFinished tree.entry.now board.entry.now worker.exit.now
+        ensures { HasFinished tree.entry.now homes.entry.now.pages board.entry.now worker.exit.now
             × (width_of worker.exit.now ≡ width_of worker.entry.now) }
-    { post_claimed(tree, pages, board, gate, worker) };
+    { post_claimed(tree, homes, board, gate, worker) };
     for_each_mut(rt, workers, workers.len(), &post);
 }
 
 // Claims and posts until no record is left.
 fn post_claimed<G: Gate>(
     tree: &Tree,
-    pages: &[PageId],
+    homes: &Homes,
     board: &Board,
     gate: &G,
     worker: &mut Worker,
 )
-    requires over { IsBoardOf tree.now board.now }
-    requires pages { AreStagedHomes tree.now pages.now }
+    requires over { IsBoardOf tree.now homes.now.pages board.now }
+    requires staged { AreStagedHomes tree.now homes.now }
     requires fresh { HasClaimedNothing board.now worker.old }
-    ensures finished { HasFinished tree.now board.now worker.new }
+    ensures finished { HasFinished tree.now homes.now.pages board.now worker.new }
     ensures width { width_of worker.new ≡ width_of worker.old }
 {
     while let Some(span) = board.claim(&mut worker.seat) {
-        worker.lost += post_piece(tree, pages, board, gate, &mut worker.seat, span);
+        worker.lost += post_piece(tree, homes, board, gate, &mut worker.seat, span);
     }
 }
 
 // Posts the records of a piece, and answers how many exchanges that lost.
 fn post_piece<G: Gate>(
     tree: &Tree,
-    pages: &[PageId],
+    homes: &Homes,
     board: &Board,
     gate: &G,
     seat: &mut Seat,
     piece: Range<u64>,
 ) -> u64
     requires board { seat.old.board ≡ board.now }
-    requires over { IsBoardOf tree.now board.now }
-    requires pages { AreStagedHomes tree.now pages.now }
+    requires over { IsBoardOf tree.now homes.now.pages board.now }
+    requires staged { AreStagedHomes tree.now homes.now }
     requires left { HasLeft seat.old piece.start piece.end }
-    requires homes { ArePostedHome tree.now seat.old }
+    requires homes { ArePostedHome tree.now homes.now.pages seat.old }
     requires once { (r : ℕ) → owns r seat.old.book ≤ 1 }
     requires few { lost_in seat.old.book.posted < 2 ^ 64 }
     requires rising { piece.start ≤ piece.end }
@@ -127,37 +127,42 @@ fn post_piece<G: Gate>(
     ensures owned { seat.new.book.owned ≡ seat.old.book.owned }
     ensures once { (r : ℕ) → owns r seat.new.book ≤ 1 }
     ensures posted { HasPostedAll seat.new }
-    ensures homes { ArePostedHome tree.now seat.new }
+    ensures homes { ArePostedHome tree.now homes.now.pages seat.new }
     ensures lost { lost_in seat.old.book.posted + result ≡ lost_in seat.new.book.posted }
     ensures few { lost_in seat.new.book.posted < 2 ^ 64 }
 {
     let mut lost = 0;
     for record in piece.start..piece.end {
         gate.before(record);
-        let page = home_at(tree, pages, record);
-        lost += board.post(seat, record, page.0 as u64).lost;
+        let page = home_at(tree, homes, record);
+        lost += board.post(seat, record, page as u64).lost;
         gate.after(record);
     }
     lost
 }
 
-// The page of a staged record's key. The place of the record's operation is in its stamp.
-fn home_at(tree: &Tree, pages: &[PageId], number: u64) -> PageId
-    requires pages { AreStagedHomes tree.now pages.now }
+// Which of the batch's pages is the home of a staged record's key. The place of the record's operation is in its stamp.
+fn home_at(tree: &Tree, homes: &Homes, number: u64) -> usize
+    requires staged { AreStagedHomes tree.now homes.now }
     requires there { number < length (staged_writes tree.now.staged) }
-    ensures there { result < length tree.now.heads }
-    ensures home { IsHomeOfRecord tree.now number result }
+    ensures there { result < length homes.now.pages }
+    ensures home { IsHomeOfRecord tree.now homes.now.pages number result }
 {
     let place = tree.staged_write(number).stamp - tree.next_stamp();
-    pages[place as usize]
+    homes.number_at(place as usize)
 }
 
 /// All workers' seats in one, with what they lost together.
-pub(crate) fn join_workers(tree: &Tree, board: &Board, mut workers: Vec<Worker, Alloc>) -> Worker
-    requires over { IsBoardOf tree.now board.now }
+pub(crate) fn join_workers(
+    tree: &Tree,
+    homes: &Homes,
+    board: &Board,
+    mut workers: Vec<Worker, Alloc>,
+) -> Worker
+    requires over { IsBoardOf tree.now homes.now.pages board.now }
     requires some { 0 < length workers.items }
-    requires finished { AllByRecursion (HasFinished tree.now board.now) workers.items }
-    ensures finished { HasFinished tree.now board.now result }
+    requires finished { AllByRecursion (HasFinished tree.now homes.now.pages board.now) workers.items }
+    ensures finished { HasFinished tree.now homes.now.pages board.now result }
     ensures width { width_of result ≡ total width_of workers.entry.items }
 {
     let mut whole = workers.pop().unwrap();

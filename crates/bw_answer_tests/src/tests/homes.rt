@@ -1,17 +1,20 @@
 // The homes of a batch of reads over three leaves.
+ghost use Rattle.std.specs.Prelude.{◌≡◌, length};
+
 use super::making::{heap, homes_of, six_reads, three, was_refused};
+use bw_group::Homes;
 use bw_page::PageId;
 use std::process::Abort;
 
-// Compares the pages of the four gets among the six reads. Those of the scans mean nothing.
-fn are_homes<R: Abort>(rt: &R, homes: &[PageId]) {
-    let wanted = [Some(2), Some(0), None, Some(1), Some(1), None];
-    assert_eq!(rt; homes.len(), wanted.len());
-    for (home, wanted) in homes.iter().zip(&wanted) {
-        if let Some(page) = wanted {
-            assert_eq!(rt; home.0, *page);
-        }
-    }
+// Compares the pages of the four gets among the six reads, and their numbers. Those of the scans mean nothing.
+fn are_homes<R: Abort>(rt: &R, homes: &Homes)
+    requires { length homes.now.numbers ≡ 6 }
+{
+    assert!(rt; homes.pages() == [PageId(0), PageId(1), PageId(2)].as_slice());
+    assert_eq!(rt; homes.number_at(0), 2);
+    assert_eq!(rt; homes.number_at(1), 0);
+    assert_eq!(rt; homes.number_at(3), 1);
+    assert_eq!(rt; homes.number_at(4), 1);
 }
 
 #[test]

@@ -1,12 +1,13 @@
 // Keys, values, a tree and a batch from bytes.
-ghost use Rattle.std.specs.Prelude.{◌≡◌, ℕ, ◌<◌, ◌≤◌, [], ◌∷◌, length, None, Some};
+ghost use Rattle.std.specs.Prelude.{◌≡◌, ℕ, ◌<◌, ◌≤◌, [], ◌∷◌, length, IfOk, None, Some};
 ghost use Rattle.std.specs.List.{AllByRecursion};
 ghost use Rattle.bw_delta.specs.Batches.{write_of};
 ghost use Rattle.bw_tree.specs.Making.{AreAbutting};
+ghost use Rattle.bw_group.specs.Homes.{AreHomes};
 ghost use Rattle.bw_tree.specs.View.{contents_at};
 
 use bw_answer::{replies, replies_in_parts};
-use bw_group::{Grouping, find_homes};
+use bw_group::{Grouping, Homes, find_homes};
 use bw_key::{Key, Memory};
 use bw_memory::{Alloc, Heap};
 use bw_model::{Op, Pairs, Replies, Reply, Value};
@@ -193,7 +194,8 @@ pub fn replies_by_workers<R: Threads + Sync>(
     requires few { length ops.now ≤ 5000 }
 {
     let batch = Grouping::new(alloc, ops)?;
-    replies(rt, alloc, tree, 0, &batch, workers)
+    let homes = find_homes(alloc, tree, &batch)?;
+    replies(rt, alloc, tree, 0, &batch, &homes, workers)
 }
 
 /// The replies to reads, by a tree without writes, in at most so many parts.
@@ -210,11 +212,14 @@ pub fn replies_by_parts<R: Threads + Sync>(
     requires count { 0 < count }
 {
     let batch = Grouping::new(alloc, ops)?;
-    replies_in_parts(rt, alloc, tree, 0, &batch, count)
+    let homes = find_homes(alloc, tree, &batch)?;
+    replies_in_parts(rt, alloc, tree, 0, &batch, &homes, count)
 }
 
 /// The homes of a batch.
-pub fn homes_of(alloc: Alloc, tree: &Tree, ops: &[Op]) -> Result<Vec<PageId, Alloc>, Memory> {
+pub fn homes_of(alloc: Alloc, tree: &Tree, ops: &[Op]) -> Result<Homes, Memory>
+    ensures { IfOk result (AreHomes tree.now ops.now) }
+{
     let batch = Grouping::new(alloc, ops)?;
     find_homes(alloc, tree, &batch)
 }

@@ -4,7 +4,7 @@ ghost use Rattle.std.specs.Prelude.{◌≡◌, None};
 use super::making::{FLOOR, batch, heap, holds, key, post, stands, three, upsert};
 use bw_memory::Alloc;
 use bw_page::PageId;
-use bw_post::Tree;
+use bw_post::{Posting, Tree};
 use std::process::Abort;
 use std::thread::Threads;
 
@@ -17,8 +17,8 @@ fn written<R: Abort + Threads + Sync>(rt: &R, alloc: Alloc) -> Tree
     ensures staged { result.staged ≡ None }
 {
     let mut tree = three(rt, alloc);
-    let closed = post(rt, alloc, &mut tree, &batch(rt, alloc), 64);
-    tree.adopt(closed);
+    let Posting { pages, closed, .. } = post(rt, alloc, &mut tree, &batch(rt, alloc), 64);
+    tree.adopt_on(pages, closed);
     tree.accept();
     tree
 }
@@ -41,8 +41,8 @@ fn a_batch_is_posted_over_folded_leaves(rt: HostRuntime) {
     let mut tree = written(&rt, alloc);
     tree.fold().expect(&rt, "memory");
     let ops = [upsert(&rt, alloc, b"e", b"7")];
-    let closed = post(&rt, alloc, &mut tree, &ops, 64);
-    tree.adopt(closed);
+    let Posting { pages, closed, .. } = post(&rt, alloc, &mut tree, &ops, 64);
+    tree.adopt_on(pages, closed);
     tree.accept();
     stands(&rt, &tree, &[0, 1, FLOOR, 3], 1, 4);
     holds(&rt, alloc, &tree, 3, &AFTER);

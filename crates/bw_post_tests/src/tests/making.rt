@@ -1,14 +1,15 @@
 // Keys, values, leaves and trees from bytes.
 ghost use Rattle.std.specs.Prelude.{◌≡◌, ◌<◌, ◌≤◌, ◌+◌, ◌^◌, [], ◌∷◌, None, Some, length};
 ghost use Rattle.bw_tree.specs.Making.{AreAbutting};
-ghost use Rattle.bw_tree.specs.Stages.{IsPostedStage, staged_on};
+ghost use Rattle.bw_tree.specs.Stages.{staged_on};
+ghost use Rattle.bw_tree.specs.Words.{IsPostedStageOn};
 
 use bw_group::Grouping;
 use bw_key::Key;
 use bw_memory::{Alloc, Heap};
 use bw_model::{Op, Pairs, Value};
 use bw_page::{Leaf, PageId};
-use bw_post::{Closed, OpenGate, Tree, post_all};
+use bw_post::{OpenGate, Posting, Tree, post_all};
 use std::alloc::Global;
 use std::process::Abort;
 use std::thread::Threads;
@@ -183,15 +184,16 @@ pub fn post<R: Abort + Threads + Sync>(
     tree: &mut Tree,
     ops: &[Op],
     piece: u64,
-) -> Closed
+) -> Posting
     requires none { tree.old.staged ≡ None }
     requires fits { tree.old.next + length ops.now ≤ 2 ^ 40 }
     requires piece { (0 < piece) × (piece ≤ 4096) }
     ensures staged { tree.new ≡ staged_on tree.old ops.now }
-    ensures posted { IsPostedStage tree.new tree.new.staged result.heads result.links }
+    ensures posted { IsPostedStageOn tree.new tree.new.staged result.pages.items
+        result.closed.heads result.closed.links }
 {
     tree.stage(ops).expect(rt, "memory");
     let grouping = Grouping::new(alloc, ops).expect(rt, "memory");
     let posting = post_all(rt, alloc, tree, &grouping, piece, 1, &OpenGate);
-    posting.expect(rt, "memory").closed
+    posting.expect(rt, "memory")
 }

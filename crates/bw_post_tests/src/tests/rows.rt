@@ -9,7 +9,7 @@ use bw_group::Grouping;
 use bw_key::Memory;
 use bw_memory::{Alloc, Heap};
 use bw_page::PageId;
-use bw_post::{OpenGate, Tree, post_all};
+use bw_post::{OpenGate, Posting, Tree, post_all};
 use bw_tree::Scans;
 use std::process::Abort;
 use std::test::Fail;
@@ -20,10 +20,11 @@ fn adopted<R: Abort + Threads + Sync>(rt: &R, alloc: Alloc) -> Tree
     ensures { is_adopted result.staged ≡ true }
 {
     let mut tree = three(rt, alloc);
-    let closed = post(rt, alloc, &mut tree, &batch(rt, alloc), 1);
-    assert!(rt; closed.heads() == [0, FLOOR, FLOOR + 1, 3].as_slice());
+    let Posting { pages, closed, .. } = post(rt, alloc, &mut tree, &batch(rt, alloc), 1);
+    assert!(rt; pages.as_slice() == [PageId(1), PageId(2)].as_slice());
+    assert!(rt; closed.heads() == [FLOOR, FLOOR + 1].as_slice());
     assert!(rt; closed.links() == [1, 2].as_slice());
-    tree.adopt(closed);
+    tree.adopt_on(pages, closed);
     stands(rt, &tree, &[0, FLOOR, FLOOR + 1, 3], 2, 0);
     tree
 }
@@ -90,9 +91,9 @@ fn an_adopted_batch_is_accepted(rt: HostRuntime) {
 fn adopt_and_accept_take_no_memory(rt: HostRuntime) {
     let alloc = heap(&rt, rt.alloc());
     let mut tree = three(&rt, alloc);
-    let closed = post(&rt, alloc, &mut tree, &batch(&rt, alloc), 1);
+    let Posting { pages, closed, .. } = post(&rt, alloc, &mut tree, &batch(&rt, alloc), 1);
     alloc.refuse(1);
-    tree.adopt(closed);
+    tree.adopt_on(pages, closed);
     tree.accept();
     assert_eq!(rt; alloc.left(), 1);
     alloc.refuse(0);
@@ -105,10 +106,10 @@ fn written_twice<R: Abort + Threads + Sync>(rt: &R, alloc: Alloc) -> Tree
 {
     let mut tree = Tree::new(alloc).expect(rt, "memory");
     let ops = [upsert(rt, alloc, b"a", b"1"), upsert(rt, alloc, b"a", b"2")];
-    let closed = post(rt, alloc, &mut tree, &ops, 1);
+    let Posting { pages, closed, .. } = post(rt, alloc, &mut tree, &ops, 1);
     assert!(rt; closed.heads() == [FLOOR + 1].as_slice());
     assert!(rt; closed.links() == [0, FLOOR].as_slice());
-    tree.adopt(closed);
+    tree.adopt_on(pages, closed);
     tree
 }
 

@@ -86,8 +86,13 @@ fn posted<R: Abort + Threads + Sync, G: Gate>(
     tree.stage(ops).expect(rt, "memory");
     let grouping = Grouping::new(alloc, ops).expect(rt, "memory");
     let posting = post_all(rt, alloc, &tree, &grouping, piece, workers, gate);
-    let Posting { closed, lost } = posting.expect(rt, "memory");
-    tree.adopt(closed);
+    let Posting {
+        pages,
+        closed,
+        lost,
+        ..
+    } = posting.expect(rt, "memory");
+    tree.adopt_on(pages, closed);
     (tree, lost)
 }
 

@@ -1,13 +1,20 @@
-use Rattle.std.proofs.Common.{ap, ◌∙◌}
+use Rattle.std.proofs.Common.{ℕ, List, length, ap, ◌∙◌}
+use Rattle.bw_tree.proofs.WordLemmas.{length_put}
+use Rattle.bw_group.proofs.SameHomes.{homes_stay}
 use Rattle.bw_model.specs.Model.{replies_of}
 use Rattle.bw_tree.specs.View.{contents_at}
 use Rattle.bw_batch.proofs.BatchLemmas.{same_leaves, start_adopted}
 use Rattle.bw_batch.proofs.batch.answer_staged.Goals as goal
 
+pub replies-requires-clause-homes : goal.replies-requires-clause-homes
+replies-requires-clause-homes g c κs within =
+    homes_stay c.args.tree.now c.adopt_on.new.self c.adopt_on.ensures.levels c.adopt_on.ensures.pages c.args.batch.now.ops _
+    (ap (λ (l : List ℕ). length l) c.adopt_on.ensures.heads ∙ length_put c.args.tree.now.heads _ _) c.in_ok-post_all.ensures.homes
+
 pub returns-clause-replies : goal.returns-clause-replies
 returns-clause-replies g c =
     c.in_ok-replies.ensures
-    ∙ ap (replies_of c.args.batch.now.ops) (ap (contents_at c.adopt.new.self) c.next_stamp.ensures ∙ start_adopted c.args.tree.now c.adopt.new.self c.adopt.ensures.next c.adopt.ensures.contents)
+    ∙ ap (replies_of c.args.batch.now.ops) (ap (contents_at c.adopt_on.new.self) c.next_stamp.ensures ∙ start_adopted c.args.tree.now c.adopt_on.new.self c.adopt_on.ensures.next c.adopt_on.ensures.contents)
 
 pub returns-clause-leaves : goal.returns-clause-leaves
-returns-clause-leaves g c = same_leaves c.args.tree.now c.adopt.new.self c.adopt.ensures.levels c.adopt.ensures.pages
+returns-clause-leaves g c = same_leaves c.args.tree.now c.adopt_on.new.self c.adopt_on.ensures.levels c.adopt_on.ensures.pages

@@ -9,7 +9,7 @@ use Rattle.bw_post.proofs.Joined.{fresh_worked, told_worked}
 use Rattle.bw_post.proofs.workers.post_claimed.Goals as goal
 
 pub loop-span-init : goal.loop-span-init
-loop-span-init g c = record { worked = fresh_worked c.args.tree.now c.args.board.now c.args.worker.now c.requires.fresh; width = refl; few = omega (arith, ap lost_in c.requires.fresh.posted) }
+loop-span-init g c = record { worked = fresh_worked c.args.tree.now c.args.homes.now.pages c.args.board.now c.args.worker.now c.requires.fresh; width = refl; few = omega (arith, ap lost_in c.requires.fresh.posted) }
 
 pub post_piece-requires-clause-left : goal.post_piece-requires-clause-left
 post_piece-requires-clause-left g c κs within =
@@ -18,7 +18,7 @@ post_piece-requires-clause-left g c κs within =
     (t.end ∙ ap (λ z. min (c.in-Some.span.start + z.piece) z.records) (sym c.loop-span.invariant.worked.board_is))
 
 pub post_piece-requires-clause-homes : goal.post_piece-requires-clause-homes
-post_piece-requires-clause-homes g c κs within = same_home c.args.tree.now c.loop-span.worker.seat c.claim.new.seat (ap (λ (v : SeatView). v.book.posted) c.in-Some.ensures.claimed) c.loop-span.invariant.worked.homes
+post_piece-requires-clause-homes g c κs within = same_home c.args.tree.now c.args.homes.now.pages c.loop-span.worker.seat c.claim.new.seat (ap (λ (v : SeatView). v.book.posted) c.in-Some.ensures.claimed) c.loop-span.invariant.worked.homes
 
 pub post_piece-requires-clause-few : goal.post_piece-requires-clause-few
 post_piece-requires-clause-few g c κs within = omega (arith, ap (λ (v : SeatView). lost_in v.book.posted) c.in-Some.ensures.claimed, c.loop-span.invariant.few)
@@ -48,6 +48,6 @@ loop-span-smaller g c =
 
 pub returns-clause-finished : goal.returns-clause-finished
 returns-clause-finished g c = record {
-  worked = told_worked c.args.tree.now c.args.board.now c.loop-span.worker c.claim.new.seat c.in_default.ensures.none c.loop-span.invariant.worked;
+  worked = told_worked c.args.tree.now c.args.homes.now.pages c.args.board.now c.loop-span.worker c.claim.new.seat c.in_default.ensures.none c.loop-span.invariant.worked;
   told = ap (λ (v : SeatView). v.book.told) c.in_default.ensures.none;
 }

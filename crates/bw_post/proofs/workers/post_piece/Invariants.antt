@@ -12,7 +12,7 @@ invariant-loop-record g l = record {
   owned : l.seat.book.owned ≡ l.fn.seat.book.owned;
   once : (r : ℕ) → owns r l.seat.book ≤ 1;
   left : HasLeft l.seat l.record l.fn.piece.end;
-  homes : ArePostedHome l.tree l.seat;
+  homes : ArePostedHome l.tree l.homes.pages l.seat;
   lost : lost_in l.fn.seat.book.posted + l.lost ≡ lost_in l.seat.book.posted;
   few : lost_in l.seat.book.posted < 2 ^ 64;
 }

@@ -9,13 +9,14 @@ use Rattle.bw_group.proofs.Lists.{all_same}
 use Rattle.bw_answer.proofs.ReplyLemmas.{all_answered, answered_none, part_answered}
 use Rattle.bw_answer.proofs.batch_reader.BatchReader.answer_points.Goals as goal
 
+pub run_from-page-requires-clause-pages : goal.run_from-page-requires-clause-pages
+run_from-page-requires-clause-pages c =
+    let is = c.self.view_is in
+    subst (λ (v : ReaderView). AllByRecursion (λ e. HasPageAt v.homes e.1) (entries_of c.args.points.now)) (sym is)
+    (pages_listed c.args.self.now.tree c.args.self.now.ops c.args.self.now.homes (subst IsReadInTurn is c.self.invariant).homes (entries_of c.args.points.now) c.requires.points.entries)
+
 pub answer_run-requires-clause-homes : goal.answer_run-requires-clause-homes
-answer_run-requires-clause-homes c =
-    let tree = c.self.inside.tree.now in
-    let page = c.run_from-page.result.0 in
-    let part = entries_of (take (c.run_from-page.result.1 - c.loop-start.start) (drop c.loop-start.start c.args.points.now)) in
-    subst (λ (t : TreeView). AllByRecursion (λ e. IsHome t.slots t.levels e.0 page) part) (ap (λ (v : ReaderView). v.tree) c.self.view_is)
-    (all_same (λ e. IsOneHome tree.slots tree.levels e.0 page) (λ e. IsHome tree.slots tree.levels e.0 page) (λ e home. home.0) part c.run_from-page.ensures.homes)
+answer_run-requires-clause-homes c = ?
 
 pub answer_run-requires-clause-points : goal.answer_run-requires-clause-points
 answer_run-requires-clause-points c =

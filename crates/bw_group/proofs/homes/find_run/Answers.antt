@@ -3,7 +3,7 @@ use Rattle.bw_key.specs.Order.{KeyBytes}
 use Rattle.bw_model.specs.Contents.{is_below_end}
 use Rattle.bw_group.specs.Points.{key_at}
 use Rattle.bw_group.proofs.RunLemmas.{run_homes}
-use Rattle.bw_group.proofs.homes.run_from.Goals as goal
+use Rattle.bw_group.proofs.homes.find_run.Goals as goal
 
 pub returns-clause-homes : goal.returns-clause-homes
 returns-clause-homes c =
