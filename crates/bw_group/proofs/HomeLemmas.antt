@@ -122,7 +122,7 @@ pub record IsRun (tree : TreeView) (ops : List Op) (ps : List Point) (n m p : �
   pub whole : (d : Point) → m < length ps → is_below_end (high_of (slot_at tree.slots p)) (key_at ps m d) ≡ false
 
 module _ (tree : TreeView) (ops : List Op) (ps : List Point) (n m p : ℕ) (run : IsRun tree ops ps n m p) where
-  part : List Entry
+  abbrev pub part : List Entry
   part = entries_of (take (m - n) (drop n ps))
 
   -- its first point

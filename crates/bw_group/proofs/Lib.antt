@@ -7,4 +7,5 @@ pub mod RunLemmas
 pub mod PassedPages
 mod HomeLemmas
 pub mod HomeReads
+mod NumberLemmas
 pub mod SameHomes

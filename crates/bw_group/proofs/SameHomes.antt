@@ -8,6 +8,7 @@ use Rattle.bw_model.specs.declared.operations.Op.{Op}
 use Rattle.bw_page.specs.Inners.{IsUpto}
 use Rattle.bw_tree.specs.Before.{low_of}
 use Rattle.bw_tree.specs.Levels.{IsHome, IsOneHome, row}
+use Rattle.bw_tree.specs.Scans.{high_of}
 use Rattle.bw_tree.specs.Slots.{Slot, PageState, Free, Gone, Live, slot_at}
 use Rattle.bw_tree.specs.Turns.{slot_without_writes}
 use Rattle.bw_tree.specs.View.{TreeView}
@@ -23,10 +24,7 @@ pub record HasRangeOf (s : PageState) (slot : Slot) : Type 0 where
   pub high : state.high ≡ s.high
 
 range_stays : (s : PageState) (slot : Slot) → slot_without_writes slot ≡ slot_without_writes (Live s) → HasRangeOf s slot
-range_stays s (Live t) same = record { state = t; is = refl; low = ap low_of same; high = one_high same }
-  where
-    one_high : slot_without_writes (Live t) ≡ slot_without_writes (Live s) → t.high ≡ s.high
-    one_high e = cc
+range_stays s (Live t) same = record { state = t; is = refl; low = ap low_of same; high = ap high_of same }
 range_stays s (Gone l) same = absurd (different same)
   where
     different : slot_without_writes (Gone l) ≡ slot_without_writes (Live s) → ⊥
