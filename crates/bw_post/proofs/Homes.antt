@@ -2,6 +2,7 @@
 use Rattle.std.proofs.Common.{◌≡◌, ℕ, zero, suc, ◌+◌, ◌<◌, ◌≤◌, ◌^◌, Bool, true, false, ◌&&◌, eqb, ◌==◌, List, [], ◌∷◌, length, Option, Some, None, inl, inr, refl, sym, ap, ◌∙◌, subst, arith}
 use Rattle.std.specs.Prelude.{slice_get, slice_index, slice_index_or, MatchOption}
 use Rattle.std.specs.Cmp.{unsigned_Decides}
+use Rattle.std.specs.List.{AllByRecursion}
 use Rattle.std.proofs.lemmas.Bool.{cases_eq}
 use Rattle.std.proofs.lemmas.Bool.Decides.{nat_tests}
 use Rattle.std.proofs.lemmas.List.{length-map}
@@ -92,6 +93,13 @@ word_at heads [] zero p at = absurd (no_number at)
 word_at heads [] (suc i) p at = absurd (no_number at)
 word_at heads (q ∷ pages) zero p at = ap (slice_index heads) (one_number at)
 word_at heads (q ∷ pages) (suc i) p at = word_at heads pages i p at
+
+-- the words of pages are below a floor where all words are
+pub low_words : (heads pages : List ℕ) (floor : ℕ) → ((p : ℕ) → p < length heads → slice_index heads p < floor) → AllByRecursion (λ p. p < length heads) pages →
+    (i : ℕ) → i < length (words_of heads pages) → slice_index (words_of heads pages) i < floor
+low_words heads [] floor low there i lt = absurd (omega (arith, lt))
+low_words heads (p ∷ pages) floor low there zero lt = low p there.0
+low_words heads (p ∷ pages) floor low there (suc i) lt = low_words heads pages floor low there.1 i (omega (arith, lt))
 
 -- a page that is listed somewhere is in the list
 pub listed_times : (pages : List ℕ) (i p : ℕ) → slice_get pages i ≡ Some p → 0 < times p pages

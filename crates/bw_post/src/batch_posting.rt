@@ -72,11 +72,7 @@ pub fn post_all<R: Threads + Sync, G: Gate>(
 }
 
 // The pages to which so many records are posted: a batch of reads posts to none.
-fn written_pages(
-    alloc: Alloc,
-    homes: &Homes,
-    records: u64,
-) -> Result<Vec<PageId, Alloc>, Memory>
+fn written_pages(alloc: Alloc, homes: &Homes, records: u64) -> Result<Vec<PageId, Alloc>, Memory>
     ensures some { 0 < records → IfOk result (λ pages. pages.items ≡ homes.now.pages) }
     ensures none { records ≡ 0 → IfOk result (λ pages. pages.items ≡ []) }
 {

@@ -86,13 +86,7 @@ pub(crate) fn post_side_by_side<R: Threads + Sync, G: Gate>(
 }
 
 // Claims and posts until no record is left.
-fn post_claimed<G: Gate>(
-    tree: &Tree,
-    homes: &Homes,
-    board: &Board,
-    gate: &G,
-    worker: &mut Worker,
-)
+fn post_claimed<G: Gate>(tree: &Tree, homes: &Homes, board: &Board, gate: &G, worker: &mut Worker)
     requires over { IsBoardOf tree.now homes.now.pages board.now }
     requires staged { AreStagedHomes tree.now homes.now }
     requires fresh { HasClaimedNothing board.now worker.old }

@@ -1,16 +1,30 @@
-use Rattle.std.proofs.Common.{◌≡◌, ◌≤◌, arith, refl, ap, sym, subst, ◌∙◌}
-use Rattle.bw_core.specs.Keeping.{pairs_of}
+use Rattle.std.proofs.Common.{◌≡◌, ◌<◌, ◌≤◌, ℕ, List, length, ap, sym, subst, ◌∙◌, arith}
+use Rattle.std.specs.Prelude.{EachIndex, Option, slice_index}
 use Rattle.bw_core.specs.World.{total}
 use Rattle.bw_board.specs.Public.{BoardView, SeatView}
-use Rattle.bw_post.specs.Posting.{AreStagedHomes, width_of}
-use Rattle.bw_post.proofs.Homes.{is_board_of, posted_stage, told_batch}
+use Rattle.bw_tree.specs.View.{StageView}
+use Rattle.bw_tree.specs.Words.{words_of}
+use Rattle.bw_post.specs.Posting.{IsWaiting, width_of}
+use Rattle.bw_post.proofs.Homes.{AreWritten, IsOver, is_over, low_words, posted_stage, told_batch, written_pages}
 use Rattle.bw_post.proofs.Joined.{front_of, same_length, same_sum}
-use Rattle.bw_post.proofs.Lost.{lost_few}
 use Rattle.bw_post.proofs.Staged.{staged_homes}
 use Rattle.bw_post.proofs.batch_posting.post_all.Goals as goal
 
-pub post_side_by_side-requires-clause-pages : goal.post_side_by_side-requires-clause-pages
-post_side_by_side-requires-clause-pages g c κs within = subst (AreStagedHomes c.args.tree.now) (sym c.deref-2.ensures.value) (staged_homes c.args.tree.now c.args.batch.now.ops _ c.requires.waiting c.in_ok-pages.ensures)
+pub open-requires-clause-low : goal.open-requires-clause-low
+open-requires-clause-low g c =
+    let tree = c.args.tree.now in
+    let homes = c.in_ok-homes.homes.pages in
+    let pages = c.in_ok-pages.pages.items in
+    let told = told_batch c.staged.result tree c.unwrap-staged.result c.staged.ensures c.unwrap-staged.ensures in
+    let floor = c.unwrap-staged.result.floor in
+    let written : AreWritten c.unwrap-staged.result.records homes pages = record { some = c.in_ok-pages.ensures.some; none = c.in_ok-pages.ensures.none } in
+    let are = written_pages tree c.unwrap-staged.result.records homes pages written c.in_ok-homes.ensures.pages in
+    let waiting = subst (λ (o : Option StageView). IsWaiting tree o c.args.batch.now.ops) told.is c.requires.waiting in
+    subst (λ (l : List ℕ). EachIndex l (λ i. slice_index l i < floor)) (sym (c.deref-2.ensures.value ∙ c.in_ok-heads.ensures ∙ ap (words_of tree.heads) c.deref.ensures.value))
+    (low_words tree.heads pages floor (told.low waiting.0) are.there)
+
+pub post_side_by_side-requires-clause-staged : goal.post_side_by_side-requires-clause-staged
+post_side_by_side-requires-clause-staged g c κs within = staged_homes c.args.tree.now c.args.batch.now.ops c.in_ok-homes.homes c.requires.waiting c.in_ok-homes.ensures
 
 pub close-requires-clause-whole : goal.close-requires-clause-whole
 close-requires-clause-whole g c =
@@ -22,18 +36,14 @@ close-requires-clause-told g c = c.join_workers-whole.ensures.finished.told
 
 pub returns-clause-posted : goal.returns-clause-posted
 returns-clause-posted g c =
-    let told = told_batch c.staged.result c.args.tree.now c.unwrap-staged.result c.staged.ensures c.unwrap-staged.ensures in
+    let tree = c.args.tree.now in
+    let homes = c.in_ok-homes.homes.pages in
+    let pages = c.in_ok-pages.pages.items in
+    let told = told_batch c.staged.result tree c.unwrap-staged.result c.staged.ensures c.unwrap-staged.ensures in
     let opened = c.in_ok-board.ensures in
     let worked = c.join_workers-whole.ensures.finished.worked in
-    let over = is_board_of c.args.tree.now c.in_ok-board.board c.join_workers-whole.result.seat.board c.unwrap-staged.result c.heads-heads.result.now c.in_ok-spares.spares.items _ told worked.board_is opened.first c.heads-heads.ensures opened.records (opened.spares ∙ c.deref.ensures.value) c.in_ok-spares.ensures in
-    posted_stage c.args.tree.now c.join_workers-whole.result.seat c.in_ok-close.field-0.heads c.in_ok-close.field-0.links c.in_ok-close.field-0.swapped c.unwrap-staged.result c.args.batch.now.ops c.requires.waiting told
-    (ap (λ (b : BoardView). b.floor) worked.board_is ∙ opened.floor) over worked.homes c.in_ok-close.ensures.each c.in_ok-close.ensures.closed
-
-pub returns-clause-lost : goal.returns-clause-lost
-returns-clause-lost g c =
-    let told = told_batch c.staged.result c.args.tree.now c.unwrap-staged.result c.staged.ensures c.unwrap-staged.ensures in
-    let opened = c.in_ok-board.ensures in
-    let worked = c.join_workers-whole.ensures.finished.worked in
-    let over = is_board_of c.args.tree.now c.in_ok-board.board c.in_ok-board.board c.unwrap-staged.result c.heads-heads.result.now c.in_ok-spares.spares.items _ told refl opened.first c.heads-heads.ensures opened.records (opened.spares ∙ c.deref.ensures.value) c.in_ok-spares.ensures in
-    let few = lost_few c.join_workers-whole.result.seat c.in_ok-board.board worked.board_is over.few over.spareless c.in_ok-close.ensures.sound in
-    subst (λ n. c.join_workers-whole.result.lost ≤ pairs_of n) over.records (subst (λ n. n ≤ pairs_of c.in_ok-board.board.records) (sym worked.lost) few.0)
+    let written : AreWritten c.unwrap-staged.result.records homes pages = record { some = c.in_ok-pages.ensures.some; none = c.in_ok-pages.ensures.none } in
+    let first = opened.first ∙ c.deref-2.ensures.value ∙ c.in_ok-heads.ensures ∙ ap (words_of tree.heads) c.deref.ensures.value in
+    let over = subst (IsOver tree homes pages) (sym worked.board_is) (is_over tree homes pages c.in_ok-board.board c.unwrap-staged.result told written first opened.records opened.spares c.in_ok-homes.ensures.pages) in
+    posted_stage tree c.join_workers-whole.result.seat homes pages c.in_ok-closed.closed.heads c.in_ok-closed.closed.links c.in_ok-closed.closed.swapped c.unwrap-staged.result c.args.batch.now.ops c.requires.waiting told
+    (ap (λ (b : BoardView). b.floor) worked.board_is ∙ opened.floor) over worked.homes c.in_ok-closed.ensures.closed

@@ -32,7 +32,7 @@ loop-record-preserved g c =
       once = c.post-lost.ensures.sound.own_once;
       left = left_over c.loop-record.seat c.post-lost.new.seat c.loop-record.record c.args.piece.end _ c.post-lost.result.lost i.left (omega (arith, c.loop-record-test.true)) t;
       homes = home_more c.args.tree.now c.args.homes.now.pages c.loop-record.seat c.post-lost.new.seat c.loop-record.record c.home_at-page.result c.post-lost.result.lost
-          (subst (λ p. Posts c.loop-record.seat c.post-lost.new.seat c.loop-record.record p c.post-lost.result.lost) c.page.view_is t) c.home_at-page.ensures.home i.homes;
+          t c.home_at-page.ensures.home i.homes;
       lost = omega (arith, i.lost, more);
       few = few.1;
     }
