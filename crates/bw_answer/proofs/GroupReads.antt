@@ -1,6 +1,6 @@
 -- What a tree holds at the keys of a page, by the writes that are found there.
-use Rattle.std.proofs.Common.{◌≡◌, ℕ, List, Option, sym, ap, ◌∙◌, subst}
-use Rattle.std.specs.List.{AllByRecursion}
+use Rattle.std.proofs.Common.{◌≡◌, ℕ, zero, suc, ◌-◌, ◌<◌, ◌≤◌, List, [], ◌∷◌, length, take, drop, Option, sym, ap, ◌∙◌, subst, arith, length-drop}
+use Rattle.std.specs.List.{AllByRecursion, Contains}
 use Rattle.std.specs.List.Sorted.{IsPermutation}
 use Rattle.std.specs.FinMap.{find, get}
 use Rattle.bw_key.specs.Order.{KeyBytes, key_cmp, key_eq}
@@ -11,11 +11,12 @@ use Rattle.bw_delta.specs.Batches.{writes_to}
 use Rattle.bw_delta.specs.History.{history, action_at, HasDistinctStamps}
 use Rattle.bw_delta.proofs.Filters.{same_filtered}
 use Rattle.bw_delta.proofs.Histories.{same_history}
-use Rattle.bw_tree.specs.Levels.{IsHome}
+use Rattle.bw_tree.specs.Levels.{IsHome, row}
 use Rattle.bw_tree.specs.Reading.{base_of, value_in, writes_over}
-use Rattle.bw_tree.specs.Slots.{slot_at}
+use Rattle.bw_tree.specs.Slots.{Slot, slot_at}
 use Rattle.bw_tree.specs.View.{TreeView, contents_at}
-use Rattle.bw_group.specs.Points.{Entry, HasKey}
+use Rattle.bw_group.specs.Points.{Entry, HasKey, entries_of}
+use Rattle.bw_group.specs.declared.grouping.Point.{Point}
 use Rattle.bw_group.proofs.RunLemmas.{all_both}
 use Rattle.bw_answer.specs.Replies.{IsReadBy}
 
@@ -41,3 +42,12 @@ group_reads tree key start writes p es read same homes =
     all_both (HasKey key) (λ e. IsHome tree.slots tree.levels e.0 p) (λ e. IsReadBy tree start writes e.0)
     (λ e own home. let is = same_keys key e.0 own in subst (IsReadBy tree start writes) is (read (subst (λ k. IsHome tree.slots tree.levels k p) (sym is) home)))
     es same homes
+
+-- a page on which the first of some points is at home is a leaf
+pub first_home : (slots : List Slot) (levels : List (List ℕ)) (p : ℕ) (ps : List Point) (n m : ℕ) → n < m → m ≤ length ps → AllByRecursion (λ e. IsHome slots levels e.0 p) (entries_of (take (m - n) (drop n ps))) → Contains (row levels 0) p
+first_home slots levels p ps n m more bound homes = by (m - n) (omega (arith, more)) (drop n ps) (omega (arith, more, bound, length-drop n ps)) homes
+  where
+    by : (k : ℕ) → 0 < k → (qs : List Point) → 0 < length qs → AllByRecursion (λ e. IsHome slots levels e.0 p) (entries_of (take k qs)) → Contains (row levels 0) p
+    by zero some qs left homes = absurd (omega (arith, some))
+    by (suc k) some [] left homes = absurd (omega (arith, left))
+    by (suc k) some (q ∷ qs) left homes = homes.0.reached.in_level

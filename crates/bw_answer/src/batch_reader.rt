@@ -101,9 +101,8 @@ impl<'a> BatchReader<'a> {
         ensures { let places = places_in (point_places points.now) scans.now part in
             IfOk result (λ lists. flat_map (λ list. list.items) lists.items ≡ answers_to self.now places) }
     {
-        let mut lists = Vec::new(alloc);
-        lists.push(self.answer_part(alloc, points, scans, part)?)?;
-        Ok(lists)
+        let answers = self.answer_part(alloc, points, scans, part)?;
+        Ok(vec![in alloc; answers]?)
     }
 
     // The answers to the points and the scans of a part.

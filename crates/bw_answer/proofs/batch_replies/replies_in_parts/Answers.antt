@@ -22,7 +22,7 @@ answer_parts-requires-clause-scans g c κs within = grouped_scans c.args.batch.n
 
 pub place_lists-requires : goal.place_lists-requires
 place_lists-requires g c =
-    let batch : ReaderView = record { tree = c.args.tree.now; ops = c.ops.result.now; base = c.args.base } in
+    let batch : ReaderView = record { tree = c.args.tree.now; ops = c.ops.result.now; base = c.args.base; homes = c.args.homes.now } in
     let grouping = c.args.batch.now in
     let points = places_of grouping.points in
     let parts = c.in_ok-parts.parts.items in
@@ -37,7 +37,7 @@ place_lists-requires g c =
 
 pub returns : goal.returns
 returns g c =
-    let batch : ReaderView = record { tree = c.args.tree.now; ops = c.ops.result.now; base = c.args.base } in
+    let batch : ReaderView = record { tree = c.args.tree.now; ops = c.ops.result.now; base = c.args.base; homes = c.args.homes.now } in
     let grouping = c.args.batch.now in
     let points = places_of grouping.points in
     let parts = c.in_ok-parts.parts.items in

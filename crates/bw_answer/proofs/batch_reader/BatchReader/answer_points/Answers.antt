@@ -1,11 +1,13 @@
-use Rattle.std.proofs.Common.{◌-◌, take, drop, ap, subst, arith}
+use Rattle.std.proofs.Common.{◌-◌, take, drop, sym, subst, arith}
 use Rattle.std.specs.List.{AllByRecursion}
 use Rattle.bw_tree.specs.Levels.{IsHome, IsOneHome}
-use Rattle.bw_tree.specs.View.{TreeView}
+use Rattle.bw_group.specs.Homes.{HasPageAt, IsPageAt}
 use Rattle.bw_group.specs.Points.{IsEntryOf, entries_of}
-use Rattle.bw_answer.specs.Replies.{ReaderView}
+use Rattle.bw_answer.specs.Replies.{IsReadInTurn, ReaderView}
 use Rattle.bw_group.proofs.Entries.{part_holds, part_rises, part_sorted}
+use Rattle.bw_group.proofs.HomeReads.{pages_listed, run_at_home}
 use Rattle.bw_group.proofs.Lists.{all_same}
+use Rattle.bw_answer.proofs.GroupReads.{first_home}
 use Rattle.bw_answer.proofs.ReplyLemmas.{all_answered, answered_none, part_answered}
 use Rattle.bw_answer.proofs.batch_reader.BatchReader.answer_points.Goals as goal
 
@@ -16,7 +18,21 @@ run_from-page-requires-clause-pages c =
     (pages_listed c.args.self.now.tree c.args.self.now.ops c.args.self.now.homes (subst IsReadInTurn is c.self.invariant).homes (entries_of c.args.points.now) c.requires.points.entries)
 
 pub answer_run-requires-clause-homes : goal.answer_run-requires-clause-homes
-answer_run-requires-clause-homes c = ?
+answer_run-requires-clause-homes c =
+    let batch = c.args.self.now in
+    let page = c.run_from-page.result.0 in
+    let start = c.loop-start.start in
+    let len = c.run_from-page.result.1 - start in
+    let part = entries_of (take len (drop start c.args.points.now)) in
+    let listed = subst (λ (v : ReaderView). AllByRecursion (λ e. IsPageAt v.homes page e.1) part) c.self.view_is c.run_from-page.ensures.page in
+    all_same (λ e. IsOneHome batch.tree.slots batch.tree.levels e.0 page) (λ e. IsHome batch.tree.slots batch.tree.levels e.0 page) (λ e home. home.0) part
+    (run_at_home batch.tree batch.ops batch.homes (subst IsReadInTurn c.self.view_is c.self.invariant).homes page part
+    (part_holds (IsEntryOf batch.ops) c.args.points.now start len c.requires.points.entries) listed)
+
+pub answer_run-requires-clause-leaf : goal.answer_run-requires-clause-leaf
+answer_run-requires-clause-leaf c =
+    let tree = c.args.self.now.tree in
+    first_home tree.slots tree.levels c.run_from-page.result.0 c.args.points.now c.loop-start.start c.run_from-page.result.1 c.run_from-page.ensures.more c.run_from-page.ensures.bound (answer_run-requires-clause-homes c)
 
 pub answer_run-requires-clause-points : goal.answer_run-requires-clause-points
 answer_run-requires-clause-points c =
