@@ -86,9 +86,9 @@ impl Board {
     /// A board over these head words, and its one seat, of width 1,024, which owns no record yet.
     ///
     /// Each head is below `floor`, `floor + records` is at most 2^33, and `piece`, the number of records that a claim takes, is
-    /// from 1 to 4,096. `spares` has for a page a word that may replace its head, below the floor and not that head, or nothing.
-    /// Pages behind its end have none: so an empty list says that no head is replaced, and takes no memory. Costs plain copies
-    /// of heads and spares, and a word for each record. After `Memory` there is no board.
+    /// from 1 to 4,096. `spares` has for each page a word that may replace its head, below the floor and not that head, or
+    /// nothing. Pages behind its end have none, so an empty list says that no head is ever replaced, and takes no memory. Costs
+    /// plain copies of heads and spares, and a word for each record. After `Memory` there is no board.
     pub fn open(
         alloc: Alloc,
         heads: &[u64],

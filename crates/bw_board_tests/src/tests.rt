@@ -132,10 +132,11 @@ fn a_board_without_records(rt: HostRuntime) {
     assert!(rt; closed.links().is_empty() && closed.swapped().is_empty());
 }
 
+// The second page is behind the end of the spares, and has none.
 #[test]
 fn a_word_is_replaced_before_a_post(rt: HostRuntime) {
     let alloc = counted(rt.alloc()).expect(&rt, "memory");
-    let (board, mut seat) = Board::open(alloc, &[FLOOR], FLOOR + 1, 1, 1, &[Some(5)]).expect(
+    let (board, mut seat) = Board::open(alloc, &[FLOOR, 9], FLOOR + 1, 1, 1, &[Some(5)]).expect(
         &rt, "memory",
     );
     assert!(rt; board.replace(&mut seat, 0) == Replaced::Won);
@@ -147,28 +148,8 @@ fn a_word_is_replaced_before_a_post(rt: HostRuntime) {
         panic!(rt; "a second record")
     }
     let closed = board.close(seat).expect(&rt, "memory");
-    assert!(rt; closed.heads() == [FLOOR + 1].as_slice());
+    assert!(rt; closed.heads() == [FLOOR + 1, 9].as_slice());
     assert!(rt; closed.links() == [5].as_slice());
-    assert!(rt; closed.swapped() == [0].as_slice());
-}
-
-#[test]
-fn the_first_page_alone_has_a_spare(rt: HostRuntime) {
-    let alloc = counted(rt.alloc()).expect(&rt, "memory");
-    let (board, mut seat) = Board::open(alloc, &[7, 9], FLOOR, 1, 1, &[Some(5)]).expect(
-        &rt, "memory",
-    );
-    assert!(rt; board.replace(&mut seat, 0) == Replaced::Won);
-    let Some(span) = board.claim(&mut seat) else {
-        panic!(rt; "nothing to claim")
-    };
-    assert!(rt; board.post(&mut seat, span.start, 1).lost == 0);
-    if board.claim(&mut seat).is_some() {
-        panic!(rt; "a second record")
-    }
-    let closed = board.close(seat).expect(&rt, "memory");
-    assert!(rt; closed.heads() == [5, FLOOR].as_slice());
-    assert!(rt; closed.links() == [9].as_slice());
     assert!(rt; closed.swapped() == [0].as_slice());
 }
 
