@@ -9,14 +9,14 @@ use Rattle.atomic_table.proofs.Lists.{at_map}
 use Rattle.std.specs.List.{AllByRecursion}
 use Rattle.std.specs.List.Sorted.{IsStrictlyIncreasing}
 use Rattle.bw_core.specs.declared.BookView.{BookView}
-use Rattle.bw_core.specs.Steps.{CanStart}
-use Rattle.bw_core.proofs.Runs.{start_is_lawful}
 use Rattle.bw_core.proofs.Losses.{losses_bound}
 use Rattle.bw_core.specs.World.{owns, posts_in, spent, seen_at, late, wins_in, IsLast, Meets, total, World, one_if, times, posts_at, IsEnd, LawfulBook, Lawful}
 use Rattle.bw_core.proofs.Lists.{late_other, one_same, one_other, total-append, AllByRecursion-append, AllByRecursion-like, few, meets_low, meets_same, total_at, late_first, total_two}
 use Rattle.bw_core.proofs.Events.{last_low}
+use Rattle.bw_core.proofs.Without.{one_last}
 use Rattle.bw_board.specs.Plays.{Seated}
 use Rattle.bw_board.proofs.Kept.{sane}
+use Rattle.bw_board.proofs.Spares.{CanOpen, opens_lawful}
 use Rattle.bw_board.proofs.Words.{get-left, get-right}
 use Rattle.bw_board.specs.declared.table.Sight.{Sight}
 use Rattle.bw_board.specs.declared.table.Pair.{Pair}
@@ -37,19 +37,19 @@ module _ (first : List ℕ) (floor records piece : ℕ) (spares : List (Option �
   only_sight zero b c e = some-injective b c e
   only_sight (suc i) b c e = absurd (some-ne-none c (sym e))
 
-  pub starts : CanStart first floor records piece spares → (words : List ℕ) → words ≡ 0 ∷ (first ++ replicate records 0) → HasLawfulWorld first floor records piece spares (opening words [] (opening_sight first floor records piece spares))
+  pub starts : CanOpen first floor records piece spares → (words : List ℕ) → words ≡ 0 ∷ (first ++ replicate records 0) → HasLawfulWorld first floor records piece spares (opening words [] (opening_sight first floor records piece spares))
   starts can words are = record {
     next = 0;
     heads = first;
     links = replicate records 0;
     words_are = are;
-    lawful = start_is_lawful first floor records piece spares can;
+    lawful = opens_lawful first floor records piece spares can;
     each_seat = λ i v e l. subst (λ (z : Sight). KnowsBoard first floor records piece spares (replicate records 0) z) (only_sight i (opening_sight first floor records piece spares) v e)
         record { same_first = refl; same_floor = refl; same_records = refl; same_piece = refl; same_spares = refl; armed_link = λ u e a. let d : None ≡ Some u = e in absurd (cc); joined_seen = λ books e. let d : None ≡ Some books = e in absurd (cc) };
   }
 
   -- the first seat is idle
-  pub opening_idle : CanStart first floor records piece spares → (m : Seated) → m ≡ (opening_sight first floor records piece spares, []) → IsIdleSeat m 1024 false
+  pub opening_idle : CanOpen first floor records piece spares → (m : Seated) → m ≡ (opening_sight first floor records piece spares, []) → IsIdleSeat m 1024 false
   opening_idle can m is = let v : Sight = opening_sight first floor records piece spares in
       let words : List ℕ = 0 ∷ (first ++ replicate records 0) in
       subst (λ (z : Seated). IsIdleSeat z 1024 false) (sym is) record {
@@ -228,8 +228,13 @@ not_yet : (n : ℕ) (xs : List ℕ) → AllByRecursion (λ p. p < n) xs → time
 not_yet n [] h = refl
 not_yet n (x ∷ xs) h = let a = not_yet n xs h.1 in let l = h.0 in let o = one_other x n (λ e. omega arith) in omega arith
 
-pub swapped_none : (first : List ℕ) (floor : ℕ) (hs ls : List ℕ) → AreSwapped first floor hs ls 0 []
-swapped_none first floor hs ls = record { rising = λ k h. absurd (omega arith); within = tt; each_page = λ p h. absurd (omega arith) }
+-- no page is swapped whose chain ends in its first word
+pub swapped_nowhere : (first : List ℕ) (floor : ℕ) (hs ls : List ℕ) (n : ℕ) → ((p : ℕ) → p < n → EndsIn floor hs ls p (get_or first p 0)) → AreSwapped first floor hs ls n []
+swapped_nowhere first floor hs ls n each = record {
+  rising = λ k h. absurd (omega arith);
+  within = tt;
+  each_page = λ p h. let e = each p h in record { chain = e.chain; last = get_or first p 0; met = e.met; low = e.low; is_late = sym (late_first (get_or first p 0) (get_or first p 0) refl) };
+}
 
 at_or_below : (p n : ℕ) → p < n + 1 → (p ≡ n) ⊎ (p < n)
 at_or_below p n h = elim (dec_le n p) [ yes d ↦ inl (omega arith) | no d ↦ inr (omega arith) ]
@@ -267,6 +272,14 @@ pub chains_of : (z : SeatView) (hs ls first hs' ls' : List ℕ) (floor : ℕ) �
     → (p : ℕ) → p < length first → HasEnd floor hs' ls' p
 chains_of z hs ls first hs' ls' floor a b c d each p h = let e = each p (subst (λ z. p < length z) a h) in
     subst (λ (k : ℕ × (List ℕ × List ℕ)). HasEnd k.0 k.1.0 k.1.1 p) (λ j. (sym d j, (sym b j, sym c j))) record { chain = e.chain; last = e.last; met = e.met; low = e.low; short = e.short }
+
+-- without a spare each chain ends in its page's first word
+pub first_ends : (z : SeatView) (hs ls first hs' ls' : List ℕ) (floor : ℕ) → first ≡ z.board.first → hs' ≡ hs → ls' ≡ ls → floor ≡ z.board.floor → z.board.spares ≡ [] → ((p : ℕ) → p < length z.board.first → Ended z hs ls p)
+    → (p : ℕ) → p < length first → EndsIn floor hs' ls' p (get_or first p 0)
+first_ends z hs ls first hs' ls' floor a b c d none each p h = let e = each p (subst (λ z. p < length z) a h) in
+    let is : e.last ≡ get_or z.board.first p 0 = one_last z.board.first z.board.spares p e.last (ap (λ k. get_or k p None) none) e.is_last in
+    subst (λ (k : (ℕ × List ℕ) × (List ℕ × List ℕ)). EndsIn k.0.0 k.1.0 k.1.1 p (get_or k.0.1 p 0)) (λ j. ((sym d j, sym a j), (sym b j, sym c j)))
+    record { chain = e.chain; met = subst (λ k. Meets z.board.floor ls (get_or hs p 0) e.chain k) is e.met; low = subst (λ k. k < z.board.floor) is e.low }
 
 pub closes_at : (z : SeatView) (hs ls first hs' ls' sw : List ℕ) (floor : ℕ) → first ≡ z.board.first → hs' ≡ hs → ls' ≡ ls → floor ≡ z.board.floor
     → (length hs ≡ length z.board.first) × (length ls ≡ z.board.records) × ((p : ℕ) → p < length z.board.first → Ended z hs ls p) × ((r : ℕ) → r < z.board.records → posts_in r z.book.posted ≡ 1) → AreSwapped first floor hs' ls' (length first) sw → IsClosed z hs' ls' sw

@@ -24,7 +24,7 @@ pub record BoardView : Type 0 where
   pub records : ℕ
   -- how many records a claim takes
   pub piece : ℕ
-  -- for each page the word that may replace its first one
+  -- for a page the word that may replace its first one; pages behind the end have none
   pub spares : List (Option ℕ)
 
 pub record SeatView : Type 0 where
@@ -63,7 +63,6 @@ pub record IsBoard (board : BoardView) (pages : ℕ) (key origin : Origin) : Typ
   pub no_slots : board.table.slots ≡ 0
   pub records_fit : board.floor + board.records ≤ 2 ^ 33
   pub low : EachIndex board.first (λ p. slice_index board.first p < board.floor)
-  pub spare_each_page : length board.spares ≡ length board.first
 
 -- a seat at this table, by what it knows
 abbrev pub seat_view : TableId → Sight → SeatView

@@ -8,7 +8,7 @@ ghost use Rattle.bw_board.specs.declared.board.Replaced.TheVariants.{Won, Late};
 ghost use Rattle.bw_board.specs.Public.{BoardView, SeatView, board_view, seat_view, IsBoard, IsIdleSeat, Sees, Posts};
 ghost use Rattle.bw_board.specs.Public.{Replaces, seat_after_claim, AllClaimed, OwnsAlone, IsClosed, HasEach, IsSound};
 
-use crate::last_words::{Closed, replaced_pages, words_from};
+use crate::last_words::{Closed, swapped_pages, words_from};
 use crate::plays::{Both, Halve};
 use crate::table::{LawfulTable, Origin, Place, Sight};
 use crate::{chains, steps};
@@ -87,7 +87,8 @@ impl Board {
     ///
     /// Each head is below `floor`, `floor + records` is at most 2^33, and `piece`, the number of records that a claim takes, is
     /// from 1 to 4,096. `spares` has for each page a word that may replace its head, below the floor and not that head, or
-    /// nothing. Costs plain copies of heads and spares, and a word for each record. After `Memory` there is no board.
+    /// nothing. Pages behind its end have none, so an empty list says that no head is ever replaced, and takes no memory. Costs
+    /// plain copies of heads and spares, and a word for each record. After `Memory` there is no board.
     pub fn open(
         alloc: Alloc,
         heads: &[u64],
@@ -100,7 +101,6 @@ impl Board {
         requires fits { floor + records ≤ 2 ^ 33 }
         requires some_piece { 0 < piece }
         requires piece_fits { piece ≤ 4096 }
-        requires spares { length spares.now ≡ length heads.now }
         requires spare_low { (p : ℕ) → (x : ℕ) → slice_index_or spares.now p None ≡ Some x → x < floor }
         requires spare_new { (p : ℕ) → (x : ℕ) → slice_index_or spares.now p None ≡ Some x →
             x ≢ slice_index heads.now p }
@@ -145,8 +145,8 @@ impl Board {
     ///
     /// The seat has every width, was told that no record is left, and posted each record that it claimed: then each record of the
     /// board stands once in the chain of the page to which it was posted, and nothing else stands there. Each chain ends in the
-    /// page's first word, or in its spare where that won. Costs a copy of the words and a walk of all chains. After `Memory` the
-    /// board is gone.
+    /// page's first word, or in its spare where that won. Costs a copy of the words, and a walk of all chains where the list of
+    /// spares isn't empty. After `Memory` the board is gone.
     pub fn close(self, seat: Seat) -> Result<Closed, Memory>
         requires board { seat.board ≡ self }
         requires whole { seat.book.width ≡ 1024 }
@@ -172,12 +172,13 @@ impl Board {
         closed.free();
         let heads = heads?;
         let links = links?;
-        let swapped = replaced_pages(
+        let swapped = swapped_pages(
             alloc,
             origin.heads.as_slice(),
             floor,
             heads.as_slice(),
             links.as_slice(),
+            origin.spares.as_slice(),
         )?;
         Ok(Closed {
             heads,
@@ -370,7 +371,7 @@ impl Board {
             ⊎ (slice_index_or self.now.spares page None ≡ Some (end_at seat.new.book page)) }
     {
         let first = self.origin.heads[page as usize];
-        let Some(spare) = self.origin.spares[page as usize] else {
+        let Some(spare) = self.origin.spares.get(page as usize).copied().flatten() else {
             return Replaced::Late;
         };
         let found = steps::replace(&self.table.shared, &mut seat.place, page, first, spare);

@@ -1,5 +1,5 @@
 //! What a board leaves when it is closed.
-ghost use Rattle.std.specs.Prelude.{◌≡◌, ◌+◌, ◌<◌, ◌≤◌, length, EachIndex, take, drop, IfOk};
+ghost use Rattle.std.specs.Prelude.{◌≡◌, ◌+◌, ◌<◌, ◌≤◌, [], length, slice_index, EachIndex, take, drop, IfOk, IsOkAnd};
 ghost use Rattle.std.specs.Mem.Slots.{slots_items, slots_len, IsFull};
 ghost use Rattle.bw_board.specs.Public.{AreSwapped, ClosedView, HasEnd, EndsIn};
 
@@ -91,8 +91,31 @@ fn last_word(floor: u64, heads: &[u64], links: &[u64], page: u64) -> u64
     word
 }
 
-/// The pages whose chains don't end in the first word, rising.
-pub(crate) fn replaced_pages(
+/// The pages whose chains don't end in the first word, rising. Where no page has a spare there are none: then no chain is
+/// walked, and no memory is taken.
+pub(crate) fn swapped_pages(
+    alloc: Alloc,
+    first: &[u64],
+    floor: u64,
+    heads: &[u64],
+    links: &[u64],
+    spares: &[Option<u64>],
+) -> Result<Vec<u64, Alloc>, Memory>
+    requires pages { length heads.now ≡ length first.now }
+    requires chains { EachIndex first.now (HasEnd floor heads.now links.now) }
+    requires spareless { spares.now ≡ []
+        → EachIndex first.now (λ p. EndsIn floor heads.now links.now p (slice_index first.now p)) }
+    ensures swapped { IfOk result (λ v. AreSwapped first.now floor heads.now links.now (length first.now) v.items) }
+    ensures none { spares.now ≡ [] → IsOkAnd result (λ v. v.items ≡ []) }
+{
+    if spares.is_empty() {
+        return Ok(Vec::new(alloc));
+    }
+    replaced_pages(alloc, first, floor, heads, links)
+}
+
+// The pages whose chains don't end in the first word, rising, by a walk of each chain.
+fn replaced_pages(
     alloc: Alloc,
     first: &[u64],
     floor: u64,

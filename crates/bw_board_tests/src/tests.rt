@@ -33,7 +33,7 @@ fn joined(board: &Board, first: Seat, second: Seat) -> Seat
 #[test]
 fn five_records_are_claimed_by_twos(rt: HostRuntime) {
     let alloc = counted(rt.alloc()).expect(&rt, "memory");
-    let (board, mut seat) = Board::open(alloc, &[7], FLOOR, 5, 2, &[None]).expect(&rt, "memory");
+    let (board, mut seat) = Board::open(alloc, &[7], FLOOR, 5, 2, &[]).expect(&rt, "memory");
     assert!(rt; board.claim(&mut seat) == Some(0..2));
     assert!(rt; board.claim(&mut seat) == Some(2..4));
     assert!(rt; board.claim(&mut seat) == Some(4..5));
@@ -44,7 +44,7 @@ fn five_records_are_claimed_by_twos(rt: HostRuntime) {
 #[test]
 fn a_seat_is_split_ten_times(rt: HostRuntime) {
     let alloc = counted(rt.alloc()).expect(&rt, "memory");
-    let (board, mut seat) = Board::open(alloc, &[7], FLOOR, 5, 2, &[None]).expect(&rt, "memory");
+    let (board, mut seat) = Board::open(alloc, &[7], FLOOR, 5, 2, &[]).expect(&rt, "memory");
     for time in 0..10 {
         match board.split(seat) {
             Ok((left, _right)) => seat = left,
@@ -57,7 +57,7 @@ fn a_seat_is_split_ten_times(rt: HostRuntime) {
 #[test]
 fn two_seats_post_one_after_the_other(rt: HostRuntime) {
     let alloc = counted(rt.alloc()).expect(&rt, "memory");
-    let (board, seat) = Board::open(alloc, &[7], FLOOR, 2, 1, &[None]).expect(&rt, "memory");
+    let (board, seat) = Board::open(alloc, &[7], FLOOR, 2, 1, &[]).expect(&rt, "memory");
     let Ok((mut first, mut second)) = board.split(seat) else {
         panic!(rt; "not split")
     };
@@ -88,7 +88,7 @@ fn two_seats_post_one_after_the_other(rt: HostRuntime) {
 #[test]
 fn a_seat_that_looked_posts_after_another(rt: HostRuntime) {
     let alloc = counted(rt.alloc()).expect(&rt, "memory");
-    let (board, seat) = Board::open(alloc, &[7], FLOOR, 2, 1, &[None]).expect(&rt, "memory");
+    let (board, seat) = Board::open(alloc, &[7], FLOOR, 2, 1, &[]).expect(&rt, "memory");
     let Ok((mut first, mut second)) = board.split(seat) else {
         panic!(rt; "not split")
     };
@@ -132,10 +132,11 @@ fn a_board_without_records(rt: HostRuntime) {
     assert!(rt; closed.links().is_empty() && closed.swapped().is_empty());
 }
 
+// The second page is behind the end of the spares, and has none.
 #[test]
 fn a_word_is_replaced_before_a_post(rt: HostRuntime) {
     let alloc = counted(rt.alloc()).expect(&rt, "memory");
-    let (board, mut seat) = Board::open(alloc, &[FLOOR], FLOOR + 1, 1, 1, &[Some(5)]).expect(
+    let (board, mut seat) = Board::open(alloc, &[FLOOR, 9], FLOOR + 1, 1, 1, &[Some(5)]).expect(
         &rt, "memory",
     );
     assert!(rt; board.replace(&mut seat, 0) == Replaced::Won);
@@ -147,7 +148,7 @@ fn a_word_is_replaced_before_a_post(rt: HostRuntime) {
         panic!(rt; "a second record")
     }
     let closed = board.close(seat).expect(&rt, "memory");
-    assert!(rt; closed.heads() == [FLOOR + 1].as_slice());
+    assert!(rt; closed.heads() == [FLOOR + 1, 9].as_slice());
     assert!(rt; closed.links() == [5].as_slice());
     assert!(rt; closed.swapped() == [0].as_slice());
 }
@@ -176,17 +177,27 @@ fn a_replacement_comes_late(rt: HostRuntime) {
 #[derive(Clone, Copy, PartialEq, Eq)]
 enum Call {
     Open,
+    OpenWithoutSpares,
     Peek,
     Close,
+}
+
+// Opens a board, with a spare or without, in which one growth is refused. Answers whether it was.
+fn is_open_refused(rt: &impl Abort, alloc: Alloc, growth: u64, has_spare: bool) -> bool {
+    alloc.refuse(growth);
+    let is_err = if has_spare {
+        Board::open(alloc, &[7], FLOOR, 1, 1, &[Some(5)]).is_err()
+    } else {
+        Board::open(alloc, &[7], FLOOR, 1, 1, &[]).is_err()
+    };
+    has_come(rt, alloc, growth, is_err)
 }
 
 // Opens a board, posts its one record over a spare and closes it, up to this call, in which one growth is refused. Answers
 // whether it was.
 fn is_refused(rt: &impl Abort, alloc: Alloc, growth: u64, call: Call) -> bool {
-    if call == Call::Open {
-        alloc.refuse(growth);
-        let opened = Board::open(alloc, &[7], FLOOR, 1, 1, &[Some(5)]);
-        return has_come(rt, alloc, growth, opened.is_err());
+    if call == Call::Open || call == Call::OpenWithoutSpares {
+        return is_open_refused(rt, alloc, growth, call == Call::Open);
     }
     let (board, mut seat) = Board::open(alloc, &[7], FLOOR, 1, 1, &[Some(5)]).expect(rt, "memory");
     assert!(rt; board.replace(&mut seat, 0) == Replaced::Won);
@@ -231,7 +242,9 @@ fn count_refused(rt: &impl Abort, alloc: Alloc, call: Call) -> u64 {
 #[test]
 fn each_growth_is_refused_in_turn(rt: HostRuntime) {
     let alloc = counted(rt.alloc()).expect(&rt, "memory");
-    assert!(rt; count_refused(&rt, alloc, Call::Open) > 2);
+    let opened = count_refused(&rt, alloc, Call::Open);
+    assert!(rt; opened > 2);
+    assert!(rt; count_refused(&rt, alloc, Call::OpenWithoutSpares) == opened - 1);
     assert!(rt; count_refused(&rt, alloc, Call::Peek) == 1);
     assert!(rt; count_refused(&rt, alloc, Call::Close) == 3);
 }

@@ -1,5 +1,5 @@
 //! Boards with many seats, records and pages.
-ghost use Rattle.std.specs.Prelude.{◌≡◌, ◌≤◌, ◌<◌, ◌+◌, ℕ, true, false, length, replicate, None, IfOk};
+ghost use Rattle.std.specs.Prelude.{◌≡◌, ◌≤◌, ◌<◌, ◌+◌, ℕ, true, false, length, replicate, IfOk};
 ghost use Rattle.bw_core.specs.World.{owns};
 ghost use Rattle.bw_board.specs.Working.{HasPostedAll, HasLeft, SameWork};
 
@@ -98,7 +98,7 @@ fn chain_length(rt: &impl Abort, board: &Board, seat: &mut Seat, page: u64) -> u
 #[test]
 fn sixty_four_seats_post_to_one_page(rt: HostRuntime) {
     let alloc = counted(rt.alloc()).expect(&rt, "memory");
-    let (board, seat) = Board::open(alloc, &[7], FLOOR, 128, 1, &[None]).expect(&rt, "memory");
+    let (board, seat) = Board::open(alloc, &[7], FLOOR, 128, 1, &[]).expect(&rt, "memory");
     let seat = post_by_parts(&rt, &board, seat, 1, 6);
     let mut seat = post_rest(&rt, &board, seat, 1, 64);
     assert!(rt; chain_length(&rt, &board, &mut seat, 0) == 128);
@@ -111,9 +111,7 @@ fn sixty_four_seats_post_to_one_page(rt: HostRuntime) {
 fn a_million_records_are_posted(rt: HostRuntime) {
     let alloc = counted(rt.alloc()).expect(&rt, "memory");
     let records = 1_000_000;
-    let (board, seat) = Board::open(alloc, &[7], FLOOR, records, 4096, &[None]).expect(
-        &rt, "memory",
-    );
+    let (board, seat) = Board::open(alloc, &[7], FLOOR, records, 4096, &[]).expect(&rt, "memory");
     let used = alloc.used();
     let mut seat = post_rest(&rt, &board, seat, 1, records.div_ceil(4096));
     assert!(rt; alloc.used() == used);
@@ -129,23 +127,14 @@ fn same_words(alloc: Alloc, pages: usize) -> Result<Vec<u64, Alloc>, AllocError>
     vec![in alloc; 7; pages]
 }
 
-fn no_spares(alloc: Alloc, pages: usize) -> Result<Vec<Option<u64>, Alloc>, AllocError>
-    ensures { IfOk result (λ v. v.items ≡ replicate pages None) }
-{
-    vec![in alloc; None; pages]
-}
-
 // Opens a board with so many pages, and posts two records to each.
 fn post_to_many(rt: &impl Abort, alloc: Alloc, pages: usize)
     requires some { 0 < pages }
     requires few { pages ≤ 100000 }
 {
     let heads = same_words(alloc, pages).expect(rt, "memory");
-    let spares = no_spares(alloc, pages).expect(rt, "memory");
     let records = 200_000;
-    let (board, seat) = Board::open(alloc, &heads, FLOOR, records, 4096, &spares).expect(
-        rt, "memory",
-    );
+    let (board, seat) = Board::open(alloc, &heads, FLOOR, records, 4096, &[]).expect(rt, "memory");
     let mut seat = post_rest(rt, &board, seat, pages as u64, records.div_ceil(4096));
     assert!(rt; chain_length(rt, &board, &mut seat, pages as u64 - 1) == 2);
     let closed = board.close(seat).expect(rt, "memory");

@@ -398,7 +398,7 @@ fn lost_by(diaries: &[Diary]) -> u64 {
 #[test]
 fn two_threads_post_to_one_page(rt: HostRuntime) {
     let alloc = counted(rt.alloc()).expect(&rt, "memory");
-    let (board, seat) = Board::open(alloc, &[7], FLOOR, RECORDS, 1, &[None]).expect(&rt, "memory");
+    let (board, seat) = Board::open(alloc, &[7], FLOOR, RECORDS, 1, &[]).expect(&rt, "memory");
     let (seat, one, two) = post_by_two(&rt, alloc, &Gate::new(2), &board, seat, 1);
     let closed = board.close(seat).expect(&rt, "memory");
     assert!(rt; closed.swapped().is_empty());

@@ -4,11 +4,11 @@ use Rattle.bw_core.specs.World.{owns, posts_in}
 use Rattle.bw_core.specs.declared.BookView.{BookView}
 use Rattle.bw_board.specs.declared.table.Sight.{Sight}
 use Rattle.bw_board.specs.Public.{AreSwapped, IsClosed}
-use Rattle.bw_board.proofs.Ends.{ends, ends_each, chains_of, closes_at}
+use Rattle.bw_board.proofs.Ends.{ends, ends_each, chains_of, first_ends, closes_at}
 use Rattle.bw_board.proofs.board.Board.close.Goals as goal
 
-pub replaced_pages-requires-clause-chains : goal.replaced_pages-requires-clause-chains
-replaced_pages-requires-clause-chains c = let v : Sight = c.seat.inside.place.me.0 in let key = c.self.inside.table.shared.key in let i = c.self.invariant in
+pub swapped_pages-requires : goal.swapped_pages-requires
+swapped_pages-requires c = let v : Sight = c.seat.inside.place.me.0 in let key = c.self.inside.table.shared.key in let i = c.self.invariant in
     let same = c.requires.board ∙ sym c.self.view_is in let book : v.book ≡ c.args.seat.book = ap (λ z. z.book) c.seat.view_is in
     let ws : List ℕ = slots_items c.close_with-closed.result.words in
     let t = ends key.heads.items key.floor key.records key.piece key.spares.items c.seat.inside.place.id c.self.inside.pages v ws _ c.args.seat c.close_with-closed.ensures.values.2 c.seat.invariant.live i.pages_are
@@ -22,7 +22,11 @@ replaced_pages-requires-clause-chains c = let v : Sight = c.seat.inside.place.me
     let first : c.as_slice.result.now ≡ c.args.seat.board.first = c.as_slice.ensures.value ∙ (i.same_heads ∙ sym (ap (λ z. z.first) same)) in
     let floor : c.self.inside.floor ≡ c.args.seat.board.floor = sym (ap (λ z. z.floor) same) in
     let hs_is : c.as_slice-2.result.now ≡ hs = c.as_slice-2.ensures.value ∙ heads in let ls_is : c.as_slice-3.result.now ≡ ls = c.as_slice-3.ensures.value ∙ links in
-    chains_of c.args.seat hs ls c.as_slice.result.now c.as_slice-2.result.now c.as_slice-3.result.now c.self.inside.floor first hs_is ls_is floor t.2
+    let spares : c.as_slice-4.result.now ≡ c.args.seat.board.spares = c.as_slice-4.ensures.value ∙ (i.same_spares ∙ sym (ap (λ z. z.spares) same)) in record {
+      pages = ap length hs_is ∙ (t.0 ∙ sym (ap length first));
+      chains = chains_of c.args.seat hs ls c.as_slice.result.now c.as_slice-2.result.now c.as_slice-3.result.now c.self.inside.floor first hs_is ls_is floor t.2;
+      spareless = λ e. first_ends c.args.seat hs ls c.as_slice.result.now c.as_slice-2.result.now c.as_slice-3.result.now c.self.inside.floor first hs_is ls_is floor (sym spares ∙ e) t.2;
+    }
 
 pub returns : goal.returns
 returns c = let v : Sight = c.seat.inside.place.me.0 in let key = c.self.inside.table.shared.key in let i = c.self.invariant in
