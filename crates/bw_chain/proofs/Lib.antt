@@ -14,3 +14,4 @@ pub mod EndLemmas
 pub mod MarkLemmas
 pub mod SearchLemmas
 pub mod PageScanLemmas
+pub mod LeafChainLemmas

@@ -1,5 +1,5 @@
 -- The pairs of a leaf's chain as of a stamp.
-use Rattle.std.proofs.Common.{◌≡◌, ℕ, ◌<◌, Bool, true, false, cond, not, ◌&&◌, T, List, [], ◌∷◌, ◌++◌, length, Option, Some, None, Result, Ok, Err, IfOk, refl, sym, ap, ◌∙◌, subst}
+use Rattle.std.proofs.Common.{◌≡◌, ℕ, ◌<◌, Bool, true, false, cond, not, ◌&&◌, T, List, [], ◌∷◌, ◌++◌, length, Option, Some, None, refl, sym, ap, ◌∙◌, subst}
 use Rattle.std.specs.Borrow.{Bor}
 use Rattle.std.specs.Option.{option_or}
 use Rattle.std.specs.Ordering.{is_lt}
@@ -24,13 +24,14 @@ use Rattle.bw_chain.specs.Chains.{Bases, Records, Ends, record_at, link_of, chan
 use Rattle.bw_chain.specs.Turns.{slot_without_writes, over, plain_at, IsNoWrite}
 use Rattle.bw_chain.specs.Reading.{EndsAbove, base_of, writes_over, value_in}
 use Rattle.bw_chain.specs.Scans.{IsLeafReplay, ArePairsOn, high_of}
-use Rattle.bw_chain.proofs.ChainLemmas.{Below, under}
+use Rattle.bw_chain.proofs.ChainLemmas.{Below, under, bare_put}
 use Rattle.bw_chain.proofs.ReadingLemmas.{leaf_put, writes_put, base_through}
 
 -- what a loop that collects all writes has when it has passed one
 pub record PassedWrite (bases : Bases) (records : Records) (word under_it : ℕ) (w : WriteView) : Type 0 where
   pub ends : Ends bases records under_it
   pub leaf : is_leaf (slot_of_word bases records under_it) ≡ true
+  pub same : slot_without_writes (slot_of_word bases records word) ≡ slot_without_writes (slot_of_word bases records under_it)
   pub writes : writes_over (slot_of_word bases records word) ≡ w ∷ writes_over (slot_of_word bases records under_it)
   pub less : length (walked (link_of records) (length records) under_it) < length (walked (link_of records) (length records) word)
 
@@ -43,6 +44,7 @@ passed_write bases records word under_it d w ends leaf at put =
     record {
       ends = subst (λ d. Below bases records d under_it) put u.ends;
       leaf = leaf_under;
+      same = ap slot_without_writes state ∙ bare_put bases w below;
       writes = ap writes_over state ∙ writes_put bases w below leaf_under;
       less = u.less;
     }
@@ -118,12 +120,6 @@ pairs_on slot leaf writes low high end stamp pairs all ends base so = record {
     at key true true false e = refl
     at key true false false e = refl
 
-pub pairs_on_ok : {E : Type 0} (slot : Slot) (leaf : LeafView ValueBytes) (writes : List WriteView) (low : KeyBytes) (high end : Option KeyBytes) (stamp : ℕ) (r : Result (List (KeyBytes × ValueBytes)) E) → writes ≡ writes_over slot →
-    ((key : KeyBytes) → is_below_end end key ≡ (is_below_end (high_of slot) key && is_below_end high key)) → ((key : KeyBytes) → EndsAbove slot key → base_of slot key ≡ find key_cmp key leaf.pairs) →
-    IfOk r (ArePairsAsOf (leaf ∷ []) low end writes stamp) → IfOk r (ArePairsOn slot low high stamp)
-pairs_on_ok slot leaf writes low high end stamp (Ok pairs) all ends base so = pairs_on slot leaf writes low high end stamp pairs all ends base so
-pairs_on_ok slot leaf writes low high end stamp (Err e) all ends base so = so
-
 -- the base leaf under all writes is replayed as the page
 pub replayed_leaf : (slot : Slot) (leaf : LeafView ValueBytes) (writes : List WriteView) (end : Option KeyBytes) (replay : ReplayView) → writes ≡ writes_over slot → end ≡ high_of slot →
     ((key : KeyBytes) → EndsAbove slot key → base_of slot key ≡ find key_cmp key leaf.pairs) → IsReplayOf (value_in_parts (leaf ∷ [])) end writes replay → IsLeafReplay slot replay
@@ -138,11 +134,6 @@ replayed_leaf slot leaf writes end replay all ends base so = record {
     holds : (b : Bool) → T b → b ≡ true
     holds true t = refl
     holds false t = absurd t
-
-pub replayed_leaf_ok : {E : Type 0} (slot : Slot) (leaf : LeafView ValueBytes) (writes : List WriteView) (end : Option KeyBytes) (r : Result ReplayView E) → writes ≡ writes_over slot → end ≡ high_of slot →
-    ((key : KeyBytes) → EndsAbove slot key → base_of slot key ≡ find key_cmp key leaf.pairs) → IfOk r (IsReplayOf (value_in_parts (leaf ∷ [])) end writes) → IfOk r (IsLeafReplay slot)
-replayed_leaf_ok slot leaf writes end (Ok replay) all ends base so = replayed_leaf slot leaf writes end replay all ends base so
-replayed_leaf_ok slot leaf writes end (Err e) all ends base so = so
 
 -- what lies under the writes of a chain over a base leaf
 pub base_on : (bases : Bases) (slot : Slot) (o : Option (Bor Delta)) (page : Option (Bor Page)) (b : Bor Page) (leaf : LeafView ValueBytes) → page ≡ Some b → b.now ≡ LeafPage leaf → slot_without_writes slot ≡ slot_without_writes (over bases o (plain_at page)) → IsNoWrite o →

@@ -6,6 +6,7 @@ use Rattle.std.specs.Ordering.{is_lt}
 use Rattle.std.specs.FinMap.{find}
 use Rattle.std.specs.FinMap.Entries.{find-where_key}
 use Rattle.bw_key.specs.Order.{KeyBytes, key_cmp, key_eq}
+use Rattle.bw_model.specs.Values.{ValueBytes}
 use Rattle.bw_page.proofs.KeyLemmas.{keys_tie}
 use Rattle.bw_page.specs.declared.pages.Page.{Page}
 use Rattle.bw_page.specs.declared.pages.Page.TheVariants.{Leaf as LeafPage, Inner as InnerPage, Gone as GonePage}
@@ -18,7 +19,7 @@ use Rattle.bw_chain.specs.Slots.{Slot, slot_at, Body, Pairs, Children, Free, Gon
 use Rattle.bw_chain.specs.Walk.{walked}
 use Rattle.bw_chain.specs.Chains.{Bases, Records, Ends, record_at, link_of, change, body_written, body_below, based, slot_of_word}
 use Rattle.bw_chain.specs.Turns.{slot_without_writes, body_without_writes, over, plain_at, IsNoWrite, IsOther}
-use Rattle.bw_chain.specs.Reading.{EndsAbove, base_of, body_pairs, writes_over, body_writes}
+use Rattle.bw_chain.specs.Reading.{EndsAbove, HasPairsUnder, base_of, body_pairs, writes_over, body_writes}
 use Rattle.bw_chain.proofs.ChainLemmas.{Below, under, under_other, on_base}
 
 pub leaf_put : (bases : Bases) (w : WriteView) (slot : Slot) → is_leaf (change bases (Put w) slot) ≡ is_leaf slot
@@ -148,24 +149,33 @@ nil_right (x ∷ l) = ap (λ (m : List WriteView). x ∷ m) (nil_right l)
 pub found_all : (found : List (Bor WriteView)) (key : KeyBytes) (here all : List WriteView) → here ≡ [] → pointed_to found ++ writes_to key here ≡ all → pointed_to found ≡ all
 found_all found key here all nothing so_far = sym (nil_right (pointed_to found)) ∙ sym (ap (λ (l : List WriteView). pointed_to found ++ writes_to key l) nothing) ∙ so_far
 
+ends_bare : (slot : Slot) (key : KeyBytes) → EndsAbove slot key → EndsAbove (slot_without_writes slot) key
+ends_bare Free key h = h
+ends_bare (Gone l) key h = h
+ends_bare (Live s) key h = h
+
+ends_back : (slot : Slot) (key : KeyBytes) → EndsAbove (slot_without_writes slot) key → EndsAbove slot key
+ends_back Free key h = h
+ends_back (Gone l) key h = h
+ends_back (Live s) key h = h
+
+-- pages that are alike but for the writes end alike
+ends_alike : (slot other : Slot) (key : KeyBytes) → slot_without_writes slot ≡ slot_without_writes other → EndsAbove slot key → EndsAbove other key
+ends_alike slot other key same above = ends_back other key (subst (λ (s : Slot). EndsAbove s key) same (ends_bare slot key above))
+
+-- and have the same value under them
+value_alike : (slot other : Slot) (key : KeyBytes) → slot_without_writes slot ≡ slot_without_writes other → base_of slot key ≡ base_of other key
+value_alike slot other key same = sym (base_bare slot key) ∙ ap (λ (s : Slot). base_of s key) same ∙ base_bare other key
+
+-- so pairs that are under the writes of one are under those of the other
+pub base_alike : (slot other : Slot) (pairs : List (KeyBytes × ValueBytes)) → slot_without_writes slot ≡ slot_without_writes other → HasPairsUnder other pairs → HasPairsUnder slot pairs
+base_alike slot other pairs same values = λ key above. value_alike slot other key same ∙ values key (ends_alike slot other key same above)
+
 -- the value under a chain's writes, from its base page
 pub base_through : (bases : Bases) (slot : Slot) (o : Option (Bor Delta)) (page : Option (Bor Page)) (key : KeyBytes) → slot_without_writes slot ≡ slot_without_writes (over bases o (plain_at page)) → IsNoWrite o → EndsAbove slot key → base_of slot key ≡ base_of (plain_at page) key
 base_through bases slot o page key same other above =
-    sym (base_bare slot key) ∙ ap (λ (s : Slot). base_of s key) same ∙ base_bare (over bases o (plain_at page)) key ∙ by o other (there above)
+    value_alike slot (over bases o (plain_at page)) key same ∙ by o other (ends_alike slot (over bases o (plain_at page)) key same above)
   where
-    ends_bare : (a : Slot) → EndsAbove a key → EndsAbove (slot_without_writes a) key
-    ends_bare Free h = h
-    ends_bare (Gone l) h = h
-    ends_bare (Live s) h = h
-
-    ends_back : (a : Slot) → EndsAbove (slot_without_writes a) key → EndsAbove a key
-    ends_back Free h = h
-    ends_back (Gone l) h = h
-    ends_back (Live s) h = h
-
-    there : EndsAbove slot key → EndsAbove (over bases o (plain_at page)) key
-    there h = ends_back (over bases o (plain_at page)) (subst (λ (s : Slot). EndsAbove s key) same (ends_bare slot h))
-
     by : (o : Option (Bor Delta)) → IsNoWrite o → EndsAbove (over bases o (plain_at page)) key → base_of (over bases o (plain_at page)) key ≡ base_of (plain_at page) key
     by None other h = refl
     by (Some d) other h = at d.now other h

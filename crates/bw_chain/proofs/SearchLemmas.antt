@@ -7,7 +7,7 @@ use Rattle.bw_page.proofs.KeyLemmas.{below_upto}
 use Rattle.bw_chain.specs.declared.turn.Turn.TheVariants.{Here, Right, Down, Left}
 use Rattle.bw_chain.specs.declared.target.Target.{Target}
 use Rattle.bw_chain.specs.Slots.{Slot, PageState, Body, Pairs, Children, Free, Gone, Live, slot_at, IsSoundBody}
-use Rattle.bw_chain.specs.Levels.{AreLevels, IsHome, row}
+use Rattle.bw_chain.specs.Levels.{AreLevels, row}
 use Rattle.bw_chain.specs.Scans.{Reaches}
 use Rattle.bw_chain.specs.Before.{IsBefore}
 use Rattle.bw_chain.specs.Targets.{AreAtHome, IsLinked, IsTurnFor, StandsFor, StandsOn, StandsOnAll, StartsFrom, lies_from, lies_past}

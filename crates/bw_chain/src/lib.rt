@@ -7,6 +7,7 @@
 mod chains;
 mod ends;
 mod laws;
+mod leaf_chain;
 mod reading;
 mod records;
 mod target;
@@ -15,6 +16,7 @@ mod turn;
 pub use chains::{Chains, FLOOR};
 pub use ends::{lower_end, reaches};
 pub use laws::{home_is_one, levels_are_found, way_is_one};
+pub use leaf_chain::LeafChain;
 pub use target::Target;
 pub use turn::Turn;
 

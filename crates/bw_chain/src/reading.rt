@@ -2,20 +2,21 @@
 ghost use Rattle.std.specs.Prelude.{◌≡◌, true, IfOk};
 ghost use Rattle.std.specs.Option.{option_copied};
 ghost use Rattle.bw_delta.specs.Batches.{writes_to};
-ghost use Rattle.bw_delta.specs.History.{pointed_to, HasDistinctStamps};
+ghost use Rattle.bw_delta.specs.History.{pointed_to};
 ghost use Rattle.bw_chain.specs.Slots.{is_leaf, side_of_slot};
 ghost use Rattle.bw_chain.specs.Reading.{EndsAbove, HasPairsUnder, base_of, writes_on};
 ghost use Rattle.bw_chain.specs.Chains.{IsChain, page_at};
-ghost use Rattle.bw_chain.specs.Scans.{ArePairsOn, EndsLeaf, IsLeafReplay, high_of};
+ghost use Rattle.bw_chain.specs.LeafChains.{IsLeafChain, LeadsToSame};
+ghost use Rattle.bw_chain.specs.Scans.{EndsLeaf, high_of};
 ghost use Rattle.bw_chain.specs.Before.{low_of};
 ghost use Rattle.bw_chain.specs.Turns.{IsOther};
 
 use crate::chains::Chains;
-use crate::ends::lower_end;
-use bw_delta::{Delta, Replay, Write, leaf_as_of};
+use crate::leaf_chain::LeafChain;
+use bw_delta::{Delta, Write};
 use bw_key::{Key, Memory};
 use bw_memory::Alloc;
-use bw_model::{Pairs, Value};
+use bw_model::Value;
 use bw_page::{Leaf, Page, PageId};
 
 impl Chains {
@@ -64,16 +65,43 @@ impl Chains {
         requires leaf { is_leaf (page_at self.now head) ≡ true }
         ensures { IfOk result (λ found. pointed_to found.items ≡ writes_on self.now head) }
     {
+        Ok(self.walk(alloc, head)?.0)
+    }
+
+    /// All that is read of a leaf, by one walk along its chain. Memory is taken for the list of the writes alone, and none
+    /// where there are none. `Memory` is answered where the list finds none.
+    pub fn leaf(&self, alloc: Alloc, head: u64) -> Result<LeafChain<'_>, Memory>
+        requires ends { IsChain self.now head }
+        requires leaf { is_leaf (page_at self.now head) ≡ true }
+        ensures { IfOk result (IsLeafChain (page_at self.now head)) }
+    {
+        let (writes, word) = self.walk(alloc, head)?;
+        let (end, side) = self.end(word);
+        Ok(LeafChain {
+            writes,
+            base: self.base_leaf(word),
+            end,
+            side,
+        })
+    }
+
+    // The writes of a leaf's chain, the newest first, and the word of what lies under them.
+    fn walk(&self, alloc: Alloc, head: u64) -> Result<(Vec<&Write, Alloc>, u64), Memory>
+        requires ends { IsChain self.now head }
+        requires leaf { is_leaf (page_at self.now head) ≡ true }
+        ensures writes { IfOk result (λ walked. pointed_to walked.0.items ≡ writes_on self.now head) }
+        ensures under { IfOk result (λ walked. LeadsToSame self.now head walked.1) }
+    {
         let mut found = Vec::new(alloc);
         let mut word = head;
         while let Some((delta, under)) = self.record(word) {
             match delta {
                 Delta::Put(write) => found.push(write)?,
-                _ => return Ok(found),
+                _ => return Ok((found, word)),
             }
             word = under;
         }
-        Ok(found)
+        Ok((found, word))
     }
 
     /// Where a leaf's range ends, and its right neighbour.
@@ -88,48 +116,6 @@ impl Chains {
             (None, Some(Page::Leaf(leaf))) => (leaf.high(), leaf.side()),
             (None, _) => unreachable!(),
         }
-    }
-
-    /// The pairs of a leaf as of a stamp, from a key on and below another: those of its base page, under the writes
-    /// of its chain.
-    pub fn pairs_as_of(
-        &self,
-        alloc: Alloc,
-        head: u64,
-        low: &Key,
-        high: Option<&Key>,
-        stamp: u64,
-    ) -> Result<Pairs, Memory>
-        requires ends { IsChain self.now head }
-        requires leaf { is_leaf (page_at self.now head) ≡ true }
-        requires distinct { HasDistinctStamps (writes_on self.now head) }
-        ensures { IfOk result (ArePairsOn (page_at self.now head) low.now (option_copied high.entry) stamp) }
-    {
-        let writes = self.writes(alloc, head)?;
-        let end = lower_end(self.end(head).0, high);
-        leaf_as_of(alloc, &[self.base_leaf(head)], low, end, &writes, stamp)
-    }
-
-    /// The pairs of a leaf as of stamp 0, which go on to later stamps: those of its base page, under the writes of its
-    /// chain.
-    pub fn replay(&self, alloc: Alloc, head: u64) -> Result<Replay<'_>, Memory>
-        requires ends { IsChain self.now head }
-        requires leaf { is_leaf (page_at self.now head) ≡ true }
-        requires distinct { HasDistinctStamps (writes_on self.now head) }
-        ensures stamp { IfOk result (λ replay. replay.stamp ≡ 0) }
-        ensures replay { IfOk result (IsLeafReplay (page_at self.now head)) }
-    {
-        let writes = self.writes(alloc, head)?;
-        Replay::new(alloc, &[self.base_leaf(head)], self.end(head).0, &writes)
-    }
-
-    /// Where a leaf's range begins.
-    pub fn low(&self, head: u64) -> &Key
-        requires ends { IsChain self.now head }
-        requires leaf { is_leaf (page_at self.now head) ≡ true }
-        ensures { result.now ≡ low_of (page_at self.now head) }
-    {
-        self.base_leaf(head).low()
     }
 
     /// The base page under a leaf's chain.

@@ -288,16 +288,13 @@ module _ (tree : TreeView) (root : ℕ) (lawful : AreLevels tree.slots root tree
       ∙ all_of_those (has_key slot) (is_in_range (low_of slot) (high_of slot)) (λ k inside. subst (λ (o : Slot). is_in_range (low_of o) (high_of o) k ≡ true → has_key o k ≡ true) (sym st.is) (λ e. e) inside)
       (entries (contents_at tree tree.next))
 
-  pub folded_parts : HasDistinctStamps (row_writes tree.slots (row tree.levels 0)) → (p stamp : ℕ) (slot : Slot) (from : KeyBytes) (to : Option KeyBytes) (low : KeyBytes) (high : Option KeyBytes) (pairs : List (KeyBytes × ValueBytes)) → Contains (row tree.levels 0) p →
-      stamp ≡ tree.next → slot_at tree.slots p ≡ slot → from ≡ low_of slot → to ≡ high_of slot → low ≡ from → high ≡ to → ArePairsOn slot from to stamp pairs → AreParts tree p low high pairs
-  folded_parts distinct p stamp slot from to low high pairs has now is lows highs low_copied high_copied so =
-      let from_low = lows ∙ sym (ap low_of is) in
-      let to_high = highs ∙ sym (ap high_of is) in
-      record {
-        from_low = low_copied ∙ from_low;
-        to_high = high_copied ∙ to_high;
-        all = folded_here p stamp from to pairs distinct has now from_low to_high (subst (λ (o : Slot). ArePairsOn o from to stamp pairs) (sym is) so);
-      }
+  pub folded_parts : HasDistinctStamps (row_writes tree.slots (row tree.levels 0)) → (p stamp : ℕ) (from : KeyBytes) (to : Option KeyBytes) (low : KeyBytes) (high : Option KeyBytes) (pairs : List (KeyBytes × ValueBytes)) → Contains (row tree.levels 0) p →
+      stamp ≡ tree.next → from ≡ low_of (slot_at tree.slots p) → to ≡ high_of (slot_at tree.slots p) → low ≡ from → high ≡ to → ArePairsOn (slot_at tree.slots p) from to stamp pairs → AreParts tree p low high pairs
+  folded_parts distinct p stamp from to low high pairs has now from_low to_high low_copied high_copied so = record {
+    from_low = low_copied ∙ from_low;
+    to_high = high_copied ∙ to_high;
+    all = folded_here p stamp from to pairs distinct has now from_low to_high so;
+  }
 
   pub parts_rules : (p : ℕ) (side : Option ℕ) (low : KeyBytes) (high : Option KeyBytes) (pairs : List (KeyBytes × ValueBytes)) → Contains (row tree.levels 0) p → is_some side ≡ is_some (side_of tree.slots p) → AreParts tree p low high pairs → IsPage low high side pairs
   parts_rules p side low high pairs has linked parts =

@@ -1,16 +1,18 @@
 -- A leaf of a tree, from its mapping word, and what a scan makes of it.
-use Rattle.std.proofs.Common.{◌≡◌, ℕ, ◌<◌, Bool, true, false, T, List, length, get_or, Option, Some, None, MatchOption, refl, sym, ap, ◌∙◌, subst, arith}
+use Rattle.std.proofs.Common.{◌≡◌, ℕ, ◌<◌, Bool, true, false, T, List, length, get_or, Option, Some, None, MatchOption, Result, Ok, Err, IfOk, refl, sym, ap, ◌∙◌, subst, arith}
 use Rattle.std.proofs.lemmas.List.{length-map}
 use Rattle.std.specs.List.{Contains}
 use Rattle.bw_key.specs.Order.{KeyBytes}
 use Rattle.bw_model.specs.Contents.{is_below_end}
 use Rattle.bw_delta.specs.History.{HasDistinctStamps}
 use Rattle.bw_chain.specs.Slots.{Slot, slot_at, is_leaf, side_of_slot}
+use Rattle.bw_chain.specs.declared.leaf_chain.LeafChain.{LeafChain}
+use Rattle.bw_chain.specs.LeafChains.{IsLeafChain}
 use Rattle.bw_chain.specs.Levels.{AreLevels, row}
 use Rattle.bw_chain.specs.Reading.{writes_over, row_writes}
 use Rattle.bw_chain.specs.Scans.{Reaches, high_of}
 use Rattle.bw_chain.specs.Chains.{Bases, Records, Ends, slot_of_word, slots_of}
-use Rattle.bw_tree.specs.View.{TreeView}
+use Rattle.bw_tree.specs.View.{ArePairsUnder, TreeView}
 use Rattle.bw_tree.specs.Trees.{IsStanding, StageWords, view_of}
 use Rattle.bw_chain.proofs.RowLemmas.{InRow}
 use Rattle.bw_chain.proofs.RouteLemmas.{home_leaf}
@@ -48,6 +50,11 @@ side_or_end slots root levels lawful p None to has e = by (leaf_in_row slots roo
         from : (h : Option KeyBytes) → at.high ≡ h → Reaches (high_of (slot_at slots p)) to
         from None none = λ key below. subst (λ (o : Option KeyBytes). T (is_below_end o key)) (sym (high_is ∙ none)) tt
         from (Some k) some = let g = at.goes_on k some in absurd (no_side (side_is ∙ g.1))
+
+-- what is read of a leaf's chain has the pairs under the writes
+pub read_values : {E : Type 0} (tree : TreeView) (root p : ℕ) (r : Result LeafChain E) → AreLevels tree.slots root tree.levels → IfOk r (IsLeafChain (slot_at tree.slots p)) → IfOk r (λ leaf. ArePairsUnder tree p leaf.base.now.pairs)
+read_values tree root p (Ok leaf) lawful is = λ key home. sym (is.values key (home_leaf tree.slots root tree.levels lawful key p home).2)
+read_values tree root p (Err e) lawful is = is
 
 -- what is known of a leaf's mapping word
 pub record LeafAt (tree : TreeView) (bases : Bases) (records : Records) (p head : ℕ) : Type 0 where

@@ -1,16 +1,14 @@
 -- Mapping words of some pages, put in their places, and back.
-use Rattle.std.proofs.Common.{◌≡◌, ◌≢◌, ℕ, zero, suc, ◌+◌, ◌-◌, ◌<◌, ◌≤◌, min, add-one, Bool, true, false, cond, ◌==◌, List, [], ◌∷◌, ◌++◌, length, take, drop, get_or, set, map, Option, Some, None, refl, sym, ap, ◌∙◌, subst, arith, ◌⊎◌, inl, inr, ⊎_elim}
+use Rattle.std.proofs.Common.{◌≡◌, ◌≢◌, ℕ, zero, suc, ◌+◌, ◌-◌, ◌<◌, ◌≤◌, min, add-one, Bool, true, false, ◌==◌, List, [], ◌∷◌, ◌++◌, length, take, drop, get_or, set, Option, Some, None, refl, sym, ap, ◌∙◌, subst, arith, ◌⊎◌, inl, inr, ⊎_elim}
 use Rattle.std.specs.Prelude.{slice_get, slice_index}
 use Rattle.std.specs.List.{AllByRecursion}
 use Rattle.std.specs.Cmp.{unsigned_Decides}
-use Rattle.std.proofs.lemmas.List.{length-set, length-drop, drop-set-lt, map-append, take_more, take_more_set, get_or-set_same, get_or-set_other, set-set, set_comm, set-get_or, set_past}
+use Rattle.std.proofs.lemmas.List.{length-set, length-drop, drop-set-lt, map-append, take_more, take_more_set, get_or-set_same, get_or-set_other, set-set, set_comm, set-get_or}
 use Rattle.std.proofs.Math.Seq.{drop-cons}
-use Rattle.bw_core.specs.World.{Meets, one_if, times}
-use Rattle.bw_delta.specs.Writes.{WriteView}
-use Rattle.bw_chain.specs.Levels.{IsHome}
+use Rattle.bw_core.specs.World.{one_if, times}
 use Rattle.bw_tree.specs.View.{TreeView, StageView}
 use Rattle.bw_tree.specs.Stages.{IsPosted, IsPostedStage, IsPostedTo}
-use Rattle.bw_tree.specs.Words.{put_words, words_of, ArePages, IsPostedOn, IsPostedStageOn}
+use Rattle.bw_tree.specs.Words.{put_words, words_of, IsPostedOn, IsPostedStageOn}
 
 -- a number that stands in no place of a list isn't its first, nor in the rest
 not_first : (p q : ℕ) (ps : List ℕ) → times p (q ∷ ps) ≡ 0 → (q ≢ p) × (times p ps ≡ 0)

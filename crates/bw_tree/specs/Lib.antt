@@ -14,5 +14,6 @@ pub use Rattle.bw_chain.specs.Reading
 pub use Rattle.bw_chain.specs.Levels
 pub use Rattle.bw_chain.specs.Scans
 pub use Rattle.bw_chain.specs.Before
+pub use Rattle.bw_chain.specs.LeafChains
 pub use Rattle.bw_chain.specs.Targets
 pub use Rattle.bw_chain.specs.Laws

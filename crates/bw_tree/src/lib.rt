@@ -15,6 +15,8 @@ pub use scans::Scans;
 pub use staging::Staged;
 pub use tree::Tree;
 
+/// What is read of a leaf.
+pub use bw_chain::LeafChain;
 /// Out of memory.
 pub use bw_key::Memory;
 /// The names of pages, and the leaves that a tree is made of.

@@ -69,12 +69,12 @@ impl Tree {
         requires linked { is_some side ≡ is_some (side_of self.now.slots page) }
         ensures { IfOk result (λ leaf. leaf ≡ folded_leaf self.now page side) }
     {
-        let head = self.heads[page.0 as usize];
+        self.know_levels();
         let alloc = *self.heads.allocator();
-        let low = self.chains.low(head);
-        let high = self.chains.end(head).0;
-        let pairs = self.chains.pairs_as_of(alloc, head, low, high, self.next)?;
-        Ok(Leaf::from_pairs(low.copy()?, copy_end(high)?, side, pairs))
+        let leaf = self.leaf(alloc, page)?;
+        let low = leaf.base.low();
+        let pairs = leaf.pairs_as_of(alloc, low, leaf.end, self.next)?;
+        Ok(Leaf::from_pairs(low.copy()?, copy_end(leaf.end)?, side, pairs))
     }
 }
 

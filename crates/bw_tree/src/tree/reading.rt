@@ -5,6 +5,7 @@ ghost use Rattle.std.specs.Option.{option_copied};
 ghost use Rattle.std.specs.FinMap.{get};
 ghost use Rattle.bw_delta.specs.History.{pointed_to};
 ghost use Rattle.bw_chain.specs.Slots.{slot_at};
+ghost use Rattle.bw_chain.specs.LeafChains.{IsLeafChain};
 ghost use Rattle.bw_chain.specs.Levels.{row};
 ghost use Rattle.bw_chain.specs.Reading.{writes_over};
 ghost use Rattle.bw_chain.specs.Scans.{IsAfter, high_of};
@@ -14,7 +15,7 @@ ghost use Rattle.bw_tree.specs.Replaying.{IsReadLeaf};
 
 use super::Tree;
 use crate::scans::{ReadLeaf, Scans};
-use bw_chain::reaches;
+use bw_chain::{LeafChain, reaches};
 use bw_delta::{Write, value_as_of};
 use bw_key::{Key, Memory};
 use bw_memory::Alloc;
@@ -35,6 +36,17 @@ impl Tree {
         let found = self.chains.writes_at(alloc, head, key)?;
         let start = self.chains.base_value_at(head, key);
         value_as_of(alloc, start, &found, stamp)
+    }
+
+    /// All that is read of a leaf: its writes, its base page, where its range ends, and its right neighbour. It costs one
+    /// walk along the leaf's chain. Memory is taken for the list of the writes alone, and none where the leaf has none.
+    /// `Memory` is answered where the list finds none.
+    pub fn leaf(&self, alloc: Alloc, page: PageId) -> Result<LeafChain<'_>, Memory>
+        requires { Contains (row self.now.levels 0) page }
+        ensures leaf { IfOk result (IsLeafChain (slot_at self.now.slots page)) }
+        ensures values { IfOk result (λ leaf. ArePairsUnder self.now page leaf.base.now.pairs) }
+    {
+        self.chains.leaf(alloc, self.heads[page.0 as usize])
     }
 
     /// The writes over a leaf's base page, the newest first: a walk along its chain. `Memory` is answered where the list
@@ -109,13 +121,14 @@ impl Tree {
         ensures stamp { IfOk result (λ leaf. leaf.replay.stamp ≡ 0) }
         ensures leaf { IfOk result (IsReadLeaf (slot_at self.now.slots page)) }
     {
-        let head = self.heads[page.0 as usize];
-        let (end, side) = self.chains.end(head);
+        self.know_homes();
+        let leaf = self.leaf(alloc, page)?;
+        let replay = leaf.replay(alloc)?;
         Ok(ReadLeaf {
-            low: self.chains.low(head),
-            end,
-            side,
-            replay: self.chains.replay(alloc, head)?,
+            low: leaf.base.low(),
+            end: leaf.end,
+            side: leaf.side,
+            replay,
         })
     }
 

@@ -57,3 +57,18 @@ fn a_leaf_without_writes_takes_no_memory(rt: HostRuntime) {
     assert_eq!(rt; writes.len(), 0);
     assert_eq!(rt; alloc.left(), 1);
 }
+
+#[test]
+fn a_leaf_is_read_at_once_without_memory(rt: HostRuntime) {
+    let alloc = heap(&rt, rt.alloc());
+    let tree = three_leaves(&rt, alloc);
+    let page = leaf_at(&rt, alloc, &tree, b"d");
+    alloc.refuse(1);
+    let leaf = tree.leaf(alloc, page).expect(&rt, "memory");
+    assert_eq!(rt; alloc.left(), 1);
+    assert_eq!(rt; leaf.writes.len(), 0);
+    is_leaf(&rt, leaf.base, b"c", &[(b"c", b"3")]);
+    let end: Option<&[u8]> = Some(b"e");
+    assert!(rt; leaf.end.map(|key| key.bytes()) == end);
+    assert!(rt; leaf.side == Some(PageId(2)));
+}

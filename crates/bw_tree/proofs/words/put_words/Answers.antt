@@ -1,4 +1,4 @@
-use Rattle.std.proofs.Common.{◌≡◌, ◌<◌, ◌≤◌, ◌+◌, ℕ, List, ap, sym, ◌∙◌, arith, drop, get_or, length, set}
+use Rattle.std.proofs.Common.{◌+◌, ℕ, List, ap, sym, ◌∙◌, arith, drop, get_or, set}
 use Rattle.std.proofs.lemmas.List.{set_past}
 use Rattle.bw_tree.specs.Words.{put_words}
 use Rattle.bw_tree.proofs.WordLemmas.{put_next, put_none}

@@ -1,6 +1,6 @@
-use Rattle.std.proofs.Common.{◌≡◌, ◌<◌, ◌≤◌, ◌+◌, ℕ, List, ap, sym, subst, ◌∙◌, arith, drop, take, get_or, length, min, set, refl}
+use Rattle.std.proofs.Common.{◌<◌, ◌+◌, ℕ, List, ap, sym, subst, ◌∙◌, arith, get_or, length, set}
 use Rattle.std.proofs.lemmas.List.{take_all}
-use Rattle.bw_tree.specs.Words.{put_words, words_of}
+use Rattle.bw_tree.specs.Words.{words_of}
 use Rattle.bw_tree.proofs.WordLemmas.{AreSwapped, all_there, put_none, swapped_next, swapped_none}
 use Rattle.bw_tree.proofs.words.swap_each.Goals as goal
 

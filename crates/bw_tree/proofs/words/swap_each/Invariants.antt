@@ -1,5 +1,3 @@
-use Rattle.std.proofs.Common.{◌≡◌, ℕ, drop, take, length}
-use Rattle.bw_tree.specs.Words.{put_words, words_of}
 use Rattle.bw_tree.proofs.WordLemmas.{AreSwapped}
 use Rattle.bw_tree.proofs.words.swap_each.Given as goal
 

@@ -1,6 +1,4 @@
-use Rattle.std.proofs.Common.{◌∙◌, ap, sym, subst, Some, List, ℕ, length, ◌≤◌, ◌<◌, ◌+◌}
-use Rattle.std.specs.List.{AllByRecursion}
-use Rattle.bw_core.specs.World.{times}
+use Rattle.std.proofs.Common.{◌∙◌, ap, sym, subst, Some, List, ℕ, length, ◌≤◌, ◌+◌}
 use Rattle.bw_tree.specs.declared.words.WordsBefore.TheVariants.{OfPages}
 use Rattle.bw_tree.specs.Words.{put_words, words_of}
 use Rattle.bw_tree.proofs.AdoptedLemmas.{adopted_with}

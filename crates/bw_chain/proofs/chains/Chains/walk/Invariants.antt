@@ -1,15 +1,14 @@
-use Rattle.std.proofs.Common.{◌≡◌, ◌++◌, true, length}
+use Rattle.std.proofs.Common.{◌≡◌, ◌++◌, length}
 use Rattle.bw_delta.specs.History.{pointed_to}
-use Rattle.bw_chain.specs.Slots.{is_leaf}
 use Rattle.bw_chain.specs.Walk.{walked}
-use Rattle.bw_chain.specs.Chains.{Ends, link_of, slot_of_word}
+use Rattle.bw_chain.specs.Chains.{link_of, slot_of_word}
+use Rattle.bw_chain.specs.LeafChains.{LeadsToSame}
 use Rattle.bw_chain.specs.Reading.{writes_over}
-use Rattle.bw_chain.proofs.chains.Chains.writes.Given as goal
+use Rattle.bw_chain.proofs.chains.Chains.walk.Given as goal
 
 abbrev pub invariant-loop-delta : goal.invariant-loop-delta
 invariant-loop-delta l = record {
-  ends : Ends l.self.bases l.self.records l.word;
-  leaf : is_leaf (slot_of_word l.self.bases l.self.records l.word) ≡ true;
+  under : LeadsToSame l.self l.fn.head l.word;
   found : pointed_to l.found.items ++ writes_over (slot_of_word l.self.bases l.self.records l.word) ≡ writes_over (slot_of_word l.self.bases l.self.records l.fn.head);
 }
 
