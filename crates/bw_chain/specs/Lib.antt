@@ -8,4 +8,5 @@ pub mod Reading
 pub mod Levels
 pub mod Scans
 pub mod Before
+pub mod Searches
 pub mod Laws
