@@ -6,6 +6,7 @@ pub mod ChainLemmas
 pub mod RecordLemmas
 pub mod GrowthLemmas
 pub mod TargetLemmas
+pub mod GallopLemmas
 pub mod TurnLemmas
 pub mod ReadingLemmas
 pub mod LeafRowLemmas

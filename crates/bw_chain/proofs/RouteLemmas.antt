@@ -11,6 +11,7 @@ use Rattle.bw_chain.specs.Slots.{Slot, PageState, Body, Pairs, Children, Free, G
 use Rattle.bw_chain.specs.Levels.{Stands, SideBySide, AreLevels, BeginsWith, LeadsBelow, IsReached, IsHomeAt, IsHome, row}
 use Rattle.bw_chain.specs.Reading.{EndsAbove}
 use Rattle.bw_chain.specs.Turns.{IsTurn, StartsUpto}
+use Rattle.bw_chain.specs.Searches.{Sought}
 use Rattle.bw_chain.proofs.WalkLemmas.{walked_is, ended_is, way_short}
 use Rattle.bw_chain.proofs.RowLemmas.{InRow, in_row, first_stands}
 
@@ -22,7 +23,7 @@ not_holds : (a : Bool) → a ≡ false → T (not a)
 not_holds a e = subst (λ b. T (not b)) (sym e) tt
 
 -- what is looked up and isn't free lies among the slots
-held : (slots : List Slot) (p : ℕ) → (slot_at slots p ≡ Free → ⊥) → p < length slots
+pub held : (slots : List Slot) (p : ℕ) → (slot_at slots p ≡ Free → ⊥) → p < length slots
 held [] p some = absurd (some refl)
 held (s ∷ slots) zero some = omega arith
 held (s ∷ slots) (suc p) some = let more = held slots p some in omega arith
@@ -80,15 +81,6 @@ rank_is slots p e f xs ys left side =
       few,
       few_too,
     )
-
--- A search for a key stands at a page of a level whose low key isn't above the key, or at a removed page whose
--- left links lead to such a page.
-pub record Sought (slots : List Slot) (levels : List (List ℕ)) (key : KeyBytes) (p : ℕ) : Type 0 where
-  pub level : ℕ
-  pub removed : List ℕ
-  pub page : ℕ
-  pub way : Leads (left_of slots) p removed page
-  pub reached : IsReached slots levels key level page
 
 begins_there : (ps : List ℕ) (p : ℕ) → BeginsWith ps p → Contains ps p
 begins_there [] p h = absurd h

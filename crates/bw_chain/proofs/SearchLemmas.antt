@@ -1,20 +1,23 @@
 -- The way of a search.
-use Rattle.std.proofs.Common.{◌≡◌, ℕ, ◌<◌, Bool, true, false, not, T, List, [], length, Option, Some, None, is_some, refl, sym, ap, ◌∙◌, subst}
+use Rattle.std.proofs.Common.{◌≡◌, ℕ, ◌+◌, ◌<◌, ◌≤◌, Bool, true, false, not, T, List, [], ◌∷◌, length, get_or, Option, Some, None, is_some, refl, sym, ap, ◌∙◌, subst, arith}
 use Rattle.std.specs.Ordering.{is_lt}
 use Rattle.bw_key.specs.Order.{KeyBytes, key_cmp}
 use Rattle.bw_model.specs.Contents.{is_below_end}
+use Rattle.bw_page.specs.Inners.{InnerView, IsInner, IsLastUpto}
+use Rattle.bw_page.specs.Pages.{BeginsAt}
 use Rattle.bw_page.proofs.KeyLemmas.{below_upto}
 use Rattle.bw_chain.specs.declared.turn.Turn.TheVariants.{Here, Right, Down, Left}
 use Rattle.bw_chain.specs.declared.target.Target.{Target}
-use Rattle.bw_chain.specs.Slots.{Slot, PageState, Body, Pairs, Children, Free, Gone, Live, slot_at, IsSoundBody}
+use Rattle.bw_chain.specs.Slots.{Slot, PageState, Body, Pairs, Children, Free, Gone, Live, slot_at, left_of_slot, IsSoundBody}
 use Rattle.bw_chain.specs.Levels.{AreLevels, row}
 use Rattle.bw_chain.specs.Scans.{Reaches}
 use Rattle.bw_chain.specs.Before.{IsBefore}
-use Rattle.bw_chain.specs.Targets.{AreAtHome, IsLinked, IsTurnFor, StandsFor, StandsOn, StandsOnAll, StartsFrom, lies_from, lies_past}
-use Rattle.bw_chain.specs.Turns.{StartsUpto}
+use Rattle.bw_chain.specs.Targets.{AreAtHome, IsLinked, IsTurnFor, SeparatorsAgree, StandsFor, StandsOn, StandsOnAll, StartsFrom, is_upto, lies_from, lies_past}
+use Rattle.bw_chain.specs.Turns.{IsTurn, StartsUpto}
+use Rattle.bw_chain.specs.Searches.{IsInLevels, IsPlaceFor, IsSearching, Sought, plain_inner}
 use Rattle.bw_chain.proofs.RowLemmas.{in_row}
-use Rattle.bw_chain.proofs.RouteLemmas.{Next, Sought, rank, root_sought, stands_on, sought_held, sought_upto, turned_right, turned_down, turned_left, turned_here}
-use Rattle.bw_chain.proofs.TargetLemmas.{holds, true_holds, lies_before}
+use Rattle.bw_chain.proofs.RouteLemmas.{Next, rank, go_down, root_sought, stands_on, sought_held, sought_upto, turned_right, turned_down, turned_left, turned_here}
+use Rattle.bw_chain.proofs.TargetLemmas.{holds, true_holds, lies_before, child_there}
 use Rattle.bw_chain.proofs.MarkLemmas.{mark, mark_from, mark_stands}
 
 holds_not : (a : Bool) → T (not a) → a ≡ false
@@ -37,10 +40,6 @@ linked_of : (low : KeyBytes) (high : Option KeyBytes) (side : Option ℕ) (b : B
 linked_of low high side (Pairs pairs writes) sound = sound.page.linked
 linked_of low high side (Children level children) sound = sound.page.linked
 
--- Each key that stands for what is sought is sought at the page.
-abbrev pub IsSearching : List Slot → List (List ℕ) → Target → ℕ → Type 0
-IsSearching slots levels target p = (key : KeyBytes) → StandsOnAll slots target key → Sought slots levels key p
-
 -- the search goes on at q, with less left
 pub record IsNext (slots : List Slot) (levels : List (List ℕ)) (target : Target) (p q : ℕ) : Type 0 where
   pub searching : IsSearching slots levels target q
@@ -50,6 +49,35 @@ module _ (slots : List Slot) (root : ℕ) (levels : List (List ℕ)) (lawful : A
   -- a search begins at the root
   pub begins : IsSearching slots levels target root
   begins key stands = root_sought slots root levels lawful key
+
+  -- or at the child that a page of a level has for what is sought
+  pub begins_under : (p place : ℕ) (inner : InnerView) (d : KeyBytes × ℕ) → IsInLevels levels p → slot_at slots p ≡ plain_inner inner → IsInner inner.level inner.low inner.high inner.side inner.children →
+      IsPlaceFor target inner.children (Some place) → IsSearching slots levels target (get_or inner.children place d).1
+  begins_under p place inner d on is rules there key stands =
+      let low = inner.low in
+      let children = inner.children in
+      let stands_there : StandsFor target key inner.high children = subst (λ (o : Slot). StandsOn target key o) is (stands p) in
+      let from : lies_from target low ≡ true = first_from low children rules.begins (there.1.0 0) in
+      let upto : is_upto low key ≡ true = first_upto low children rules.begins key from stands_there.separators in
+      let child : IsLastUpto key children (get_or children place d).1 =
+      subst (λ n. IsLastUpto key children (get_or children n d).1) (omega arith)
+      (child_there target inner.level low inner.high inner.side children (place + 1) d rules (true_holds _ from) there.1 (omega (arith, there.0)) key stands_there.separators) in
+      let sought : Sought slots levels key p = record {
+        level = on.level;
+        removed = [];
+        page = p;
+        way = (refl, ap left_of_slot is);
+        reached = record { within = on.within; in_level = on.in_level; state = _; is = is; from_low = true_holds _ upto };
+      } in
+      (go_down slots root levels lawful key p (get_or children place d).1 sought _ is child).sought
+    where
+      first_from : (low : KeyBytes) (es : List (KeyBytes × ℕ)) → BeginsAt low es → ((e : KeyBytes × ℕ) → 0 ≤ 0 → 0 < place + 1 → lies_from target (get_or es 0 e).0 ≡ true) → lies_from target low ≡ true
+      first_from low [] begins from = absurd begins
+      first_from low (e ∷ es) begins from = ap (lies_from target) (sym begins) ∙ from e (omega arith) (omega arith)
+
+      first_upto : (low : KeyBytes) (es : List (KeyBytes × ℕ)) → BeginsAt low es → (key : KeyBytes) → lies_from target low ≡ true → SeparatorsAgree target key es → is_upto low key ≡ true
+      first_upto low [] begins key from agree = absurd begins
+      first_upto low (e ∷ es) begins key from agree = ap (λ (k : KeyBytes). is_upto k key) (sym begins) ∙ sym (agree e (0, omega arith, refl)) ∙ ap (lies_from target) begins ∙ from
 
   -- it ends at the home of each key that stands for what is sought
   pub ends_home : (p : ℕ) → IsSearching slots levels target p → IsTurnFor target (slot_at slots p) Here → AreAtHome slots levels target p
@@ -79,6 +107,18 @@ module _ (slots : List Slot) (root : ℕ) (levels : List (List ℕ)) (lawful : A
             let r = stands_on slots root levels lawful stand_in p sought s is in
             let at = in_row slots sought.level [] (row levels sought.level) r.in_level.0 p (lawful.rows sought.level r.within) r.in_level.1 r.in_level.2 in
             subst (λ (t : PageState). is_some t.side ≡ is_some t.high) (one_state (sym at.stands.is ∙ is)) (linked_of _ _ _ at.stands.state.body at.stands.sound)
+
+    -- a search goes down from a page of a level
+    pub in_levels : (p q : ℕ) → IsSearching slots levels target p → IsTurnFor target (slot_at slots p) (Down q) → IsInLevels levels p
+    in_levels p q h t = by (slot_at slots p) refl (t stand_in (stands_in p))
+      where
+        by : (o : Slot) → slot_at slots p ≡ o → IsTurn o stand_in (Down q) → IsInLevels levels p
+        by Free is turn = absurd turn
+        by (Gone l) is turn = absurd turn
+        by (Live s) is turn =
+            let sought = h stand_in stands_in in
+            let r = stands_on slots root levels lawful stand_in p sought s is in
+            record { level = sought.level; within = r.within; in_level = r.in_level }
 
     -- else each turn leads on
     goes_on : (p q : ℕ) → IsSearching slots levels target p → ((key : KeyBytes) → StandsOnAll slots target key → Next slots levels key p q) → IsNext slots levels target p q

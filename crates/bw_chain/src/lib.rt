@@ -6,6 +6,7 @@
 
 mod chains;
 mod ends;
+mod inners;
 mod laws;
 mod leaf_chain;
 mod reading;

@@ -1,8 +1,9 @@
 // What a search is for.
-ghost use Rattle.std.specs.Prelude.{◌≡◌, ◌≤◌, T, length, is_some};
+ghost use Rattle.std.specs.Prelude.{◌≡◌, ◌<◌, ◌≤◌, T, length, is_some};
 ghost use Rattle.std.specs.Option.{option_copied};
 ghost use Rattle.std.specs.FinMap.{is_sorted};
 ghost use Rattle.bw_key.specs.Order.{key_cmp};
+ghost use Rattle.bw_chain.specs.Searches.{IsFromPlace, IsPlaceFor, IsStretch};
 ghost use Rattle.bw_chain.specs.Targets.{IsChildFor, IsPast, PartsChildren, lies_from};
 
 use bw_key::Key;
@@ -48,6 +49,51 @@ impl Target<'_> {
     {
         let children = inner.children();
         children[self.count(children) - 1].1
+    }
+
+    /// The place of the child with the last separator that this isn't before, if there is one. The search goes on from a
+    /// place: about 2 log2 d key comparisons where the child stands d places behind it, and about log2 n, for n children,
+    /// where it stands before it.
+    pub fn place_from(self, inner: &Inner, from: usize) -> Option<usize>
+        ensures { IsPlaceFor self.entry inner.now.children result }
+    {
+        self.count_from(inner.children(), from).checked_sub(1)
+    }
+
+    // How many children, from the first on, have a separator that this isn't before, found from a place on.
+    fn count_from(self, children: &[(Key, PageId)], from: usize) -> usize
+        requires { T (is_sorted key_cmp children.now) }
+        ensures parts { PartsChildren self.entry children.now result }
+        ensures bound { result ≤ length children.now }
+    {
+        if from >= children.len() || !self.lies_from(&children[from].0) {
+            return self.count(children);
+        }
+        let (start, end) = self.stretch(children, from);
+        start + self.count(&children[start..end])
+    }
+
+    // The places between which the first separator is that this is before, by steps from a place on, each of which is
+    // twice the one before it.
+    fn stretch(self, children: &[(Key, PageId)], from: usize) -> (usize, usize)
+        requires sorted { T (is_sorted key_cmp children.now) }
+        requires there { from < length children.now }
+        requires from { IsFromPlace self children.now from }
+        ensures { IsStretch self.entry children.now result.0 result.1 }
+    {
+        let mut last = from;
+        let mut step: usize = 1;
+        loop {
+            let next = last.saturating_add(step);
+            if next >= children.len() {
+                return (last + 1, children.len());
+            }
+            if !self.lies_from(&children[next].0) {
+                return (last + 1, next);
+            }
+            last = next;
+            step = step.saturating_add(step);
+        }
     }
 
     // How many children, from the first on, have a separator that this isn't before.

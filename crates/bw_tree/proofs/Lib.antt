@@ -17,3 +17,4 @@ pub mod AdoptedLemmas
 pub mod AdoptedOnLemmas
 pub mod StagedLemmas
 pub mod FoldLemmas
+pub mod RoutingLemmas

@@ -5,6 +5,7 @@ pub mod Words
 pub mod Replaying
 pub mod Making
 pub mod Folding
+pub mod Routing
 pub use Rattle.bw_chain.specs.Walk
 pub use Rattle.bw_chain.specs.Slots
 pub use Rattle.bw_chain.specs.Chains
@@ -15,5 +16,6 @@ pub use Rattle.bw_chain.specs.Levels
 pub use Rattle.bw_chain.specs.Scans
 pub use Rattle.bw_chain.specs.Before
 pub use Rattle.bw_chain.specs.LeafChains
+pub use Rattle.bw_chain.specs.Searches
 pub use Rattle.bw_chain.specs.Targets
 pub use Rattle.bw_chain.specs.Laws

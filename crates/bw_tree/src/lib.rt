@@ -6,11 +6,13 @@
 #![tactic(auto)]
 
 mod making;
+mod routes;
 mod scans;
 mod staging;
 mod tree;
 mod words;
 
+pub use routes::Routes;
 pub use scans::Scans;
 pub use staging::Staged;
 pub use tree::Tree;

@@ -5,5 +5,6 @@ mod folding;
 mod making;
 mod pages;
 mod refused;
+mod routes;
 mod scans;
 mod trees;

@@ -1,16 +1,24 @@
 // Searches of a tree.
-ghost use Rattle.std.specs.Prelude.{◌≡◌, ℕ, ◌<◌, [], true, T, length};
+ghost use Rattle.std.specs.Prelude.{◌≡◌, ℕ, ◌<◌, [], true, T, length, IfSome};
 ghost use Rattle.std.specs.Option.{option_copied};
 ghost use Rattle.bw_model.specs.Contents.{is_below_end};
 ghost use Rattle.bw_chain.specs.Slots.{slot_at, is_leaf};
 ghost use Rattle.bw_chain.specs.Levels.{IsHome};
 ghost use Rattle.bw_chain.specs.Before.{IsBefore};
+ghost use Rattle.bw_chain.specs.Searches.{IsInLevels, IsSearching, plain_inner};
 ghost use Rattle.bw_chain.specs.Targets.{AreAtHome, IsLinked, IsTurnFor, StartsFrom, lies_from};
 
 use super::Tree;
 use bw_chain::{Target, Turn};
 use bw_key::Key;
-use bw_page::PageId;
+use bw_page::{Inner, PageId};
+
+/// The leaf that a search found, and the last page from which it went down, if it went down.
+#[derive(Clone, Copy, Debug)]
+pub(crate) struct Found {
+    pub(crate) leaf: PageId,
+    pub(crate) above: Option<PageId>,
+}
 
 impl Tree {
     /// The one leaf of the leaf level whose range has the key.
@@ -43,12 +51,27 @@ impl Tree {
         ensures homes { AreAtHome self.now.slots self.now.levels target.entry result }
         ensures there { result < length self.now.heads }
     {
-        let mut page = self.root;
+        self.search_from(None, target).leaf
+    }
+
+    /// The leaf that a search is for, from a page on where it may begin, or from the root.
+    pub(crate) fn search_from(&self, start: Option<PageId>, target: Target<'_>) -> Found
+        requires starts { T (lies_from target []) }
+        requires begins { IfSome start (IsSearching self.now.slots self.now.levels target) }
+        ensures homes { AreAtHome self.now.slots self.now.levels target.entry result.leaf }
+        ensures there { result.leaf < length self.now.heads }
+        ensures above { IfSome result.above (IsInLevels self.now.levels) }
+    {
+        let mut page = start.unwrap_or(self.root);
+        let mut above = None;
         loop {
             match self.turn(page, target) {
-                Turn::Here => return page,
+                Turn::Here => return Found { leaf: page, above },
                 Turn::Right(next) => page = next,
-                Turn::Down(next) => page = next,
+                Turn::Down(next) => {
+                    above = Some(page);
+                    page = next;
+                }
                 Turn::Left(next) => page = next,
             }
         }
@@ -62,5 +85,13 @@ impl Tree {
         ensures { IsTurnFor target.entry (slot_at self.now.slots page) result }
     {
         self.chains.turn_at(self.heads[page.0 as usize], target)
+    }
+
+    /// The inner page that a page of a level is, where no change lies over its base page.
+    pub(crate) fn inner(&self, page: PageId) -> Option<&Inner>
+        requires { IsInLevels self.now.levels page }
+        ensures { IfSome result (λ inner. slot_at self.now.slots page ≡ plain_inner inner.now) }
+    {
+        self.chains.inner(self.heads[page.0 as usize])
     }
 }

@@ -1,0 +1,13 @@
+use Rattle.std.specs.Prelude.{IfSome}
+use Rattle.bw_chain.specs.Searches.{IsInLevels, IsSearching}
+use Rattle.bw_chain.proofs.RouteLemmas.{rank}
+use Rattle.bw_tree.proofs.tree.Tree.search_from.Given as goal
+
+abbrev pub invariant-loop-next : goal.invariant-loop-next
+invariant-loop-next l = record {
+  searching : IsSearching l.self.slots l.self.levels l.target l.page;
+  above : IfSome l.above (IsInLevels l.self.levels);
+}
+
+abbrev pub decreases-loop-next : goal.decreases-loop-next
+decreases-loop-next l = rank l.self.slots l.page
