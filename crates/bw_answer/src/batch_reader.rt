@@ -161,15 +161,14 @@ impl<'a> BatchReader<'a> {
         ensures { OnOk result (answers.new.items ≡ answers.old.items ++ answers_to self.now (point_places points.now)) }
     {
         self.tree.know_homes();
-        let leaf = self.tree.base(page);
-        let found = self.tree.writes(alloc, page)?;
-        let writes = writes_by_key(alloc, &found)?;
+        let leaf = self.tree.leaf(alloc, page)?;
+        let writes = writes_by_key(alloc, &leaf.writes)?;
         let mut start = 0;
         while start < points.len() {
             let end = group_end(points, start);
             let key = points[start].key;
             let group = &points[start..end];
-            self.answer_group(leaf.find(key), group_of(&writes, key), group, answers)?;
+            self.answer_group(leaf.base.find(key), group_of(&writes, key), group, answers)?;
             start = end;
         }
         Ok(())

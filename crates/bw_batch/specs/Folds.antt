@@ -1,5 +1,5 @@
 -- The records of an index, and when they are folded into the pages of its tree.
-use Rattle.std.specs.Prelude.{◌≡◌, ℕ, ◌+◌, ◌-◌, ◌≤◌, ◌^◌, ◌⊎◌, Bool, true, List, length, min, nat_lt, if◌then◌else◌}
+use Rattle.std.specs.Prelude.{◌≡◌, ℕ, ◌+◌, ◌-◌, ◌^◌, ◌⊎◌, Bool, true, List, length, min, nat_lt, if◌then◌else◌}
 use Rattle.std.specs.FinMap.{entries}
 use Rattle.bw_delta.specs.Batches.{writes_of}
 use Rattle.bw_model.specs.declared.operations.Op.{Op}
@@ -13,32 +13,29 @@ capped n = min n (2 ^ 64 - 1)
 abbrev pub records_with : IndexView → List Op → ℕ
 records_with index ops = index.records + length (writes_of (next_stamp_of index) ops)
 
--- how many records batches have walked since the last fold, with those of this one
+-- how many records batches may have walked since the last fold, where there are so many for this one
 abbrev pub walked_with : IndexView → ℕ → ℕ
-walked_with index walked = capped (index.walked + walked)
+walked_with index records = capped (index.walked + records)
 
 -- A fold is due once these are more than there were pairs at the last one, and 1,024 more.
 abbrev pub is_fold_due : IndexView → ℕ → Bool
-is_fold_due index walked = nat_lt (capped (index.folded + 1024)) (walked_with index walked)
+is_fold_due index records = nat_lt (capped (index.folded + 1024)) (walked_with index records)
 
 -- how many are counted from there on
 abbrev pub walked_after : IndexView → ℕ → ℕ
-walked_after index walked = if is_fold_due index walked then 0 else walked_with index walked
+walked_after index records = if is_fold_due index records then 0 else walked_with index records
 
 -- there are so many records, and none was folded
 pub record HasKept (old new : IndexView) (count : ℕ) : Type 0 where
   pub records : new.records ≡ count
   pub folded : new.folded ≡ old.folded
 
--- no record is left
-pub record HasFolded (old new : IndexView) : Type 0 where
+-- a fold was due, and no record is left
+pub record HasFolded (old new : IndexView) (count : ℕ) : Type 0 where
+  pub due : is_fold_due old count ≡ true
   pub records : new.records ≡ 0
   pub folded : new.folded ≡ capped (length (entries (contents_of new)))
 
--- A batch with which there are so many records walked some of them, and no more than all. All are kept; or a fold was due, and
--- none is left. A fold that is due may be put off where memory runs out.
-pub record HasTidied (old new : IndexView) (count : ℕ) : Type 0 where
-  pub walked : ℕ
-  pub few : walked ≤ count
-  pub counted : new.walked ≡ walked_after old walked
-  pub left : HasKept old new count ⊎ ((is_fold_due old walked ≡ true) × HasFolded old new)
+-- A fold that is due may be put off where memory runs out, and then all records are kept.
+abbrev pub HasTidied : IndexView → IndexView → ℕ → Type 0
+HasTidied old new count = HasKept old new count ⊎ HasFolded old new count

@@ -7,7 +7,7 @@ use Rattle.bw_model.specs.Model.{contents_after}
 use Rattle.bw_model.specs.Runs.{Outcome}
 use Rattle.bw_model.specs.declared.operations.Op.{Op}
 use Rattle.bw_model.specs.declared.outcomes.Refusal.{Refusal}
-use Rattle.bw_batch.specs.Folds.{HasTidied, records_with}
+use Rattle.bw_batch.specs.Folds.{HasTidied, records_with, walked_after}
 use Rattle.bw_batch.specs.View.{IndexView, contents_of, leaves_of, next_stamp_of, settings_of}
 use Rattle.bw_batch.specs.declared.index.Done.{Done}
 use Rattle.bw_batch.specs.declared.index.Tidy.{Tidy}
@@ -57,6 +57,7 @@ pub record IsBehind (old new : IndexView) (ops : List Op) : Type 0 where
   pub stamp : next_stamp_of new ≡ next_stamp_of old + length ops
   pub leaves : leaves_of new ≡ leaves_of old
   pub recorded : HasTidied old new (records_with old ops)
+  pub walked : new.walked ≡ walked_after old (records_with old ops)
 
 -- a refused batch changes nothing
 abbrev pub Changes : IndexView → IndexView → List Op → Result Done Refusal → Type 0

@@ -19,12 +19,11 @@ use bw_post::{Gate, Posting, post_all};
 use bw_tree::Tree;
 use std::thread::Threads;
 
-/// The replies to a batch, how many exchanges its posting lost, and how many records it walked.
+/// The replies to a batch, and how many exchanges its posting lost.
 #[derive(Drop)]
 pub(crate) struct Answered {
     pub(crate) replies: Replies,
     pub(crate) lost: u64,
-    pub(crate) walked: usize,
 }
 
 /// Runs a batch on a tree, whose replies are those of one thread that runs its operations in order on an ordered map.
@@ -46,7 +45,6 @@ pub(crate) fn run_batch<R: Threads + Sync, G: Gate>(
         ≡ contents_after ops.now (contents_at tree.old tree.old.next)) }
     ensures stamped { OnOk result (tree.new.next ≡ tree.old.next + length ops.now) }
     ensures recorded { OnOk result (tree.new.records ≡ tree.old.records + length (writes_of tree.old.next ops.now)) }
-    ensures walked { IfOk result (λ answered. answered.walked ≤ tree.new.records) }
     ensures leaves { OnOk result (leaf_ranges tree.new ≡ leaf_ranges tree.old) }
     ensures none { tree.new.staged ≡ None }
     ensures err { OnErr result (tree.new ≡ tree.old) }
@@ -84,7 +82,6 @@ fn answer_staged<R: Threads + Sync, G: Gate>(
     ensures lost { IfOk result (λ answered. answered.lost ≤ pairs_of (length (staged_writes tree.old.staged))) }
     ensures contents { OnOk result ((stamp : ℕ) → contents_at tree.new stamp ≡ contents_with tree.old stamp) }
     ensures recorded { OnOk result (tree.new.records ≡ tree.old.records) }
-    ensures walked { IfOk result (λ answered. answered.walked ≤ tree.new.records) }
     ensures leaves { OnOk result (leaf_ranges tree.new ≡ leaf_ranges tree.old) }
     ensures next { tree.new.next ≡ tree.old.next }
     ensures adopted { OnOk result (is_adopted tree.new.staged ≡ true) }
@@ -101,10 +98,5 @@ fn answer_staged<R: Threads + Sync, G: Gate>(
     tree.adopt_on(pages, closed);
     let base = tree.next_stamp();
     let replies = replies(rt, alloc, tree, base, batch, &homes, workers)?;
-    let walked = tree.records();
-    Ok(Answered {
-        replies,
-        lost,
-        walked,
-    })
+    Ok(Answered { replies, lost })
 }

@@ -55,7 +55,7 @@ pub struct Index {
     tree: Tree,
     // how many pairs there were when the chains were last folded
     folded: usize,
-    // how many records the batches since have walked
+    // how many records there were for the batches since, counted for each batch anew
     walked: usize,
 }
 
@@ -98,7 +98,7 @@ impl Model for Index {
 
 impl Index {
     ghost use Rattle.bw_batch.specs.View.{contents_of, leaves_of, settings_of, next_stamp_of};
-    ghost use Rattle.bw_batch.specs.Folds.{HasTidied, records_with};
+    ghost use Rattle.bw_batch.specs.Folds.{HasTidied, records_with, walked_after};
     ghost use Rattle.bw_batch.specs.Outcomes.{batches_of, outcomes_of, answered_in, nothing_tidied, AreCounted, ChangesInTurn};
     ghost use Rattle.bw_model.specs.Model.{replies_of, contents_after};
     ghost use Rattle.bw_model.specs.Runs.{AnswersInTurn, left_in_turn};
@@ -171,9 +171,9 @@ impl Index {
         // Each operation of an accepted batch has a stamp of its own.
         ensures stamped { OnOk result (next_stamp_of self.new ≡ next_stamp_of self.old + length ops.now) }
 
-        // Each of its writes is a record of the tree, until a fold is due by the records that batches walked. No leaf's range
-        // changes.
+        // Each of its writes is a record of the tree, until a fold is due. No leaf's range changes.
         ensures recorded { OnOk result (HasTidied self.old self.new (records_with self.old ops.now)) }
+        ensures walked { OnOk result (self.new.walked ≡ walked_after self.old (records_with self.old ops.now)) }
         ensures leaves { leaves_of self.new ≡ leaves_of self.old }
         ensures tidy { IfOk result (λ done. done.tidy ≡ nothing_tidied) }
 
@@ -186,12 +186,8 @@ impl Index {
         if count > most {
             return Err(Refusal::TooLong { ops: count, most });
         }
-        let Answered {
-            replies,
-            lost,
-            walked,
-        } = self.answer(rt, ops, gate)?;
-        self.tidy(walked);
+        let Answered { replies, lost } = self.answer(rt, ops, gate)?;
+        self.tidy();
         Ok(Done {
             replies,
             tidy: Tidy::default(),
@@ -215,7 +211,6 @@ impl Index {
         ensures stamped { OnOk result (next_stamp_of self.new ≡ next_stamp_of self.old + length ops.now) }
         ensures recorded { OnOk result (self.new.records ≡ records_with self.old ops.now) }
         ensures leaves { OnOk result (leaves_of self.new ≡ leaves_of self.old) }
-        ensures walked { IfOk result (λ answered. answered.walked ≤ self.new.records) }
         ensures folds { (self.new.folded ≡ self.old.folded) × (self.new.walked ≡ self.old.walked) }
     {
         if !are_stamps_left(self.tree.next_stamp(), ops.len() as u64) {
@@ -224,18 +219,18 @@ impl Index {
         run_batch(rt, self.alloc, &mut self.tree, ops, &self.options, gate)
     }
 
-    // Folds the tree's chains, once batches have walked more records than there were pairs at the last time, and some more.
-    // So all that walks cost is in proportion to what folding costs, also where batches write little or only read. Where
-    // there is no memory for the new pages all stays as it is, and folding is tried again after as many.
-    fn tidy(&mut self, walked: usize)
-        requires { walked ≤ self.old.records }
+    // Folds the tree's chains, once batches may have walked more records than there were pairs at the last time, and some
+    // more. So all that walks cost is in proportion to what folding costs, also where batches write little or only read.
+    // Where there is no memory for the new pages all stays as it is, and folding is tried again after as many.
+    fn tidy(&mut self)
         ensures contents { contents_of self.new ≡ contents_of self.old }
         ensures settings { settings_of self.new ≡ settings_of self.old }
         ensures stamp { next_stamp_of self.new ≡ next_stamp_of self.old }
         ensures leaves { leaves_of self.new ≡ leaves_of self.old }
         ensures tidied { HasTidied self.old self.new self.old.records }
+        ensures walked { self.new.walked ≡ walked_after self.old self.old.records }
     {
-        self.walked = self.walked.saturating_add(walked);
+        self.walked = self.walked.saturating_add(self.tree.records());
         if self.walked > self.folded.saturating_add(FOLD_LEAST) {
             self.walked = 0;
             if let Ok(pairs) = self.tree.fold() {

@@ -5,7 +5,7 @@
 //! parts. With no word there are few keys, and how many replies of the two are the same is printed. With the word `time`
 //! there are 10,000 keys and 1,000,000, and batches of 65,536 operations: then the times in the middle are printed, and the
 //! ratio of the index's to the map's. Beside it stands the ratio of all times together, since the index folds its chains
-//! after some batches only.
+//! after some batches only. With the word `small` batches of 1, 8, 64 and 1,024 operations are timed in the same way.
 #![tactic(auto)]
 
 ghost use Rattle.std.specs.Prelude.{◌<◌};
@@ -50,6 +50,11 @@ const LARGE: Load = Load {
     operations: BATCH,
     rounds: 15,
 };
+
+// Operations of small batches, and how many of them are run.
+const SIZES: [u64; 4] = [1, 8, 64, 1024];
+
+const SMALL_ROUNDS: u64 = 1001;
 
 /// An index and a map with the same pairs.
 #[derive(Drop)]
@@ -180,6 +185,24 @@ fn print_load<R: Threads + Clock + Sync + Print>(
     Ok(())
 }
 
+// Runs batches of few operations with one worker.
+fn print_small<R: Threads + Clock + Sync + Print>(rt: &R, alloc: Alloc, keys: u64) -> Result<()>
+    requires { 0 < keys }
+{
+    let mut both = filled(rt, alloc, 1, keys)?;
+    for operations in SIZES {
+        println!(rt; "{keys} keys, batches of {operations}:")?;
+        let load = Load {
+            keys,
+            operations,
+            rounds: SMALL_ROUNDS,
+        };
+        print_kind(rt, alloc, &mut both, load, Kind::Gets, true)?;
+        print_kind(rt, alloc, &mut both, load, Kind::GetsAndUpserts, true)?;
+    }
+    Ok(())
+}
+
 fn main(rt: HostRuntime) -> Result<()> {
     let alloc = Heap::new(rt.alloc()).leak(rt.alloc())?;
     let words = env::args(&rt)?.skip(1).collect::<Vec<String>>(rt.alloc())?;
@@ -189,6 +212,10 @@ fn main(rt: HostRuntime) -> Result<()> {
             print_load(&rt, alloc, SMALL, true)?;
             print_load(&rt, alloc, LARGE, true)
         }
-        _ => bail!("usage: bw_batch_bench [time]"),
+        [word] if word.as_str() == "small" => {
+            print_small(&rt, alloc, SMALL.keys)?;
+            print_small(&rt, alloc, LARGE.keys)
+        }
+        _ => bail!("usage: bw_batch_bench [time|small]"),
     }
 }

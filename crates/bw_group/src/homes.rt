@@ -17,7 +17,7 @@ use crate::grouping::{Grouping, Point};
 use bw_key::{Key, Memory};
 use bw_memory::Alloc;
 use bw_model::is_below;
-use bw_tree::{PageId, Tree};
+use bw_tree::{PageId, Routes, Tree};
 use std::marker::Model;
 
 /// The homes of a batch: the pages of its keys, in the order of the keys and none twice, and for each operation that has a
@@ -96,17 +96,18 @@ impl Homes {
 
 /// Finds the page of each operation's key: the tree's `route`.
 ///
-/// It searches for each leaf once that has a key of the batch, in the order of the keys. `Memory` is answered where a
-/// list finds none.
+/// It searches for each leaf once that has a key of the batch, in the order of the keys, so that a search goes on from the
+/// separator of the one before it (`Routes`). `Memory` is answered where a list finds none.
 pub fn find_homes(alloc: Alloc, tree: &Tree, batch: &Grouping<'_>) -> Result<Homes, Memory>
     ensures { IfOk result (AreHomes tree.now batch.now.ops) }
 {
     let mut pages = Vec::new(alloc);
     let mut numbers = no_numbers(alloc, batch.ops.len())?;
     let points = &batch.points;
+    let mut routes = Routes::new(tree);
     let mut start = 0;
     while start < points.len() {
-        let (page, end) = find_run(tree, points, start);
+        let (page, end) = find_run(tree, &mut routes, points, start);
         set_numbers(&mut numbers, &points[start..end], pages.len());
         pages.push(page)?;
         start = end;
@@ -137,9 +138,16 @@ fn set_numbers(numbers: &mut [usize], points: &[Point<'_>], number: usize)
 
 // The run of points that begins at `start`: their page, on which they all are at home, and where the run ends. It costs a
 // search for the page, and for each point of the run a comparison of its key with the page's end.
-fn find_run(tree: &Tree, points: &[Point<'_>], start: usize) -> (PageId, usize)
+fn find_run(
+    tree: &Tree,
+    routes: &mut Routes<'_>,
+    points: &[Point<'_>],
+    start: usize,
+) -> (PageId, usize)
+    requires tree { routes.old.tree ≡ tree.now }
     requires start { start < length points.now }
     requires sorted { IsSortedBy (λ d e. is_lt (key_cmp d.0 e.0)) (entries_of points.now) }
+    ensures tree { routes.new.tree ≡ tree.now }
     ensures there { result.0 < length tree.now.heads }
     ensures leaf { Contains (row tree.now.levels 0) result.0 }
     ensures more { start < result.1 }
@@ -150,7 +158,7 @@ fn find_run(tree: &Tree, points: &[Point<'_>], start: usize) -> (PageId, usize)
         is_below_end (high_of (slot_at tree.now.slots result.0)) (key_at points.now result.1 d) ≡ false }
 {
     tree.know_homes();
-    let page = tree.route(points[start].key);
+    let page = routes.route(points[start].key);
     (page, run_end(points, start, tree.end(page)))
 }
 

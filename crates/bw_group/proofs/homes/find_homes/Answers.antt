@@ -16,14 +16,16 @@ use Rattle.bw_group.proofs.HomeLemmas.{IsRun, all_found, none_found, run_found, 
 use Rattle.bw_group.proofs.homes.find_homes.Goals as goal
 
 pub loop-start-init : goal.loop-start-init
-loop-start-init c =
-    none_found c.args.tree.now c.args.batch.now.ops c.batch.inside.points.items c.new-pages.result.items c.in_ok-numbers.numbers.items c.new-pages.ensures.items
-    (c.in_ok-numbers.ensures ∙ ap (λ (v : GroupingView). length v.ops) c.batch.view_is)
+loop-start-init c = record {
+  found = none_found c.args.tree.now c.args.batch.now.ops c.batch.inside.points.items c.new-pages.result.items c.in_ok-numbers.numbers.items c.new-pages.ensures.items
+      (c.in_ok-numbers.ensures ∙ ap (λ (v : GroupingView). length v.ops) c.batch.view_is);
+  tree = c.new-routes.ensures;
+}
 
 pub set_numbers-requires : goal.set_numbers-requires
 set_numbers-requires c =
     let entries = batch_entries c.batch.inside.ops.now (entries_of c.batch.inside.points.items) c.batch.invariant.same in
-    let size : length c.batch.inside.ops.now ≡ length c.deref_mut.result.now = ap (λ (v : GroupingView). length v.ops) c.batch.view_is ∙ sym c.loop-start.invariant.count ∙ sym (ap length c.deref_mut.ensures.value) in
+    let size : length c.batch.inside.ops.now ≡ length c.deref_mut.result.now = ap (λ (v : GroupingView). length v.ops) c.batch.view_is ∙ sym c.loop-start.invariant.found.count ∙ sym (ap length c.deref_mut.ensures.value) in
     subst (λ (l : List Point). AllByRecursion (λ e. e.1 < length c.deref_mut.result.now) (entries_of (take (c.find_run-page.result.1 - c.loop-start.start) (drop c.loop-start.start l)))) (sym c.deref-in-loop-start.ensures.value)
     (places_within c.batch.inside.ops.now _ _ size (part_holds (IsEntryOf c.batch.inside.ops.now) c.batch.inside.points.items c.loop-start.start (c.find_run-page.result.1 - c.loop-start.start) entries))
 
@@ -57,9 +59,12 @@ loop-start-preserved c =
       whole = λ d lt. subst (λ (l : List Point). m < length l → is_below_end (high_of (slot_at c.args.tree.now.slots page)) (key_at l m d) ≡ false) c.deref.ensures.value
           (λ (h : m < length c.deref.result.now). c.find_run-page.ensures.whole h d) lt;
     } in
-    run_found c.args.tree.now c.args.batch.now.ops points n m page run c.loop-start.pages.items numbers c.push.new.self.items _ any c.loop-start.invariant c.in_ok-push.ensures.items (back ∙ listed)
+    record {
+      found = run_found c.args.tree.now c.args.batch.now.ops points n m page run c.loop-start.pages.items numbers c.push.new.self.items _ any c.loop-start.invariant.found c.in_ok-push.ensures.items (back ∙ listed);
+      tree = c.find_run-page.ensures.tree;
+    }
 
 pub returns : goal.returns
 returns c =
-    all_found c.args.tree.now c.args.batch.now.ops c.batch.inside.points.items c.loop-start.start c.loop-start.pages.items c.loop-start.numbers.items (omega (arith, c.loop-start-test.false, c.len.ensures, c.batch.inside.points.ok)) c.loop-start.invariant
+    all_found c.args.tree.now c.args.batch.now.ops c.batch.inside.points.items c.loop-start.start c.loop-start.pages.items c.loop-start.numbers.items (omega (arith, c.loop-start-test.false, c.len.ensures, c.batch.inside.points.ok)) c.loop-start.invariant.found
     (subst (λ (v : GroupingView). (key : _) → entries_at key (entries_of c.batch.inside.points.items) ≡ entries_at key (entries_from 0 v.ops)) c.batch.view_is c.batch.invariant.same)

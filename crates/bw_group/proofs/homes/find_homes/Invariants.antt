@@ -1,9 +1,12 @@
-use Rattle.std.proofs.Common.{◌-◌, length}
+use Rattle.std.proofs.Common.{◌≡◌, ◌-◌, length}
 use Rattle.bw_group.proofs.HomeLemmas.{AreFoundTo}
 use Rattle.bw_group.proofs.homes.find_homes.Given as goal
 
 abbrev pub invariant-loop-start : goal.invariant-loop-start
-invariant-loop-start l = AreFoundTo l.tree l.batch.ops l.points.items l.start l.pages.items l.numbers.items
+invariant-loop-start l = record {
+  found : AreFoundTo l.tree l.batch.ops l.points.items l.start l.pages.items l.numbers.items;
+  tree : l.routes.tree ≡ l.tree;
+}
 
 abbrev pub decreases-loop-start : goal.decreases-loop-start
 decreases-loop-start l = length l.points.items - l.start

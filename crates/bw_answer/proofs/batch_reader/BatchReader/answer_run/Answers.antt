@@ -29,11 +29,11 @@ answer_group-requires-clause-reads c =
     let homes = subst (λ (t : TreeView). AllByRecursion (λ e. IsHome t.slots t.levels e.0 page) part) (sym is)
     (part_holds (λ e. IsHome c.args.self.now.tree.slots c.args.self.now.tree.levels e.0 page) points at (c.group_end-end.result - at) c.requires.homes) in
     let distinct = c.know_homes.ensures.distinct page (subst (λ (t : TreeView). Contains (row t.levels 0) page) (sym is) c.requires.leaf) in
-    let found = ap pointed_to c.deref.ensures.value ∙ c.in_ok-found.ensures in
+    let found = ap pointed_to c.deref.ensures.value ∙ c.in_ok-leaf.ensures.leaf.writes in
     let group = c.group_of.ensures ∙ ap (λ (l : List (Bor WriteView)). writes_to key (pointed_to l)) c.deref-in-loop-start.ensures.value in
     subst (λ (t : TreeView). AllByRecursion (λ e. IsReadBy t start writes e.0) part) is
     (group_reads tree key start writes page part
-    (group_read tree page key c.base-leaf.result.now.pairs (pointed_to c.deref.result.now) (pointed_to c.in_ok-writes.writes.items) writes start c.know_homes.ensures.values c.base-leaf.ensures.values distinct found
+    (group_read tree page key c.in_ok-leaf.leaf.base.now.pairs (pointed_to c.deref.result.now) (pointed_to c.in_ok-writes.writes.items) writes start c.know_homes.ensures.values c.in_ok-leaf.ensures.values distinct found
     c.in_ok-writes.ensures.same c.find.ensures group)
     (c.group_end-end.ensures.same first) homes)
 
