@@ -1,7 +1,8 @@
 // Operations in the order of their keys, where keys begin alike.
+use bw_fixtures::{heap, key};
 use bw_group::Grouping;
-use bw_key::{Key, Memory};
-use bw_memory::{Alloc, Heap};
+use bw_key::Memory;
+use bw_memory::Alloc;
 use bw_model::Op;
 
 // Keys that rise: some have the same first eight bytes, or would have them with zeros behind their ends.
@@ -25,24 +26,15 @@ fn falling_gets(alloc: Alloc) -> Result<Vec<Op, Alloc>, Memory> {
     let mut ops = Vec::new(alloc);
     for _ in 0..2 {
         for bytes in RISING.iter().rev() {
-            ops.push(get_of(alloc, bytes)?)?;
+            ops.push(Op::Get(key(alloc, bytes)?))?;
         }
     }
     Ok(ops)
 }
 
-fn get_of(alloc: Alloc, bytes: &[u8]) -> Result<Op, Memory> {
-    match Key::new(alloc, bytes) {
-        Ok(key) => Ok(Op::Get(key)),
-        Err(_) => Err(Memory),
-    }
-}
-
 #[test]
 fn keys_that_begin_alike_are_in_order(rt: HostRuntime) {
-    let alloc = Heap::counted(rt.alloc())
-        .leak(rt.alloc())
-        .expect(&rt, "a heap");
+    let alloc = heap(rt.alloc()).expect(&rt, "memory");
     let ops = falling_gets(alloc).expect(&rt, "memory");
     let batch = Grouping::new(alloc, &ops).expect(&rt, "memory");
     assert_eq!(rt; batch.points().len(), 24);

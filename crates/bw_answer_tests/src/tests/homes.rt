@@ -1,7 +1,8 @@
 // The homes of a batch of reads over three leaves.
 ghost use Rattle.std.specs.Prelude.{◌≡◌, length};
 
-use super::making::{heap, homes_of, six_reads, three, was_refused};
+use super::making::{homes_of, six_reads, three};
+use bw_fixtures::{heap, was_refused};
 use bw_group::Homes;
 use bw_page::PageId;
 use std::process::Abort;
@@ -19,7 +20,7 @@ fn are_homes<R: Abort>(rt: &R, homes: &Homes)
 
 #[test]
 fn each_key_has_its_home_at_its_place(rt: HostRuntime) {
-    let alloc = heap(&rt, rt.alloc());
+    let alloc = heap(rt.alloc()).expect(&rt, "memory");
     let tree = three(&rt, alloc);
     let ops = six_reads(&rt, alloc);
     let homes = homes_of(alloc, &tree, &ops).expect(&rt, "memory");
@@ -28,7 +29,7 @@ fn each_key_has_its_home_at_its_place(rt: HostRuntime) {
 
 #[test]
 fn each_growth_of_homes_is_refused(rt: HostRuntime) {
-    let alloc = heap(&rt, rt.alloc());
+    let alloc = heap(rt.alloc()).expect(&rt, "memory");
     let tree = three(&rt, alloc);
     let ops = six_reads(&rt, alloc);
     for growth in 1..100 {

@@ -1,9 +1,8 @@
 // A batch of reads over three leaves.
 ghost use Rattle.std.specs.Prelude.{◌<◌};
 
-use super::making::{
-    heap, reads, replies_by_parts, replies_by_workers, six_reads, six_replies, three, was_refused,
-};
+use super::making::{reads, replies_by_parts, replies_by_workers, six_reads, six_replies, three};
+use bw_fixtures::{heap, was_refused};
 use bw_memory::Alloc;
 use bw_model::Reply;
 use std::process::Abort;
@@ -19,7 +18,7 @@ fn compare<R: Abort>(rt: &R, replies: &[Reply], wanted: &[Reply]) {
 
 #[test]
 fn each_read_is_answered_at_its_place(rt: HostRuntime) {
-    let alloc = heap(&rt, rt.alloc());
+    let alloc = heap(rt.alloc()).expect(&rt, "memory");
     let tree = three(&rt, alloc);
     let ops = six_reads(&rt, alloc);
     for workers in [1, 2, 16, 64] {
@@ -30,7 +29,7 @@ fn each_read_is_answered_at_its_place(rt: HostRuntime) {
 
 #[test]
 fn each_read_is_answered_in_parts(rt: HostRuntime) {
-    let alloc = heap(&rt, rt.alloc());
+    let alloc = heap(rt.alloc()).expect(&rt, "memory");
     let tree = three(&rt, alloc);
     let ops = six_reads(&rt, alloc);
     for count in [1, 2, 3, 64] {
@@ -41,7 +40,7 @@ fn each_read_is_answered_in_parts(rt: HostRuntime) {
 
 #[test]
 fn many_reads_are_answered_alike_by_any_number_of_workers(rt: HostRuntime) {
-    let alloc = heap(&rt, rt.alloc());
+    let alloc = heap(rt.alloc()).expect(&rt, "memory");
     let tree = three(&rt, alloc);
     let ops = reads(&rt, alloc, 5_000);
     let alone = replies_by_workers(&rt, alloc, &tree, &ops, 1).expect(&rt, "memory");
@@ -67,7 +66,7 @@ fn growths<R: Abort + Threads + Sync>(rt: &R, alloc: Alloc, workers: u64) -> u64
 // Each part has lists of its own.
 #[test]
 fn more_workers_answer_in_more_parts(rt: HostRuntime) {
-    let alloc = heap(&rt, rt.alloc());
+    let alloc = heap(rt.alloc()).expect(&rt, "memory");
     let alone = growths(&rt, alloc, 1);
     let four = growths(&rt, alloc, 4);
     assert!(rt; alone < four);
@@ -75,7 +74,7 @@ fn more_workers_answer_in_more_parts(rt: HostRuntime) {
 
 #[test]
 fn a_batch_of_no_operations_has_no_replies(rt: HostRuntime) {
-    let alloc = heap(&rt, rt.alloc());
+    let alloc = heap(rt.alloc()).expect(&rt, "memory");
     let tree = three(&rt, alloc);
     let replies = replies_by_workers(&rt, alloc, &tree, &[], 16).expect(&rt, "memory");
     assert_eq!(rt; replies.as_slice().len(), 0);
@@ -103,10 +102,10 @@ fn refuse_each<R: Abort + Threads + Sync>(rt: &R, alloc: Alloc, count: usize)
 
 #[test]
 fn each_growth_of_replies_is_refused(rt: HostRuntime) {
-    refuse_each(&rt, heap(&rt, rt.alloc()), 1);
+    refuse_each(&rt, heap(rt.alloc()).expect(&rt, "memory"), 1);
 }
 
 #[test]
 fn each_growth_of_replies_in_parts_is_refused(rt: HostRuntime) {
-    refuse_each(&rt, heap(&rt, rt.alloc()), 4);
+    refuse_each(&rt, heap(rt.alloc()).expect(&rt, "memory"), 4);
 }

@@ -1,11 +1,11 @@
 // Batches over many leaves, compared with the plain program.
-ghost use Rattle.std.specs.Prelude.{◌≡◌, ◌<◌, ◌≤◌, [], ◌∷◌, None, is_some, T};
+ghost use Rattle.std.specs.Prelude.{◌≡◌, ◌<◌, [], None, is_some, T};
 ghost use Rattle.bw_model.specs.Contents.{is_below_end};
 ghost use Rattle.bw_tree.specs.Making.{AreAbutting};
 
 use super::maker::{LONG, Maker, WORKERS, put, same};
-use super::random::Random;
-use bw_batch::{Index, Key, Leaf, Op, OpenGate, Options, PageId, Pairs, Tree, Value};
+use bw_batch::{Index, Key, Leaf, Op, OpenGate, Options, PageId, Tree};
+use bw_fixtures::{Random, key, one, value};
 use bw_memory::Alloc;
 use bw_model::ReferenceMap;
 use std::process::Abort;
@@ -13,67 +13,62 @@ use std::thread::Threads;
 
 const VALUES: [&str; 3] = ["", "1", LONG];
 
-// A list of one pair.
-fn one<R: Abort>(rt: &R, make: &Maker<R>, pair: (Key, Value)) -> Pairs
-    ensures { result ≡ pair ∷ [] }
-{
-    Pairs::from_vec(vec![in make.alloc; pair].expect(rt, "the pair"))
-}
-
 // A leaf with one pair: its low key and the value 1.
-fn leaf_of<R: Abort>(
+fn leaf_from<R: Abort>(
     rt: &R,
-    make: &Maker<R>,
-    low: Key,
+    alloc: Alloc,
+    low: &Key,
     high: Option<Key>,
     side: Option<PageId>,
 ) -> Leaf
-    requires wide { T (is_below_end high low) }
+    requires wide { T (is_below_end high low.now) }
     requires linked { is_some side ≡ is_some high }
-    ensures low { result.low ≡ low }
+    ensures low { result.low ≡ low.now }
     ensures high { result.high ≡ high }
     ensures side { result.side ≡ side }
 {
+    let begin = low.copy().expect(rt, "a key");
     let first = low.copy().expect(rt, "a key");
-    assert!(rt; first >= low);
-    let pairs = one(rt, make, (first, make.value("1")));
-    Leaf::from_pairs(low, high, side, pairs)
+    assert!(rt; first >= begin);
+    let value = value(alloc, b"1").expect(rt, "a value");
+    let pairs = one(alloc, (first, value)).expect(rt, "the pair");
+    Leaf::from_pairs(begin, high, side, pairs)
 }
 
-// Where the leaf at a place begins, unless it is the first: at the key of the number place * step, of one byte where the
-// step is below 256, and else of four.
-fn low_of<R: Abort>(rt: &R, make: &Maker<R>, place: u32, step: u32) -> Key {
-    let bytes = place.wrapping_mul(step).to_be_bytes();
-    match step {
-        0..256 => key(rt, make, &bytes[3..]),
-        _ => key(rt, make, &bytes),
-    }
-}
-
-// Of so many leaves the one at this place, which begins at the low key, and all behind it. The first one begins at the
-// least key.
-fn leaves_from<R: Abort>(
-    rt: &R,
-    make: &Maker<R>,
-    low: Key,
-    place: u32,
-    count: u32,
-    step: u32,
-) -> Vec<Leaf, Alloc>
-    requires { place < count }
-    ensures { AreAbutting place low result.items }
+// Where the leaf at a place begins: the first one at the least key, and each other one at the key of the number
+// place * step, of one byte where the step is below 256, and else of four.
+fn low_of<R: Abort>(rt: &R, alloc: Alloc, place: u32, step: u32) -> Key
+    ensures { place ≡ 0 → result ≡ [] }
 {
-    let next = place + 1;
-    if next == count {
-        let last = leaf_of(rt, make, low, None, None);
-        return vec![in make.alloc; last].expect(rt, "a leaf");
+    let bytes = place.wrapping_mul(step).to_be_bytes();
+    let bytes = match (place, step) {
+        (0, _) => &bytes[4..],
+        (_, 0..256) => &bytes[3..],
+        _ => &bytes[..],
+    };
+    key(alloc, bytes).expect(rt, "a key")
+}
+
+// So many leaves of one pair side by side. They are made from the last to the first, in as many steps.
+fn leaves_of<R: Abort>(rt: &R, alloc: Alloc, count: u32, step: u32) -> Vec<Leaf, Alloc>
+    requires { 0 < count }
+    ensures { AreAbutting 0 [] result.items }
+{
+    let mut place = count - 1;
+    let mut low = low_of(rt, alloc, place, step);
+    let mut leaves = Vec::new(alloc);
+    let last = leaf_from(rt, alloc, &low, None, None);
+    leaves.push(last).expect(rt, "a leaf");
+    while place > 0 {
+        let side = Some(PageId(place));
+        let high = low;
+        place -= 1;
+        low = low_of(rt, alloc, place, step);
+        assert!(rt; low < high);
+        let leaf = leaf_from(rt, alloc, &low, Some(high), side);
+        leaves.push(leaf).expect(rt, "a leaf");
     }
-    let high = low_of(rt, make, next, step);
-    assert!(rt; low < high);
-    let begins = high.copy().expect(rt, "a key");
-    let leaf = leaf_of(rt, make, low, Some(high), Some(PageId(next)));
-    let mut leaves = leaves_from(rt, make, begins, next, count, step);
-    leaves.insert(0, leaf).expect(rt, "a leaf");
+    leaves.reverse();
     leaves
 }
 
@@ -82,7 +77,7 @@ pub fn tree_of<R: Abort>(rt: &R, make: &Maker<R>, count: u32, step: u32) -> Tree
     requires { 0 < count }
     ensures { result.staged ≡ None }
 {
-    let leaves = leaves_from(rt, make, key(rt, make, &[]), 0, count, step);
+    let leaves = leaves_of(rt, make.alloc, count, step);
     let tree = Tree::from_level(make.alloc, leaves).expect(rt, "a tree");
     assert!(rt; tree.heads().len() == count as usize + 1);
     tree
@@ -91,9 +86,8 @@ pub fn tree_of<R: Abort>(rt: &R, make: &Maker<R>, count: u32, step: u32) -> Tree
 // The plain program's map of the pairs of such a tree.
 fn map_of<R: Abort>(rt: &R, make: &Maker<R>, count: u32, step: u32) -> ReferenceMap {
     let mut map = ReferenceMap::new(make.alloc);
-    put(rt, &mut map, key(rt, make, &[]), make.value("1"));
-    for place in 1..count {
-        let low = low_of(rt, make, place, step);
+    for place in 0..count {
+        let low = low_of(rt, make.alloc, place, step);
         put(rt, &mut map, low, make.value("1"));
     }
     map
@@ -123,18 +117,12 @@ fn over_leaves<R: Abort>(
     }
 }
 
-fn key<R: Abort>(rt: &R, make: &Maker<R>, bytes: &[u8]) -> Key
-    ensures { result ≡ bytes.now }
-{
-    Key::new(make.alloc, bytes).expect(rt, "a key")
-}
-
 // A key of one byte or two.
 fn draw_key<R: Abort>(rt: &R, make: &Maker<R>, random: &mut Random) -> Key {
     let byte = random.below(256) as u8;
     match random.below(2) {
-        0 => key(rt, make, &[byte]),
-        _ => key(rt, make, &[byte, 0]),
+        0 => key(make.alloc, &[byte]).expect(rt, "a key"),
+        _ => key(make.alloc, &[byte, 0]).expect(rt, "a key"),
     }
 }
 
@@ -201,7 +189,7 @@ fn compare<R: Abort + Threads + Sync>(
     batches: u64,
     len: usize,
 ) {
-    let mut random = Random { state: seed };
+    let mut random = Random::new(seed);
     run_both(rt, &mut both, &[]);
     for _ in 0..batches {
         let ops = batch(rt, make, &mut random, len);

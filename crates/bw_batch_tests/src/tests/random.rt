@@ -1,8 +1,7 @@
 // Some thousand operations drawn from a seed, compared with the plain program.
-ghost use Rattle.std.specs.Prelude.{◌<◌};
-
 use super::maker::{LONG, Maker, same};
 use bw_batch::{Index, Op, OpenGate, Options, Refusal};
+use bw_fixtures::Random;
 use bw_memory::Alloc;
 use bw_model::ReferenceMap;
 use std::process::Abort;
@@ -12,51 +11,34 @@ const KEYS: [&str; 6] = ["", "a", "a\0", LONG, "ab", "b"];
 
 const VALUES: [&str; 4] = ["", "0", "18446744073709551615", LONG];
 
-// Pseudo-random numbers by a linear congruence, whose high bits are taken.
-#[derive(Drop)]
-pub struct Random {
-    pub state: u64,
+fn drawn_key(random: &mut Random) -> &'static str {
+    KEYS[random.below(6)]
 }
 
-impl Random {
-    pub fn below(&mut self, limit: usize) -> usize
-        requires { 0 < limit }
-        ensures { result < limit }
-    {
-        let state = self.state.wrapping_mul(6364136223846793005);
-        self.state = state.wrapping_add(1442695040888963407);
-        (self.state >> 33) as usize % limit
-    }
+fn drawn_end(random: &mut Random) -> Option<&'static str> {
+    KEYS.get(random.below(7)).copied()
+}
 
-    fn key(&mut self) -> &'static str {
-        KEYS[self.below(6)]
-    }
+fn drawn_value(random: &mut Random) -> &'static str {
+    VALUES[random.below(4)]
+}
 
-    fn end(&mut self) -> Option<&'static str> {
-        KEYS.get(self.below(7)).copied()
-    }
-
-    fn value(&mut self) -> &'static str {
-        VALUES[self.below(4)]
-    }
-
-    fn most(&mut self) -> u64 {
-        self.below(5) as u64
-    }
+fn drawn_most(random: &mut Random) -> u64 {
+    random.below(5) as u64
 }
 
 // An operation that is drawn.
 fn draw<R: Abort>(make: &Maker<R>, random: &mut Random) -> Op {
-    let key = random.key();
+    let key = drawn_key(random);
     match random.below(8) {
         0 => make.get(key),
-        1 => make.insert(key, random.value()),
-        2 => make.upsert(key, random.value()),
-        3 => make.update(key, random.value()),
+        1 => make.insert(key, drawn_value(random)),
+        2 => make.upsert(key, drawn_value(random)),
+        3 => make.update(key, drawn_value(random)),
         4 => make.delete(key),
-        5 => make.swap_if(key, random.value(), random.value()),
-        6 => make.scan(key, random.end(), random.most()),
-        _ => make.rscan(key, random.end(), random.most()),
+        5 => make.swap_if(key, drawn_value(random), drawn_value(random)),
+        6 => make.scan(key, drawn_end(random), drawn_most(random)),
+        _ => make.rscan(key, drawn_end(random), drawn_most(random)),
     }
 }
 
@@ -78,7 +60,7 @@ fn compare<R: Abort + Threads + Sync>(
     workers: u64,
     piece: u64,
 ) {
-    let mut random = Random { state: seed };
+    let mut random = Random::new(seed);
     let options = Options::new(workers, piece, 8, 64, 16, 48, 1048576).expect(rt, "options");
     let mut index = Index::new(make.alloc, options).expect(rt, "an index");
     let mut map = ReferenceMap::new(make.alloc);

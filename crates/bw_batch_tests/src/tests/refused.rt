@@ -2,6 +2,7 @@
 use super::leaves::tree_of;
 use super::maker::{LONG, Maker, Pair, put, same};
 use bw_batch::{Done, Index, Memory, Op, OpenGate, Pairs, Refusal, Reply};
+use bw_fixtures::was_refused;
 use bw_memory::Alloc;
 use bw_model::ReferenceMap;
 use std::process::Abort;
@@ -34,13 +35,6 @@ fn filled_leaves<R: Abort + Threads + Sync>(rt: &R, make: &Maker<R>, workers: u6
     let mut index = Index::from_tree(make.alloc, make.working(workers, 1), tree);
     fill(rt, make, &mut index);
     index
-}
-
-// Whether the growth of this number was refused since the heap was told to. It refuses none from now on.
-fn was_refused(alloc: Alloc, growth: u64) -> bool {
-    let left = alloc.left();
-    alloc.refuse(0);
-    left == 0 || left > growth
 }
 
 fn batch<R: Abort>(rt: &R, make: &Maker<R>) -> Vec<Op, Alloc> {

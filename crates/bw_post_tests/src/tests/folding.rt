@@ -1,7 +1,8 @@
 // Trees whose writes are folded.
 ghost use Rattle.std.specs.Prelude.{◌≡◌, None};
 
-use super::making::{FLOOR, batch, heap, holds, key, post, stands, three, upsert};
+use super::making::{FLOOR, batch, holds, post, stands, three, upsert};
+use bw_fixtures::{heap, key};
 use bw_memory::Alloc;
 use bw_page::PageId;
 use bw_post::{Posting, Tree};
@@ -25,19 +26,19 @@ fn written<R: Abort + Threads + Sync>(rt: &R, alloc: Alloc) -> Tree
 
 #[test]
 fn the_writes_are_folded(rt: HostRuntime) {
-    let alloc = heap(&rt, rt.alloc());
+    let alloc = heap(rt.alloc()).expect(&rt, "memory");
     let mut tree = written(&rt, alloc);
     stands(&rt, &tree, &[0, FLOOR, FLOOR + 1, 3], 2, 3);
     assert!(rt; tree.fold() == Ok(3));
     stands(&rt, &tree, &[0, 1, 2, 3], 0, 3);
     assert!(rt; tree.root() == PageId(3));
-    assert!(rt; tree.route(&key(&rt, alloc, b"e")) == PageId(2));
+    assert!(rt; tree.route(&key(alloc, b"e").expect(&rt, "memory")) == PageId(2));
     holds(&rt, alloc, &tree, 3, &AFTER);
 }
 
 #[test]
 fn a_batch_is_posted_over_folded_leaves(rt: HostRuntime) {
-    let alloc = heap(&rt, rt.alloc());
+    let alloc = heap(rt.alloc()).expect(&rt, "memory");
     let mut tree = written(&rt, alloc);
     tree.fold().expect(&rt, "memory");
     let ops = [upsert(&rt, alloc, b"e", b"7")];
@@ -70,7 +71,7 @@ fn fold_refused<R: Abort + Threads + Sync>(rt: &R, alloc: Alloc, growth: u64) ->
 
 #[test]
 fn each_growth_of_a_fold_is_refused(rt: HostRuntime) {
-    let alloc = heap(&rt, rt.alloc());
+    let alloc = heap(rt.alloc()).expect(&rt, "memory");
     for growth in 1..100 {
         if !fold_refused(&rt, alloc, growth) {
             assert!(rt; growth > 4);

@@ -1,105 +1,26 @@
-// Keys, values, leaves and trees from bytes.
-ghost use Rattle.std.specs.Prelude.{◌≡◌, ◌<◌, ◌≤◌, ◌+◌, ◌^◌, [], ◌∷◌, None, Some, length};
-ghost use Rattle.bw_tree.specs.Making.{AreAbutting};
+// A tree over three leaves, batches, and what tests compare with.
+ghost use Rattle.std.specs.Prelude.{◌≡◌, ◌<◌, ◌≤◌, ◌+◌, ◌^◌, None, length};
 ghost use Rattle.bw_tree.specs.Stages.{staged_on};
 ghost use Rattle.bw_tree.specs.Words.{IsPostedStageOn};
 
+use bw_fixtures::{are, key, three_leaves, value};
 use bw_group::Grouping;
-use bw_key::Key;
-use bw_memory::{Alloc, Heap};
-use bw_model::{Op, Pairs, Value};
-use bw_page::{Leaf, PageId};
+use bw_memory::Alloc;
+use bw_model::Op;
 use bw_post::{OpenGate, Posting, Tree, post_all};
-use std::alloc::Global;
 use std::process::Abort;
 use std::thread::Threads;
 
 /// The word of the first record.
 pub const FLOOR: u64 = 4294967296;
 
-/// A heap of its own, which is never freed.
-pub fn heap<R: Abort>(rt: &R, global: Global) -> Alloc {
-    Heap::counted(global).leak(global).expect(rt, "a heap")
-}
-
-pub fn key<R: Abort>(rt: &R, alloc: Alloc, bytes: &[u8]) -> Key
-    ensures { result ≡ bytes.now }
-{
-    Key::new(alloc, bytes).expect(rt, "a key")
-}
-
-pub fn value<R: Abort>(rt: &R, alloc: Alloc, bytes: &[u8]) -> Value {
-    Value::new(alloc, bytes).expect(rt, "a value")
-}
-
-// A key and its value.
-fn pair<R: Abort>(rt: &R, alloc: Alloc, at: &[u8], bytes: &[u8]) -> (Key, Value)
-    ensures { result.0 ≡ at.now }
-{
-    (key(rt, alloc, at), value(rt, alloc, bytes))
-}
-
-// A list of one pair.
-fn one<R: Abort>(rt: &R, alloc: Alloc, pair: (Key, Value)) -> Pairs
-    ensures { result ≡ pair ∷ [] }
-{
-    Pairs::from_vec(vec![in alloc; pair].expect(rt, "the pair"))
-}
-
-// A list of two pairs.
-fn two<R: Abort>(rt: &R, alloc: Alloc, first: (Key, Value), second: (Key, Value)) -> Pairs
-    ensures { result ≡ first ∷ second ∷ [] }
-{
-    Pairs::from_vec(vec![in alloc; first, second].expect(rt, "the pairs"))
-}
-
-// The leaf up to `c`, with page 1 at its right: a 1, b 2.
-fn up_to_c<R: Abort>(rt: &R, alloc: Alloc) -> Leaf
-    ensures low { result.low ≡ [] }
-    ensures high { result.high ≡ Some (99 ∷ []) }
-    ensures side { result.side ≡ Some 1 }
-{
-    let (a, b) = (pair(rt, alloc, b"a", b"1"), pair(rt, alloc, b"b", b"2"));
-    let pairs = two(rt, alloc, a, b);
-    let (low, high) = (key(rt, alloc, b""), key(rt, alloc, b"c"));
-    Leaf::from_pairs(low, Some(high), Some(PageId(1)), pairs)
-}
-
-// The leaf from `c` on and below `e`, with page 2 at its right: c 3.
-fn from_c<R: Abort>(rt: &R, alloc: Alloc) -> Leaf
-    ensures low { result.low ≡ 99 ∷ [] }
-    ensures high { result.high ≡ Some (101 ∷ []) }
-    ensures side { result.side ≡ Some 2 }
-{
-    let pairs = one(rt, alloc, pair(rt, alloc, b"c", b"3"));
-    let (low, high) = (key(rt, alloc, b"c"), key(rt, alloc, b"e"));
-    Leaf::from_pairs(low, Some(high), Some(PageId(2)), pairs)
-}
-
-// The leaf from `e` on: e 5.
-fn from_e<R: Abort>(rt: &R, alloc: Alloc) -> Leaf
-    ensures low { result.low ≡ 101 ∷ [] }
-    ensures high { result.high ≡ None }
-    ensures side { result.side ≡ None }
-{
-    let pairs = one(rt, alloc, pair(rt, alloc, b"e", b"5"));
-    Leaf::from_pairs(key(rt, alloc, b"e"), None, None, pairs)
-}
-
-// Three leaves: a 1 and b 2; c 3; e 5.
-fn leaves<R: Abort>(rt: &R, alloc: Alloc) -> Vec<Leaf, Alloc>
-    ensures { AreAbutting 0 [] result.items }
-{
-    let all = vec![in alloc; up_to_c(rt, alloc), from_c(rt, alloc), from_e(rt, alloc)];
-    all.expect(rt, "the leaves")
-}
-
-/// The tree over the three leaves.
+/// The tree over three leaves: a 1 and b 2; c 3; e 5.
 pub fn three<R: Abort>(rt: &R, alloc: Alloc) -> Tree
     ensures next { result.next ≡ 0 }
     ensures staged { result.staged ≡ None }
 {
-    Tree::from_level(alloc, leaves(rt, alloc)).expect(rt, "memory")
+    let leaves = three_leaves(alloc, b"3").expect(rt, "memory");
+    Tree::from_level(alloc, leaves).expect(rt, "memory")
 }
 
 /// Compares a tree's mapping words, how many records it has, and its next stamp.
@@ -111,16 +32,19 @@ pub fn stands<R: Abort>(rt: &R, tree: &Tree, heads: &[u64], records: usize, next
 
 /// A put of a value at a key.
 pub fn upsert<R: Abort>(rt: &R, alloc: Alloc, bytes: &[u8], put: &[u8]) -> Op {
-    Op::Upsert(key(rt, alloc, bytes), value(rt, alloc, put))
+    Op::Upsert(
+        key(alloc, bytes).expect(rt, "memory"),
+        value(alloc, put).expect(rt, "memory"),
+    )
 }
 
 /// Two writes and a read: upsert c 9, delete e, scan of all keys.
 pub fn batch<R: Abort>(rt: &R, alloc: Alloc) -> [Op; 3] {
     [
         upsert(rt, alloc, b"c", b"9"),
-        Op::Delete(key(rt, alloc, b"e")),
+        Op::Delete(key(alloc, b"e").expect(rt, "memory")),
         Op::Scan {
-            from: key(rt, alloc, b""),
+            from: key(alloc, b"").expect(rt, "memory"),
             to: None,
             most: 9,
         },
@@ -137,7 +61,7 @@ fn has_at<R: Abort>(
     wanted: Option<&'static [u8]>,
 ) {
     let found = tree
-        .value_at(&key(rt, alloc, bytes), stamp)
+        .value_at(&key(alloc, bytes).expect(rt, "memory"), stamp)
         .expect(rt, "memory");
     assert!(rt; found.as_ref().map(|value| value.bytes()) == wanted);
 }
@@ -155,15 +79,6 @@ pub fn has<R: Abort>(
     }
 }
 
-// Compares pairs with the bytes of the wanted ones.
-fn are<R: Abort>(rt: &R, pairs: &Pairs, wanted: &[(&'static [u8], &'static [u8])]) {
-    assert_eq!(rt; pairs.as_slice().len(), wanted.len());
-    for (pair, (key, value)) in pairs.as_slice().iter().zip(wanted) {
-        assert!(rt; pair.0.bytes() == *key);
-        assert!(rt; pair.1.bytes() == *value);
-    }
-}
-
 /// Compares the pairs of all keys as of a stamp.
 pub fn holds<R: Abort>(
     rt: &R,
@@ -172,9 +87,9 @@ pub fn holds<R: Abort>(
     stamp: u64,
     wanted: &[(&'static [u8], &'static [u8])],
 ) {
-    let from = key(rt, alloc, b"");
+    let from = key(alloc, b"").expect(rt, "memory");
     let pairs = tree.scan_at(&from, None, 9, stamp).expect(rt, "memory");
-    are(rt, &pairs, wanted);
+    assert!(rt; are(pairs.as_slice(), wanted));
 }
 
 /// Stages a batch and posts it by one worker.

@@ -4,7 +4,8 @@ ghost use Rattle.std.specs.List.{Contains};
 ghost use Rattle.bw_tree.specs.Levels.{row};
 ghost use Rattle.bw_tree.specs.Stages.{is_adopted};
 
-use super::making::{FLOOR, batch, has, heap, holds, key, post, stands, three, upsert, value};
+use super::making::{FLOOR, batch, has, holds, post, stands, three, upsert};
+use bw_fixtures::{heap, key, value};
 use bw_group::Grouping;
 use bw_key::Memory;
 use bw_memory::{Alloc, Heap};
@@ -31,7 +32,7 @@ fn adopted<R: Abort + Threads + Sync>(rt: &R, alloc: Alloc) -> Tree
 
 #[test]
 fn each_stamp_sees_the_map_before_its_operation(rt: HostRuntime) {
-    let alloc = heap(&rt, rt.alloc());
+    let alloc = heap(rt.alloc()).expect(&rt, "memory");
     let tree = adopted(&rt, alloc);
     has(
         &rt,
@@ -59,7 +60,7 @@ fn each_stamp_sees_the_map_before_its_operation(rt: HostRuntime) {
 
 #[test]
 fn an_adopted_batch_is_undone(rt: HostRuntime) {
-    let alloc = heap(&rt, rt.alloc());
+    let alloc = heap(rt.alloc()).expect(&rt, "memory");
     let mut tree = adopted(&rt, alloc);
     tree.undo();
     stands(&rt, &tree, &[0, 1, 2, 3], 0, 0);
@@ -74,7 +75,7 @@ fn an_adopted_batch_is_undone(rt: HostRuntime) {
 
 #[test]
 fn an_adopted_batch_is_accepted(rt: HostRuntime) {
-    let alloc = heap(&rt, rt.alloc());
+    let alloc = heap(rt.alloc()).expect(&rt, "memory");
     let mut tree = adopted(&rt, alloc);
     tree.accept();
     stands(&rt, &tree, &[0, FLOOR, FLOOR + 1, 3], 2, 3);
@@ -89,7 +90,7 @@ fn an_adopted_batch_is_accepted(rt: HostRuntime) {
 
 #[test]
 fn adopt_and_accept_take_no_memory(rt: HostRuntime) {
-    let alloc = heap(&rt, rt.alloc());
+    let alloc = heap(rt.alloc()).expect(&rt, "memory");
     let mut tree = three(&rt, alloc);
     let Posting { pages, closed, .. } = post(&rt, alloc, &mut tree, &batch(&rt, alloc), 1);
     alloc.refuse(1);
@@ -115,7 +116,7 @@ fn written_twice<R: Abort + Threads + Sync>(rt: &R, alloc: Alloc) -> Tree
 
 #[test]
 fn the_records_of_a_second_batch_stand_behind_those_of_the_first(rt: HostRuntime) {
-    let alloc = heap(&rt, rt.alloc());
+    let alloc = heap(rt.alloc()).expect(&rt, "memory");
     let mut tree = adopted(&rt, alloc);
     tree.accept();
     assert_eq!(rt; tree.next_stamp(), 3);
@@ -125,7 +126,7 @@ fn the_records_of_a_second_batch_stand_behind_those_of_the_first(rt: HostRuntime
 
 #[test]
 fn writes_of_one_key_stand_in_one_chain(rt: HostRuntime) {
-    let alloc = heap(&rt, rt.alloc());
+    let alloc = heap(rt.alloc()).expect(&rt, "memory");
     let tree = written_twice(&rt, alloc);
     has(&rt, alloc, &tree, 0, &[(b"a", None)]);
     has(&rt, alloc, &tree, 1, &[(b"a", Some(b"1"))]);
@@ -136,12 +137,12 @@ fn writes_of_one_key_stand_in_one_chain(rt: HostRuntime) {
 fn leaf_at<R: Abort>(rt: &R, alloc: Alloc, tree: &Tree, bytes: &[u8]) -> PageId
     ensures { Contains (row tree.now.levels 0) result }
 {
-    tree.route(&key(rt, alloc, bytes))
+    tree.route(&key(alloc, bytes).expect(rt, "memory"))
 }
 
 #[test]
 fn the_list_of_a_leafs_writes_takes_one_growth(rt: HostRuntime) {
-    let alloc = heap(&rt, rt.alloc());
+    let alloc = heap(rt.alloc()).expect(&rt, "memory");
     let tree = written_twice(&rt, alloc);
     let page = leaf_at(&rt, alloc, &tree, b"a");
     alloc.refuse(1);
@@ -158,9 +159,9 @@ fn the_list_of_a_leafs_writes_takes_one_growth(rt: HostRuntime) {
 // The writes of its key are listed, and sorted in a second list.
 #[test]
 fn a_value_behind_writes_takes_two_growths(rt: HostRuntime) {
-    let alloc = heap(&rt, rt.alloc());
+    let alloc = heap(rt.alloc()).expect(&rt, "memory");
     let tree = written_twice(&rt, alloc);
-    let at = key(&rt, alloc, b"a");
+    let at = key(alloc, b"a").expect(&rt, "memory");
     for growth in [1u64, 2] {
         alloc.refuse(growth);
         assert!(rt; tree.value_at(&at, 2).err() == Some(Memory));
@@ -169,12 +170,12 @@ fn a_value_behind_writes_takes_two_growths(rt: HostRuntime) {
     alloc.refuse(3);
     let found = tree.value_at(&at, 2).expect(&rt, "memory");
     assert_eq!(rt; alloc.left(), 1);
-    assert!(rt; found == Some(value(&rt, alloc, b"2")));
+    assert!(rt; found == Some(value(alloc, b"2").expect(&rt, "memory")));
 }
 
 // How many growths a scan of all pairs behind the batch takes.
 fn growths<R: Abort>(rt: &R, alloc: Alloc, scans: &mut Scans) -> u64 {
-    let from = key(rt, alloc, b"");
+    let from = key(alloc, b"").expect(rt, "memory");
     alloc.refuse(1000);
     let pairs = scans.scan(&from, None, 9, 2);
     let left = alloc.left();
@@ -185,7 +186,7 @@ fn growths<R: Abort>(rt: &R, alloc: Alloc, scans: &mut Scans) -> u64 {
 
 // And a scan back.
 fn growths_back<R: Abort>(rt: &R, alloc: Alloc, scans: &mut Scans) -> u64 {
-    let from = key(rt, alloc, b"");
+    let from = key(alloc, b"").expect(rt, "memory");
     alloc.refuse(1000);
     let pairs = scans.scan_back(&from, None, 9, 2);
     let left = alloc.left();
@@ -196,7 +197,7 @@ fn growths_back<R: Abort>(rt: &R, alloc: Alloc, scans: &mut Scans) -> u64 {
 
 #[test]
 fn a_leaf_with_writes_is_put_in_a_map_once(rt: HostRuntime) {
-    let alloc = heap(&rt, rt.alloc());
+    let alloc = heap(rt.alloc()).expect(&rt, "memory");
     let tree = adopted(&rt, alloc);
     let mut scans = Scans::new(alloc, &tree);
     assert!(rt; growths(&rt, alloc, &mut scans) > 4);
@@ -206,7 +207,7 @@ fn a_leaf_with_writes_is_put_in_a_map_once(rt: HostRuntime) {
 
 #[test]
 fn a_leaf_with_writes_that_is_scanned_back_is_put_in_a_map_once(rt: HostRuntime) {
-    let alloc = heap(&rt, rt.alloc());
+    let alloc = heap(rt.alloc()).expect(&rt, "memory");
     let tree = adopted(&rt, alloc);
     let mut scans = Scans::new(alloc, &tree);
     assert!(rt; growths_back(&rt, alloc, &mut scans) > 4);
@@ -215,7 +216,7 @@ fn a_leaf_with_writes_that_is_scanned_back_is_put_in_a_map_once(rt: HostRuntime)
 
 // Reads the leaves of a tree behind the batch, two of which have writes, and drops what was read.
 fn drop_scans<R: Abort>(rt: &R, alloc: Alloc, tree: &Tree) {
-    let from = key(rt, alloc, b"");
+    let from = key(alloc, b"").expect(rt, "memory");
     let mut scans = Scans::new(alloc, tree);
     let pairs = scans.scan(&from, None, 9, 2).expect(rt, "memory");
     assert_eq!(rt; pairs.as_slice().len(), 3);
@@ -268,7 +269,7 @@ fn each_growth_refused<R: Abort + Threads + Sync>(rt: &R, alloc: Alloc, workers:
 
 #[test]
 fn each_growth_of_posting_is_refused(rt: HostRuntime) {
-    let alloc = heap(&rt, rt.alloc());
+    let alloc = heap(rt.alloc()).expect(&rt, "memory");
     each_growth_refused(&rt, alloc, 1);
     each_growth_refused(&rt, alloc, 4);
 }

@@ -1,7 +1,8 @@
 // Posting by many workers.
 ghost use Rattle.std.specs.Prelude.{◌<◌, ◌≤◌};
 
-use super::making::{FLOOR, has, heap, key, upsert};
+use super::making::{FLOOR, has, upsert};
+use bw_fixtures::{heap, key};
 use bw_group::Grouping;
 use bw_memory::Alloc;
 use bw_model::Op;
@@ -98,7 +99,7 @@ fn posted<R: Abort + Threads + Sync, G: Gate>(
 
 #[test]
 fn two_workers_post_in_either_order(rt: HostRuntime) {
-    let alloc = heap(&rt, rt.alloc());
+    let alloc = heap(rt.alloc()).expect(&rt, "memory");
     let ops = puts(&rt, alloc, 2);
     for late in 0..2u64 {
         let turn = Turn::new(late, 1 - late, TURNS);
@@ -115,7 +116,7 @@ fn two_workers_post_in_either_order(rt: HostRuntime) {
 // The writes of a piece are posted by one worker, in their order.
 #[test]
 fn a_piece_is_posted_by_one_worker(rt: HostRuntime) {
-    let alloc = heap(&rt, rt.alloc());
+    let alloc = heap(rt.alloc()).expect(&rt, "memory");
     let ops = puts(&rt, alloc, 4);
     let turn = Turn::new(0, 1, TURNS / 10);
     let (tree, _) = posted(&rt, alloc, &ops, 2, 2, &turn);
@@ -147,7 +148,7 @@ impl Gate for Meeting {
 
 #[test]
 fn four_workers_post_at_once(rt: HostRuntime) {
-    let alloc = heap(&rt, rt.alloc());
+    let alloc = heap(rt.alloc()).expect(&rt, "memory");
     let ops = puts(&rt, alloc, 4);
     let meeting = Meeting {
         wanted: 4,
@@ -161,7 +162,7 @@ fn four_workers_post_at_once(rt: HostRuntime) {
 
 // Compares the value at the key as of each stamp.
 fn each_is_read<R: Abort>(rt: &R, alloc: Alloc, tree: &Tree, count: u64) {
-    let name = key(rt, alloc, b"a");
+    let name = key(alloc, b"a").expect(rt, "memory");
     for stamp in 1..count {
         let digit = ((stamp - 1) % 10) as u8 + b'0';
         let found = tree.value_at(&name, stamp).expect(rt, "memory");
@@ -171,7 +172,7 @@ fn each_is_read<R: Abort>(rt: &R, alloc: Alloc, tree: &Tree, count: u64) {
 
 #[test]
 fn each_number_of_workers_posts_each_write_once(rt: HostRuntime) {
-    let alloc = heap(&rt, rt.alloc());
+    let alloc = heap(rt.alloc()).expect(&rt, "memory");
     let ops = puts(&rt, alloc, 200);
     for workers in [1u64, 2, 16, 64] {
         for piece in [1u64, 64, 4096] {

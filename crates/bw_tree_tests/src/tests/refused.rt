@@ -1,16 +1,10 @@
 // Each growth of memory refused in turn.
 use super::making::{LONG, has, heap, key, leaves, stands, three_leaves, three_with, value};
+pub use bw_fixtures::was_refused;
 use bw_memory::Alloc;
 use bw_model::Op;
 use bw_tree::{Memory, Tree};
 use std::process::Abort;
-
-/// Whether the growth of this number was refused. From now on none is.
-pub fn was_refused(alloc: Alloc, growth: u64) -> bool {
-    let left = alloc.left();
-    alloc.refuse(0);
-    left == 0 || left > growth
-}
 
 #[test]
 fn each_growth_of_a_tree_is_refused(rt: HostRuntime) {

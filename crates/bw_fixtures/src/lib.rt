@@ -1,0 +1,14 @@
+//! What tests are made of: heaps, keys, values, pairs and leaves from bytes, and pseudo-random numbers.
+//!
+//! A library can't end a test. So what takes memory answers a `Result`, on which a test calls `expect`.
+#![tactic(auto)]
+
+mod heaps;
+mod leaves;
+mod numbers;
+mod pairs;
+
+pub use heaps::{heap, was_refused};
+pub use leaves::{from_c, from_e, leaf_of, three_leaves, up_to_c};
+pub use numbers::Random;
+pub use pairs::{LONG, are, key, one, pair, two, value};
