@@ -1,5 +1,6 @@
 // What an index keeps comes from its own heap, whatever heap its operations were made on.
-use super::maker::LONG;
+use super::leaves::tree_of;
+use super::maker::{LONG, Maker};
 use bw_batch::{Index, Key, Op, OpenGate, Options, Refusal, Value};
 use bw_memory::{Alloc, Heap};
 use std::alloc::Global;
@@ -82,4 +83,28 @@ fn an_index_refuses_what_its_own_heap_has_no_room_for(rt: HostRuntime) {
     assert!(rt; refusal_of(&rt, other, &mut index, 500) == Some(Refusal::Memory));
     assert_eq!(rt; other.used(), 0);
     assert_eq!(rt; index.tree().records(), 10);
+}
+
+// The bytes of a heap, and those of them that are left for a batch.
+const BYTES: u64 = 1 << 26;
+
+const LEFT: u64 = 1 << 14;
+
+// Takes all that a heap has but what is left for a batch.
+fn fill<R: Abort>(rt: &R, alloc: Alloc) -> Vec<u8, Alloc> {
+    let taken = BYTES.saturating_sub(alloc.used()).saturating_sub(LEFT);
+    Vec::with_capacity(alloc, taken as usize).expect(rt, "memory")
+}
+
+// The mapping words of so many leaves are 80,008 bytes: a batch copies those of the leaves that it touches alone.
+#[test]
+fn a_batch_of_one_write_over_10000_leaves_takes_memory_for_one_of_them(rt: HostRuntime) {
+    let alloc = heap(&rt, rt.alloc(), BYTES);
+    let tree = tree_of(&rt, &Maker::on(&rt, alloc), 10_000, 1 << 16);
+    let mut index = Index::from_tree(alloc, Options::default(), tree);
+    let ops = [Op::Upsert(key(&rt, alloc), value(&rt, alloc, 8))];
+    let _rest = fill(&rt, alloc);
+    assert!(rt; Vec::<u8, Alloc>::with_capacity(alloc, LEFT as usize + 1).is_err());
+    let done = index.run(&rt, &ops, &OpenGate).expect(&rt, "memory");
+    assert_eq!(rt; done.replies.as_slice().len(), 1);
 }

@@ -44,7 +44,11 @@ pub struct Maker<'a, R: Abort> {
 impl<'a, R: Abort> Maker<'a, R> {
     /// A maker on a heap of its own, which is never freed.
     pub fn new(rt: &'a R, global: Global) -> Maker<'a, R> {
-        let alloc = heap(global).expect(rt, "a heap");
+        Maker::on(rt, heap(global).expect(rt, "a heap"))
+    }
+
+    /// A maker on this heap.
+    pub fn on(rt: &'a R, alloc: Alloc) -> Maker<'a, R> {
         Maker { rt, alloc }
     }
 

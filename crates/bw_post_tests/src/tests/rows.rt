@@ -9,6 +9,7 @@ use bw_fixtures::{heap, key, value};
 use bw_group::Grouping;
 use bw_key::Memory;
 use bw_memory::{Alloc, Heap};
+use bw_model::Op;
 use bw_page::PageId;
 use bw_post::{OpenGate, Posting, Tree, post_all};
 use bw_tree::Scans;
@@ -99,6 +100,20 @@ fn adopt_and_accept_take_no_memory(rt: HostRuntime) {
     assert_eq!(rt; alloc.left(), 1);
     alloc.refuse(0);
     stands(&rt, &tree, &[0, FLOOR, FLOOR + 1, 3], 2, 3);
+}
+
+#[test]
+fn a_batch_of_reads_is_posted_to_no_page(rt: HostRuntime) {
+    let alloc = heap(rt.alloc()).expect(&rt, "memory");
+    let mut tree = three(&rt, alloc);
+    let first = key(alloc, b"a").expect(&rt, "a key");
+    let last = key(alloc, b"e").expect(&rt, "a key");
+    let posting = post(&rt, alloc, &mut tree, &[Op::Get(last), Op::Get(first)], 1);
+    assert!(rt; posting.homes.pages() == [PageId(0), PageId(2)].as_slice());
+    assert_eq!(rt; posting.pages.len(), 0);
+    assert_eq!(rt; posting.closed.heads().len(), 0);
+    tree.adopt_on(posting.pages, posting.closed);
+    stands(&rt, &tree, &[0, 1, 2, 3], 0, 0);
 }
 
 // A tree of one leaf, in whose chain two writes of one key stand.
