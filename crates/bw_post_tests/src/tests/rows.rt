@@ -171,6 +171,23 @@ fn the_list_of_a_leafs_writes_takes_one_growth(rt: HostRuntime) {
     assert_eq!(rt; writes[1].stamp, 0);
 }
 
+#[test]
+fn a_leaf_with_writes_is_read_at_once(rt: HostRuntime) {
+    let alloc = heap(rt.alloc()).expect(&rt, "memory");
+    let tree = written_twice(&rt, alloc);
+    let page = leaf_at(&rt, alloc, &tree, b"a");
+    alloc.refuse(1);
+    assert!(rt; tree.leaf(alloc, page).is_err());
+    alloc.refuse(2);
+    let leaf = tree.leaf(alloc, page).expect(&rt, "memory");
+    assert_eq!(rt; alloc.left(), 1);
+    assert_eq!(rt; leaf.writes.len(), 2);
+    assert_eq!(rt; leaf.writes[0].stamp, 1);
+    assert_eq!(rt; leaf.base.pairs().len(), 0);
+    assert!(rt; leaf.end.is_none());
+    assert!(rt; leaf.side.is_none());
+}
+
 // The writes of its key are listed, and sorted in a second list.
 #[test]
 fn a_value_behind_writes_takes_two_growths(rt: HostRuntime) {
