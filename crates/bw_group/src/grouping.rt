@@ -77,8 +77,6 @@ impl<'a> Grouping<'a> {
 pub struct Point<'a> {
     pub key: &'a Key,
     pub place: usize,
-    // Always 0, and read by nothing: proofs that write points out name it.
-    pub(crate) prefix: u64,
 }
 
 // The points of a batch, in its order.
@@ -88,11 +86,7 @@ fn points_of<'a>(alloc: Alloc, ops: &'a [Op]) -> Result<Vec<Point<'a>, Alloc>, M
     let mut points = Vec::with_capacity(alloc, ops.len())?;
     for (place, op) in ops.iter().enumerate() {
         match op.key() {
-            Some(key) => points.push(Point {
-                key,
-                place,
-                prefix: 0,
-            })?,
+            Some(key) => points.push(Point { key, place })?,
             None => {}
         }
     }

@@ -19,7 +19,7 @@ loop-place-preserved c =
     let more = entries_more ops at c.index-ops-place.result c.loop-place-test.true c.index-ops-place.is in
     elim c.match-key.branch [
       | in-Some+in_ok-push-in-Some w ↦
-          with_point old new before after key (record { key = w.in-Some.key; place = at; prefix = 0 }) (ap (λ v. v.items) w.points-is ∙ w.in_ok-push-in-Some.ensures.items)
+          with_point old new before after key (record { key = w.in-Some.key; place = at }) (ap (λ v. v.items) w.points-is ∙ w.in_ok-push-in-Some.ensures.items)
           (sym c.key.ensures ∙ ap option_copied w.in-Some.is)
           c.loop-place.invariant more
       | in-None w ↦ without_point old new before after key at (ap (λ v. v.items) w.points-is) (sym c.key.ensures ∙ ap option_copied w.in-None.is) c.loop-place.invariant more
