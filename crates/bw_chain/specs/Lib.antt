@@ -9,4 +9,5 @@ pub mod Levels
 pub mod Scans
 pub mod Before
 pub mod Searches
+pub mod LeafEnds
 pub mod Laws

@@ -8,6 +8,7 @@ mod chains;
 mod ends;
 mod inners;
 mod laws;
+mod leaf_ends;
 mod reading;
 mod records;
 mod target;
