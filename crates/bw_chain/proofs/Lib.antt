@@ -7,6 +7,7 @@ pub mod RecordLemmas
 pub mod GrowthLemmas
 pub mod TargetLemmas
 pub mod GallopLemmas
+pub mod LeafEndLemmas
 pub mod TurnLemmas
 pub mod ReadingLemmas
 pub mod LeafRowLemmas

@@ -10,4 +10,5 @@ pub mod Scans
 pub mod Before
 pub mod LeafChains
 pub mod Searches
+pub mod LeafEnds
 pub mod Laws

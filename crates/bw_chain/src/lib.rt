@@ -9,6 +9,7 @@ mod ends;
 mod inners;
 mod laws;
 mod leaf_chain;
+mod leaf_ends;
 mod reading;
 mod records;
 mod target;

@@ -1,19 +1,27 @@
 -- Searches of a tree along rising keys.
-use Rattle.std.proofs.Common.{◌≡◌, ℕ, ◌<◌, List, length, get_or, Option, Some, None, sym, ap, ◌∙◌, subst, arith}
+use Rattle.std.proofs.Common.{◌≡◌, ℕ, ◌<◌, T, List, [], length, get_or, Option, Some, None, refl, sym, ap, ◌∙◌, subst, arith}
 use Rattle.std.specs.Prelude.{IfSome, unwrap_or}
+use Rattle.std.specs.Borrow.{Bor}
+use Rattle.std.specs.List.{Contains}
+use Rattle.std.specs.Option.{option_copied}
 use Rattle.std.proofs.lemmas.List.{length-map}
 use Rattle.bw_key.specs.Order.{KeyBytes}
-use Rattle.bw_page.specs.Inners.{InnerView, IsInner}
-use Rattle.bw_page.specs.declared.pages.Page.TheVariants.{Inner as InnerPage}
 use Rattle.bw_chain.specs.declared.target.Target.{Target}
+use Rattle.bw_chain.specs.declared.target.Target.TheVariants.{Home}
+use Rattle.bw_chain.specs.declared.turn.Turn.TheVariants.{Here}
+use Rattle.bw_chain.specs.LeafEnds.{IsEndFor}
+use Rattle.bw_chain.specs.Scans.{high_of}
 use Rattle.bw_chain.specs.Slots.{Slot, PageState, Free, Live, slot_at}
 use Rattle.bw_chain.specs.Levels.{AreLevels, row}
-use Rattle.bw_chain.specs.Chains.{Bases, Records, Ends, plain, slot_of_word, slots_of}
-use Rattle.bw_chain.specs.Searches.{IsInLevels, IsPlaceFor, IsSearching}
+use Rattle.bw_chain.specs.Chains.{Bases, Records, Ends, slot_of_word, slots_of}
+use Rattle.bw_chain.specs.Searches.{IsInLevels, IsSearching}
+use Rattle.bw_chain.specs.Targets.{AreAtHome, IsTurnFor, lies_from}
+use Rattle.bw_chain.proofs.MarkLemmas.{key_stands}
 use Rattle.bw_chain.proofs.ReadingLemmas.{read_is, slot_of_head}
 use Rattle.bw_chain.proofs.RouteLemmas.{held}
 use Rattle.bw_chain.proofs.RowLemmas.{in_row}
-use Rattle.bw_chain.proofs.SearchLemmas.{begins, begins_under}
+use Rattle.bw_chain.proofs.SearchLemmas.{begins, ends_home, held_there}
+use Rattle.bw_tree.specs.Routing.{IsFound, IsFoundEnd}
 use Rattle.bw_tree.specs.View.{TreeView}
 use Rattle.bw_tree.specs.Trees.{IsStanding, StageWords, view_of}
 
@@ -28,8 +36,38 @@ pub record PageAt (tree : TreeView) (heads : List ℕ) (bases : Bases) (records 
   pub slot : slot_at tree.slots p ≡ slot_of_word bases records head
   pub ends : Ends bases records head
 
+at_head : (heads : List ℕ) (bases : Bases) (records : Records) (root next bound : ℕ) (staged : Option StageWords) (tree : TreeView) (p head : ℕ) → view_of heads bases records root next staged ≡ tree → IsStanding heads bases records root bound → p < length heads → head ≡ get_or heads p head → PageAt tree heads bases records p head
+at_head heads bases records root next bound staged tree p head is t there read = record {
+  there = there;
+  slot = ap (λ (v : TreeView). slot_at v.slots p) (sym is) ∙ slot_of_head bases records heads p head there ∙ ap (slot_of_word bases records) (sym read);
+  ends = t.ends p head (read_is heads p head there read);
+}
+
 not_free : {s : PageState} → Free ≡ Live s → ⊥
 not_free e = cc
+
+-- so has a page at which a search stands
+pub searched_there : (heads : List ℕ) (bases : Bases) (records : Records) (root next bound : ℕ) (staged : Option StageWords) (tree : TreeView) (target : Target) (p : ℕ) → view_of heads bases records root next staged ≡ tree → IsStanding heads bases records root bound → T (lies_from target []) → IsSearching tree.slots tree.levels target p → p < length heads
+searched_there heads bases records root next bound staged tree target p is t starts on =
+    let lawful : AreLevels tree.slots root tree.levels = subst (λ (v : TreeView). AreLevels v.slots root v.levels) is t.lawful in
+    let lt = held_there tree.slots root tree.levels lawful target starts p on in
+    let size : length (slots_of heads bases records) ≡ length tree.slots = ap (λ (v : TreeView). length v.slots) is in
+    omega (arith, lt, size, length-map heads (slot_of_word bases records))
+
+pub searched_at_head : (heads : List ℕ) (bases : Bases) (records : Records) (root next bound : ℕ) (staged : Option StageWords) (tree : TreeView) (target : Target) (p head : ℕ) → view_of heads bases records root next staged ≡ tree → IsStanding heads bases records root bound → T (lies_from target []) → IsSearching tree.slots tree.levels target p → head ≡ get_or heads p head → PageAt tree heads bases records p head
+searched_at_head heads bases records root next bound staged tree target p head is t starts on read =
+    at_head heads bases records root next bound staged tree p head is t (searched_there heads bases records root next bound staged tree target p is t starts on) read
+
+-- where a search ends at the page at which it stands, what it is for is at home there
+pub found_end : (heads : List ℕ) (bases : Bases) (records : Records) (root next bound : ℕ) (staged : Option StageWords) (tree : TreeView) (target : Target) (p head : ℕ) (end : Option (Bor KeyBytes)) → view_of heads bases records root next staged ≡ tree → IsStanding heads bases records root bound → IsSearching tree.slots tree.levels target p → PageAt tree heads bases records p head → IsEndFor target (slot_of_word bases records head) end → IsFoundEnd tree target p end
+found_end heads bases records root next bound staged tree target p head end is t on at h =
+    let lawful : AreLevels tree.slots root tree.levels = subst (λ (v : TreeView). AreLevels v.slots root v.levels) is t.lawful in
+    let here : IsTurnFor target (slot_at tree.slots p) Here = subst (λ (o : Slot). IsTurnFor target o Here) (sym at.slot) h.here in
+    record {
+      homes = ends_home tree.slots root tree.levels lawful target p on here;
+      there = subst (λ (v : TreeView). p < length v.heads) is at.there;
+      is = h.is ∙ ap high_of (sym at.slot);
+    }
 
 -- a page of a level has a mapping word
 pub page_there : (heads : List ℕ) (bases : Bases) (records : Records) (root next bound : ℕ) (staged : Option StageWords) (tree : TreeView) (p : ℕ) → view_of heads bases records root next staged ≡ tree → IsStanding heads bases records root bound → IsInLevels tree.levels p → p < length heads
@@ -42,9 +80,16 @@ page_there heads bases records root next bound staged tree p is t on =
 
 pub page_at_head : (heads : List ℕ) (bases : Bases) (records : Records) (root next bound : ℕ) (staged : Option StageWords) (tree : TreeView) (p head : ℕ) → view_of heads bases records root next staged ≡ tree → IsStanding heads bases records root bound → IsInLevels tree.levels p → head ≡ get_or heads p head → PageAt tree heads bases records p head
 page_at_head heads bases records root next bound staged tree p head is t on read =
-    let there = page_there heads bases records root next bound staged tree p is t on in
-    record {
-      there = there;
-      slot = ap (λ (v : TreeView). slot_at v.slots p) (sym is) ∙ slot_of_head bases records heads p head there ∙ ap (slot_of_word bases records) (sym read);
-      ends = t.ends p head (read_is heads p head there read);
-    }
+    at_head heads bases records root next bound staged tree p head is t (page_there heads bases records root next bound staged tree p is t on) read
+
+-- the home of a key, with its end
+pub home_found : (tree : TreeView) (key : Bor KeyBytes) (p : ℕ) (end : Option (Bor KeyBytes)) → AreAtHome tree.slots tree.levels (Home key) p → p < length tree.heads → option_copied end ≡ high_of (slot_at tree.slots p) → IsFound tree key.now (option_copied end) p
+home_found tree key p end homes there is = record {
+  home = homes key.now (key_stands tree.slots (Home key) key.now (λ k. refl));
+  there = there;
+  is = is;
+}
+
+-- which is a leaf
+pub home_in_row : (tree : TreeView) (key : Bor KeyBytes) (p : ℕ) → AreAtHome tree.slots tree.levels (Home key) p → Contains (row tree.levels 0) p
+home_in_row tree key p homes = (homes key.now (key_stands tree.slots (Home key) key.now (λ k. refl))).reached.in_level

@@ -17,5 +17,6 @@ pub use Rattle.bw_chain.specs.Scans
 pub use Rattle.bw_chain.specs.Before
 pub use Rattle.bw_chain.specs.LeafChains
 pub use Rattle.bw_chain.specs.Searches
+pub use Rattle.bw_chain.specs.LeafEnds
 pub use Rattle.bw_chain.specs.Targets
 pub use Rattle.bw_chain.specs.Laws

@@ -1,16 +1,22 @@
 -- Searches of a tree along rising keys.
-use Rattle.std.specs.Prelude.{◌≡◌, ℕ, T, Option, Some, None}
+use Rattle.std.specs.Prelude.{◌≡◌, ℕ, ◌<◌, T, length, Option, Some, None}
 use Rattle.std.specs.Borrow.{Bor}
+use Rattle.std.specs.Option.{option_copied}
 use Rattle.bw_key.specs.Order.{KeyBytes}
 use Rattle.bw_model.specs.Contents.{is_below_end}
 use Rattle.bw_page.specs.Inners.{InnerView}
 use Rattle.bw_chain.specs.Searches.{IsInLevels, plain_inner}
+use Rattle.bw_chain.specs.declared.target.Target.{Target}
+use Rattle.bw_chain.specs.Levels.{IsHome}
+use Rattle.bw_chain.specs.Scans.{high_of}
 use Rattle.bw_chain.specs.Slots.{slot_at}
+use Rattle.bw_chain.specs.Targets.{AreAtHome}
 use Rattle.bw_tree.specs.View.{TreeView}
 
--- what contracts see of searches: the tree
+-- what contracts see of searches: the tree, and where the range of the leaf ends that the last one found
 pub record RoutesView : Type 0 where
   pub tree : TreeView
+  pub end : Option KeyBytes
 
 -- a page of a level is this inner page
 pub record IsInnerOf (tree : TreeView) (inner : InnerView) : Type 0 where
@@ -27,3 +33,15 @@ AreUnder tree (Some inner) = IsInnerOf tree inner.now
 pub record IsKeptFor (tree : TreeView) (inner : InnerView) (key : KeyBytes) : Type 0 where
   pub of_tree : IsInnerOf tree inner
   pub ends_above : T (is_below_end inner.high key)
+
+-- a search ends at the leaf where it begins, whose range ends here
+pub record IsFoundEnd (tree : TreeView) (target : Target) (page : ℕ) (end : Option (Bor KeyBytes)) : Type 0 where
+  pub homes : AreAtHome tree.slots tree.levels target page
+  pub there : page < length tree.heads
+  pub is : option_copied end ≡ high_of (slot_at tree.slots page)
+
+-- the home of a key, whose range ends here
+pub record IsFound (tree : TreeView) (key : KeyBytes) (end : Option KeyBytes) (page : ℕ) : Type 0 where
+  pub home : IsHome tree.slots tree.levels key page
+  pub there : page < length tree.heads
+  pub is : end ≡ high_of (slot_at tree.slots page)

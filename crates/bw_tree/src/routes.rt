@@ -1,9 +1,11 @@
 // Searches of a tree along rising keys.
 ghost use Rattle.std.specs.Prelude.{◌≡◌, ℕ, ◌<◌, true, length, IfSome};
+ghost use Rattle.std.specs.Option.{option_copied};
 ghost use Rattle.bw_chain.specs.Slots.{slot_at, is_leaf};
+ghost use Rattle.bw_chain.specs.Scans.{high_of};
 ghost use Rattle.bw_chain.specs.Levels.{IsHome};
 ghost use Rattle.bw_chain.specs.Searches.{IsInLevels, IsSearching};
-ghost use Rattle.bw_tree.specs.Routing.{IsKeptFor};
+ghost use Rattle.bw_tree.specs.Routing.{IsFound, IsKeptFor};
 
 use crate::tree::Tree;
 use bw_chain::Target;
@@ -15,9 +17,8 @@ use std::marker::Model;
 /// Searches for the leaves of keys, one after another.
 ///
 /// Each finds the leaf that the tree's `route` does, whatever the order of the keys. Where they rise, a search goes on
-/// from the separator of the one before it, and from the root only behind the end of the inner page that is kept: by
-/// steps each of which is twice the one before it, and then by halves, so that it takes about 2 log2 d key comparisons
-/// where its leaf stands d places behind the last one. It takes no memory.
+/// from the separator of the one before it, by steps each of which is twice the one before it, and then by halves. It
+/// goes down from the root where the inner page above the last leaf ends, and where a change lies over that page.
 #[derive(Drop)]
 pub struct Routes<'a> {
     tree: &'a Tree,
@@ -25,14 +26,17 @@ pub struct Routes<'a> {
     above: Option<&'a Inner>,
     // the place of the child that a search last took there
     place: usize,
+    // where the range of the leaf ends that was found last
+    end: Option<&'a Key>,
 }
 
 impl<'a> Model for Routes<'a> {
+    ghost use Rattle.std.specs.Option.{option_copied};
     ghost use Rattle.bw_tree.specs.Routing.{AreUnder, RoutesView};
 
     ghost Value = { RoutesView };
 
-    ghost view = { λ r. record { tree = r.tree.now } };
+    ghost view = { λ r. record { tree = r.tree.now; end = option_copied r.end } };
 
     ghost invariant = { λ r. AreUnder r.tree.now r.above };
 }
@@ -40,27 +44,73 @@ impl<'a> Model for Routes<'a> {
 impl<'a> Routes<'a> {
     /// No search yet. It takes no memory.
     pub fn new(tree: &'a Tree) -> Routes<'a>
-        ensures { result.tree ≡ tree.now }
+        ensures tree { result.tree ≡ tree.now }
+        ensures end { result.end ≡ None }
     {
         Routes {
             tree,
             above: None,
             place: 0,
+            end: None,
         }
     }
 
+    /// The tree that is searched.
+    pub fn tree(&self) -> &'a Tree
+        ensures { result.now ≡ self.now.tree }
+    {
+        self.tree
+    }
+
     /// The one leaf of the leaf level whose range has the key.
+    ///
+    /// It takes about 2 log2 d key comparisons where the leaf stands d places behind the last one, about log2 n, for n
+    /// children, where it stands before that one, and a search from the root where the leaf isn't a child of the same
+    /// page; and a walk along the leaf's chain. It takes no memory.
     pub fn route(&mut self, key: &Key) -> PageId
         ensures tree { self.new.tree ≡ self.old.tree }
         ensures home { IsHome self.old.tree.slots self.old.tree.levels key.now result }
         ensures only { (page : ℕ) → IsHome self.old.tree.slots self.old.tree.levels key.now page → page ≡ result }
         ensures there { result < length self.old.tree.heads }
         ensures leaf { is_leaf (slot_at self.old.tree.slots result) ≡ true }
+        ensures end { self.new.end ≡ high_of (slot_at self.old.tree.slots result) }
     {
         self.tree.know_levels();
+        if let Some(leaf) = self.leaf_at(key) {
+            return leaf;
+        }
+        self.leaf_from(key)
+    }
+
+    /// Where the range of the leaf ends that was found last: the tree's `end` of it, without a walk along its chain.
+    pub fn end(&self) -> Option<&'a Key>
+        ensures { option_copied result ≡ self.now.end }
+    {
+        self.end
+    }
+
+    // The child that the kept page has for the key, if it is the leaf whose range has the key.
+    fn leaf_at(&mut self, key: &Key) -> Option<PageId>
+        ensures tree { self.new.tree ≡ self.old.tree }
+        ensures found { IfSome result (IsFound self.old.tree key.now self.new.end) }
+    {
+        let tree = self.tree;
+        let page = self.child(key)?;
+        let end = tree.end_for(page, Target::Home(key))?;
+        self.end = end;
+        Some(page)
+    }
+
+    // The leaf whose range has the key, by a search from that child on, or from the root.
+    fn leaf_from(&mut self, key: &Key) -> PageId
+        ensures tree { self.new.tree ≡ self.old.tree }
+        ensures found { IsFound self.old.tree key.now self.new.end result }
+    {
+        let tree = self.tree;
         let child = self.child(key);
-        let found = self.tree.search_from(child, Target::Home(key));
+        let found = tree.search_from(child, Target::Home(key));
         self.keep(found.above);
+        self.end = tree.end(found.leaf);
         found.leaf
     }
 
@@ -88,7 +138,8 @@ impl<'a> Routes<'a> {
         Some(inner)
     }
 
-    // Keeps the page from which a search went down, if it went down and no change lies over the page.
+    // Keeps the page from which a search went down, or none where a change lies over it. A search that didn't go down
+    // leaves what is kept.
     fn keep(&mut self, above: Option<PageId>)
         requires { IfSome above (IsInLevels self.old.tree.levels) }
         ensures { self.new.tree ≡ self.old.tree }

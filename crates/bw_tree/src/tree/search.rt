@@ -7,6 +7,7 @@ ghost use Rattle.bw_chain.specs.Levels.{IsHome};
 ghost use Rattle.bw_chain.specs.Before.{IsBefore};
 ghost use Rattle.bw_chain.specs.Searches.{IsInLevels, IsSearching, plain_inner};
 ghost use Rattle.bw_chain.specs.Targets.{AreAtHome, IsLinked, IsTurnFor, StartsFrom, lies_from};
+ghost use Rattle.bw_tree.specs.Routing.{IsFoundEnd};
 
 use super::Tree;
 use bw_chain::{Target, Turn};
@@ -75,6 +76,15 @@ impl Tree {
                 Turn::Left(next) => page = next,
             }
         }
+    }
+
+    /// Where the range of the leaf ends that a search is for, if the search ends where it begins: at this page.
+    pub(crate) fn end_for(&self, page: PageId, target: Target<'_>) -> Option<Option<&Key>>
+        requires starts { T (lies_from target []) }
+        requires begins { IsSearching self.now.slots self.now.levels target page }
+        ensures { IfSome result (IsFoundEnd self.now target.entry page) }
+    {
+        self.chains.end_for(self.heads[page.0 as usize], target)
     }
 
     // Where it goes on from a page.

@@ -54,10 +54,21 @@ fn many_leaves<R: Abort>(rt: &R, alloc: Alloc) -> Tree {
     Tree::from_level(alloc, leaves).expect(rt, "a tree")
 }
 
-// Compares the leaf of a number's key with the one that the tree finds.
+// Whether two ends of ranges are one.
+fn is_end(end: Option<&Key>, other: Option<&Key>) -> bool {
+    match (end, other) {
+        (Some(end), Some(other)) => *end == *other,
+        (None, None) => true,
+        _ => false,
+    }
+}
+
+// Compares the leaf of a number's key, and its end, with what the tree finds.
 fn is_found<R: Abort>(rt: &R, alloc: Alloc, tree: &Tree, routes: &mut Routes<'_>, number: u32) {
     let key = key_of(rt, alloc, number);
-    assert!(rt; routes.route(&key) == tree.route(&key));
+    let leaf = tree.route(&key);
+    assert!(rt; routes.route(&key) == leaf);
+    assert!(rt; is_end(routes.end(), tree.end(leaf)));
 }
 
 #[test]

@@ -1,0 +1,66 @@
+// Where the range of the leaf ends that a search is for.
+ghost use Rattle.std.specs.Prelude.{IfSome};
+ghost use Rattle.bw_chain.specs.Chains.{Bases, IsChain, change, page_at, plain};
+ghost use Rattle.bw_chain.specs.LeafEnds.{IsEndFor};
+ghost use Rattle.bw_chain.specs.Turns.{IsOther};
+
+use crate::chains::Chains;
+use crate::target::Target;
+use bw_delta::Delta;
+use bw_key::Key;
+use bw_page::Page;
+
+impl Chains {
+    /// Where the range of a leaf ends, if a search ends at the leaf: what `turn_at` and `end` tell, by one walk along the
+    /// links of its chain. What is sought doesn't lie before the leaf. It takes no memory.
+    pub fn end_for(&self, head: u64, target: Target<'_>) -> Option<Option<&Key>>
+        requires { IsChain self.now head }
+        ensures { IfSome result (IsEndFor target.entry (page_at self.now head)) }
+    {
+        match self.under_writes(head) {
+            (Some(delta), Some(base)) => leaf_end_over(delta, base, target),
+            (None, Some(base)) => leaf_end_plain(base, target),
+            (_, None) => None,
+        }
+    }
+}
+
+// The same of a changed page.
+fn leaf_end_over<'a>(
+    delta: &'a Delta,
+    base: &'a Page,
+    target: Target<'_>,
+) -> Option<Option<&'a Key>>
+    requires { IsOther delta.now }
+    ensures { IfSome result
+        (λ end. (bases : Bases) → IsEndFor target.entry (change bases delta.now (plain base.now)) end) }
+{
+    let Page::Leaf(_) = base else {
+        return None;
+    };
+    match delta {
+        Delta::Split { sep, .. } => {
+            if target.lies_from(sep) {
+                return None;
+            }
+            Some(Some(sep))
+        }
+        _ => unreachable!(),
+    }
+}
+
+// The same of a plain base page.
+fn leaf_end_plain<'a>(base: &'a Page, target: Target<'_>) -> Option<Option<&'a Key>>
+    ensures { IfSome result (IsEndFor target.entry (plain base.now)) }
+{
+    let Page::Leaf(leaf) = base else {
+        return None;
+    };
+    let Some(high) = leaf.high() else {
+        return Some(None);
+    };
+    if target.lies_from(high) {
+        return None;
+    }
+    Some(Some(high))
+}
