@@ -1,6 +1,7 @@
 // An arena, record by record.
-use super::making::{delete, heap};
+use super::making::delete;
 use bw_delta::{Arena, Delta, Memory};
+use bw_fixtures::heap;
 use bw_memory::Alloc;
 use std::process::Abort;
 
@@ -39,14 +40,14 @@ fn same<R: Abort>(rt: &R, alloc: Alloc, arena: &Arena, links: &[u64]) {
 
 #[test]
 fn an_arena_has_its_records_in_order(rt: HostRuntime) {
-    let alloc = heap(&rt, rt.alloc());
+    let alloc = heap(rt.alloc()).expect(&rt, "memory");
     same(&rt, alloc, &Arena::new(alloc), &[]);
     same(&rt, alloc, &three(&rt, alloc), &[10, 11, 12]);
 }
 
 #[test]
 fn links_are_set_from_a_place_on(rt: HostRuntime) {
-    let alloc = heap(&rt, rt.alloc());
+    let alloc = heap(rt.alloc()).expect(&rt, "memory");
     let mut arena = three(&rt, alloc);
     if arena.len() != 3 {
         panic!(rt; "three records");
@@ -59,7 +60,7 @@ fn links_are_set_from_a_place_on(rt: HostRuntime) {
 
 #[test]
 fn records_behind_a_place_are_left_out(rt: HostRuntime) {
-    let alloc = heap(&rt, rt.alloc());
+    let alloc = heap(rt.alloc()).expect(&rt, "memory");
     let mut arena = three(&rt, alloc);
     arena.truncate(5);
     same(&rt, alloc, &arena, &[10, 11, 12]);
@@ -71,7 +72,7 @@ fn records_behind_a_place_are_left_out(rt: HostRuntime) {
 
 #[test]
 fn a_reserved_record_takes_no_memory(rt: HostRuntime) {
-    let alloc = heap(&rt, rt.alloc());
+    let alloc = heap(rt.alloc()).expect(&rt, "memory");
     let mut arena = three(&rt, alloc);
     arena.reserve(1).expect(&rt, "memory");
     let delta = put(&rt, alloc, 3);
@@ -84,7 +85,7 @@ fn a_reserved_record_takes_no_memory(rt: HostRuntime) {
 
 #[test]
 fn a_refused_reserve_leaves_the_records(rt: HostRuntime) {
-    let alloc = heap(&rt, rt.alloc());
+    let alloc = heap(rt.alloc()).expect(&rt, "memory");
     let mut arena = three(&rt, alloc);
     for growth in 1..3 {
         alloc.refuse(growth);

@@ -1,6 +1,7 @@
 // Records and replays that are dropped give their memory back.
-use super::making::{insert, leaf_of, long};
+use super::making::insert;
 use bw_delta::{Arena, Delta, Replay};
+use bw_fixtures::{LONG, leaf_of};
 use bw_memory::{Alloc, Heap};
 use std::process::Abort;
 use std::test::Fail;
@@ -9,15 +10,15 @@ use std::test::Fail;
 fn drop_arena<R: Abort>(rt: &R, alloc: Alloc) {
     let mut arena = Arena::new(alloc);
     arena.reserve(1).expect(rt, "memory");
-    arena.append(Delta::Put(insert(rt, alloc, 0, b"a", long())), 7);
+    arena.append(Delta::Put(insert(rt, alloc, 0, b"a", LONG)), 7);
     assert!(rt; alloc.used() > 0);
     drop(arena);
 }
 
 // Reads a leaf under a write, whose pairs are in a map then, and drops what was read.
 fn drop_replay<R: Abort>(rt: &R, alloc: Alloc) {
-    let leaf = leaf_of(rt, alloc, long());
-    let write = insert(rt, alloc, 0, b"b", long());
+    let leaf = leaf_of(alloc, LONG).expect(rt, "memory");
+    let write = insert(rt, alloc, 0, b"b", LONG);
     let kept = alloc.used();
     let replay = Replay::new(alloc, &[&leaf], None, &[&write]).expect(rt, "memory");
     let replay = replay.advance(1).expect(rt, "memory");

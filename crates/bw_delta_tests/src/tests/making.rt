@@ -1,41 +1,21 @@
-// Keys, values, writes and leaves from bytes.
+// Writes from bytes, and what three of them leave.
 ghost use Rattle.std.specs.Prelude.{◌≡◌, true, [], ◌∷◌};
 ghost use Rattle.bw_delta.specs.History.{HasDistinctStamps};
 
 use bw_delta::{Action, Memory, Write, leaf_as_of, value_as_of};
+use bw_fixtures::{are, key, value};
 use bw_key::Key;
-use bw_memory::{Alloc, Heap};
+use bw_memory::Alloc;
 use bw_model::{Pairs, Value};
 use bw_page::Leaf;
-use std::alloc::Global;
 use std::process::Abort;
-
-/// Longer than a key or a value that takes no memory.
-pub fn long() -> &'static [u8] {
-    b"a text of more than 24 bytes"
-}
-
-/// A heap of its own, which is never freed.
-pub fn heap<R: Abort>(rt: &R, global: Global) -> Alloc {
-    Heap::counted(global).leak(global).expect(rt, "a heap")
-}
-
-pub fn key<R: Abort>(rt: &R, alloc: Alloc, bytes: &[u8]) -> Key
-    ensures { result ≡ bytes.now }
-{
-    Key::new(alloc, bytes).expect(rt, "a key")
-}
-
-pub fn value<R: Abort>(rt: &R, alloc: Alloc, bytes: &[u8]) -> Value {
-    Value::new(alloc, bytes).expect(rt, "a value")
-}
 
 pub fn write<R: Abort>(rt: &R, alloc: Alloc, stamp: u64, bytes: &[u8], action: Action) -> Write
     ensures { result.stamp ≡ stamp }
 {
     Write {
         stamp,
-        key: key(rt, alloc, bytes),
+        key: key(alloc, bytes).expect(rt, "memory"),
         action,
     }
 }
@@ -51,7 +31,7 @@ pub fn delete<R: Abort>(rt: &R, alloc: Alloc, stamp: u64) -> Write
 pub fn insert<R: Abort>(rt: &R, alloc: Alloc, stamp: u64, at: &[u8], bytes: &[u8]) -> Write
     ensures { result.stamp ≡ stamp }
 {
-    let action = Action::Insert(value(rt, alloc, bytes));
+    let action = Action::Insert(value(alloc, bytes).expect(rt, "memory"));
     write(rt, alloc, stamp, at, action)
 }
 
@@ -59,56 +39,15 @@ pub fn insert<R: Abort>(rt: &R, alloc: Alloc, stamp: u64, at: &[u8], bytes: &[u8
 pub fn update<R: Abort>(rt: &R, alloc: Alloc, stamp: u64, bytes: &[u8]) -> Write
     ensures { result.stamp ≡ stamp }
 {
-    let action = Action::Update(value(rt, alloc, bytes));
+    let action = Action::Update(value(alloc, bytes).expect(rt, "memory"));
     write(rt, alloc, stamp, b"a", action)
-}
-
-/// A key and its value.
-pub fn pair<R: Abort>(rt: &R, alloc: Alloc, at: &[u8], bytes: &[u8]) -> (Key, Value)
-    ensures { result.0 ≡ at.now }
-{
-    (key(rt, alloc, at), value(rt, alloc, bytes))
-}
-
-/// A list of one pair.
-pub fn one<R: Abort>(rt: &R, alloc: Alloc, pair: (Key, Value)) -> Pairs
-    ensures { result ≡ pair ∷ [] }
-{
-    Pairs::from_vec(vec![in alloc; pair].expect(rt, "the pair"))
-}
-
-/// A list of two pairs.
-pub fn two<R: Abort>(rt: &R, alloc: Alloc, first: (Key, Value), second: (Key, Value)) -> Pairs
-    ensures { result ≡ first ∷ second ∷ [] }
-{
-    Pairs::from_vec(vec![in alloc; first, second].expect(rt, "the pairs"))
-}
-
-/// The leaf of all keys, with this value at `a`.
-pub fn leaf_of<R: Abort>(rt: &R, alloc: Alloc, bytes: &[u8]) -> Leaf {
-    let pairs = one(rt, alloc, pair(rt, alloc, b"a", bytes));
-    Leaf::from_pairs(key(rt, alloc, b""), None, None, pairs)
-}
-
-/// Whether pairs have these bytes.
-pub fn are(pairs: &Pairs, wanted: &[(&'static [u8], &'static [u8])]) -> bool {
-    let pairs = pairs.as_slice();
-    if pairs.len() != wanted.len() {
-        return false;
-    }
-    for (pair, (key, value)) in pairs.iter().zip(wanted) {
-        if pair.0.bytes() != *key || pair.1.bytes() != *value {
-            return false;
-        }
-    }
-    true
 }
 
 /// Whether `a` alone is left, with the wanted value, or nothing where none is wanted.
 pub fn is_left(pairs: &Pairs, wanted: Option<&'static [u8]>) -> bool {
     match wanted {
-        Some(value) => are(pairs, &[(b"a", value)]),
-        None => are(pairs, &[]),
+        Some(value) => are(pairs.as_slice(), &[(b"a", value)]),
+        None => are(pairs.as_slice(), &[]),
     }
 }
 

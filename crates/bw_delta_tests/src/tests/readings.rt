@@ -1,13 +1,11 @@
 // What stamped writes leave, in each order of the slice.
-use super::making::{
-    are, delete, heap, insert, is_left, key, leaf_of, pair, pairs_of, two, update, value, value_of,
-    write,
-};
+use super::making::{delete, insert, is_left, pairs_of, update, value_of, write};
 use bw_delta::{Action, Write, contents_are_history};
+use bw_fixtures::{are, heap, key, leaf_of, pair, two, up_to_c, value};
 use bw_key::Key;
 use bw_memory::Alloc;
 use bw_model::Value;
-use bw_page::{Leaf, PageId};
+use bw_page::Leaf;
 use std::process::Abort;
 
 // What three writes at `a` leave over a 4, as of each stamp: an update at 7, a delete at 2 and an insert at 5.
@@ -31,7 +29,7 @@ fn is(value: Option<&Value>, wanted: Option<&'static [u8]>) -> bool {
 
 // Compares what the writes leave over a 4, in this order of the slice.
 fn compare<R: Abort>(rt: &R, alloc: Alloc, order: (&Write, &Write, &Write)) {
-    let start = value(rt, alloc, b"4");
+    let start = value(alloc, b"4").expect(rt, "memory");
     for (stamp, wanted) in LEFT {
         let left = value_of(rt, alloc, Some(&start), order, stamp).expect(rt, "memory");
         assert!(rt; is(left.as_ref(), wanted));
@@ -40,8 +38,8 @@ fn compare<R: Abort>(rt: &R, alloc: Alloc, order: (&Write, &Write, &Write)) {
 
 // Compares what they leave of the leaf with a 4 at `a`.
 fn compare_leaf<R: Abort>(rt: &R, alloc: Alloc, order: (&Write, &Write, &Write)) {
-    let leaf = leaf_of(rt, alloc, b"4");
-    let low = key(rt, alloc, b"");
+    let leaf = leaf_of(alloc, b"4").expect(rt, "memory");
+    let low = key(alloc, b"").expect(rt, "memory");
     for (stamp, wanted) in LEFT {
         let pairs = pairs_of(rt, alloc, &[&leaf], (&low, None), order, stamp);
         let pairs = pairs.expect(rt, "memory");
@@ -66,7 +64,7 @@ fn ordered<R: Abort>(rt: &R, alloc: Alloc, order: u32) -> (Write, Write, Write) 
 
 #[test]
 fn each_order_of_the_writes_leaves_the_same(rt: HostRuntime) {
-    let alloc = heap(&rt, rt.alloc());
+    let alloc = heap(rt.alloc()).expect(&rt, "memory");
     for order in 0..6 {
         let (a, b, c) = ordered(&rt, alloc, order);
         compare(&rt, alloc, (&a, &b, &c));
@@ -74,24 +72,19 @@ fn each_order_of_the_writes_leaves_the_same(rt: HostRuntime) {
     }
 }
 
-// The leaf below `c`: a 1, b 2.
-fn below_c<R: Abort>(rt: &R, alloc: Alloc) -> Leaf {
-    let (a, b) = (pair(rt, alloc, b"a", b"1"), pair(rt, alloc, b"b", b"2"));
-    let pairs = two(rt, alloc, a, b);
-    let (low, high) = (key(rt, alloc, b""), key(rt, alloc, b"c"));
-    Leaf::from_pairs(low, Some(high), Some(PageId(1)), pairs)
-}
-
 // The leaf from `c` on: c 3, e 5.
 fn from_c<R: Abort>(rt: &R, alloc: Alloc) -> Leaf {
-    let (c, e) = (pair(rt, alloc, b"c", b"3"), pair(rt, alloc, b"e", b"5"));
-    let pairs = two(rt, alloc, c, e);
-    Leaf::from_pairs(key(rt, alloc, b"c"), None, None, pairs)
+    let (c, e) = (
+        pair(alloc, b"c", b"3").expect(rt, "memory"),
+        pair(alloc, b"e", b"5").expect(rt, "memory"),
+    );
+    let pairs = two(alloc, c, e).expect(rt, "memory");
+    Leaf::from_pairs(key(alloc, b"c").expect(rt, "memory"), None, None, pairs)
 }
 
 // A delete of c at 2, an upsert of a at 0 and an insert of d at 1.
 fn three_writes<R: Abort>(rt: &R, alloc: Alloc) -> (Write, Write, Write) {
-    let upsert = Action::Upsert(value(rt, alloc, b"9"));
+    let upsert = Action::Upsert(value(alloc, b"9").expect(rt, "memory"));
     (
         write(rt, alloc, 2, b"c", Action::Delete),
         write(rt, alloc, 0, b"a", upsert),
@@ -107,16 +100,20 @@ fn compare_range<R: Abort>(
     stamp: u64,
     wanted: &[(&'static [u8], &'static [u8])],
 ) {
-    let (first, second) = (below_c(rt, alloc), from_c(rt, alloc));
+    let (first, second) = (up_to_c(alloc).expect(rt, "memory"), from_c(rt, alloc));
     let (c, a, d) = three_writes(rt, alloc);
     let pairs = pairs_of(rt, alloc, &[&first, &second], range, (&c, &a, &d), stamp);
-    assert!(rt; are(&pairs.expect(rt, "memory"), wanted));
+    let pairs = pairs.expect(rt, "memory");
+    assert!(rt; are(pairs.as_slice(), wanted));
 }
 
 #[test]
 fn pairs_and_writes_outside_the_range_count_for_nothing(rt: HostRuntime) {
-    let alloc = heap(&rt, rt.alloc());
-    let (b, e) = (key(&rt, alloc, b"b"), key(&rt, alloc, b"e"));
+    let alloc = heap(rt.alloc()).expect(&rt, "memory");
+    let (b, e) = (
+        key(alloc, b"b").expect(&rt, "memory"),
+        key(alloc, b"e").expect(&rt, "memory"),
+    );
     let wanted = [
         (b"b".as_slice(), b"2".as_slice()),
         (b"c", b"3"),
@@ -129,14 +126,20 @@ fn pairs_and_writes_outside_the_range_count_for_nothing(rt: HostRuntime) {
 
 #[test]
 fn all_pairs_are_in_the_range_of_all_keys(rt: HostRuntime) {
-    let alloc = heap(&rt, rt.alloc());
+    let alloc = heap(rt.alloc()).expect(&rt, "memory");
     let wanted = [
         (b"a".as_slice(), b"9".as_slice()),
         (b"b", b"2"),
         (b"d", b"4"),
         (b"e", b"5"),
     ];
-    compare_range(&rt, alloc, (&key(&rt, alloc, b""), None), 9, &wanted);
+    compare_range(
+        &rt,
+        alloc,
+        (&key(alloc, b"").expect(&rt, "memory"), None),
+        9,
+        &wanted,
+    );
 }
 
 #[test]

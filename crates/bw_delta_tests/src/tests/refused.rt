@@ -1,22 +1,16 @@
 // Each growth of memory refused in turn.
-use super::making::{delete, heap, insert, key, leaf_of, long, pairs_of, update, value, value_of};
+use super::making::{delete, insert, pairs_of, update, value_of};
 use bw_delta::Memory;
+use bw_fixtures::{LONG, heap, key, leaf_of, value, was_refused};
 use bw_memory::Alloc;
 use bw_model::{Pairs, Value};
 use std::process::Abort;
 
-/// Whether the growth of this number was refused. From now on none is.
-pub fn was_refused(alloc: Alloc, growth: u64) -> bool {
-    let left = alloc.left();
-    alloc.refuse(0);
-    left == 0 || left > growth
-}
-
 // What a delete and an insert leave of a value, where this growth is refused.
 fn read_value<R: Abort>(rt: &R, alloc: Alloc, growth: u64) -> Result<Option<Value>, Memory> {
-    let start = value(rt, alloc, long());
+    let start = value(alloc, LONG).expect(rt, "memory");
     let first = delete(rt, alloc, 1);
-    let insert = insert(rt, alloc, 2, b"a", long());
+    let insert = insert(rt, alloc, 2, b"a", LONG);
     let late = delete(rt, alloc, 9);
     alloc.refuse(growth);
     value_of(rt, alloc, Some(&start), (&late, &insert, &first), 9)
@@ -24,12 +18,12 @@ fn read_value<R: Abort>(rt: &R, alloc: Alloc, growth: u64) -> Result<Option<Valu
 
 #[test]
 fn each_growth_of_a_value_is_refused(rt: HostRuntime) {
-    let alloc = heap(&rt, rt.alloc());
+    let alloc = heap(rt.alloc()).expect(&rt, "memory");
     for growth in 1..100 {
         let left = read_value(&rt, alloc, growth);
         if !was_refused(alloc, growth) {
             let left = left.expect(&rt, "memory");
-            assert!(rt; left == Some(value(&rt, alloc, long())));
+            assert!(rt; left == Some(value(alloc, LONG).expect(&rt, "memory")));
             assert_eq!(rt; growth, 3);
             return;
         }
@@ -40,10 +34,10 @@ fn each_growth_of_a_value_is_refused(rt: HostRuntime) {
 
 // What an insert and an update leave of a leaf, where this growth is refused.
 fn read_leaf<R: Abort>(rt: &R, alloc: Alloc, growth: u64) -> Result<Pairs, Memory> {
-    let leaf = leaf_of(rt, alloc, long());
-    let low = key(rt, alloc, b"");
-    let insert = insert(rt, alloc, 2, long(), long());
-    let update = update(rt, alloc, 1, long());
+    let leaf = leaf_of(alloc, LONG).expect(rt, "memory");
+    let low = key(alloc, b"").expect(rt, "memory");
+    let insert = insert(rt, alloc, 2, LONG, LONG);
+    let update = update(rt, alloc, 1, LONG);
     let late = delete(rt, alloc, 9);
     alloc.refuse(growth);
     pairs_of(
@@ -58,7 +52,7 @@ fn read_leaf<R: Abort>(rt: &R, alloc: Alloc, growth: u64) -> Result<Pairs, Memor
 
 #[test]
 fn each_growth_of_a_leaf_is_refused(rt: HostRuntime) {
-    let alloc = heap(&rt, rt.alloc());
+    let alloc = heap(rt.alloc()).expect(&rt, "memory");
     for growth in 1..100 {
         let left = read_leaf(&rt, alloc, growth);
         if !was_refused(alloc, growth) {

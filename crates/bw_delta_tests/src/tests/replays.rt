@@ -1,11 +1,9 @@
 // The pairs of a page as of stamps that rise.
 ghost use Rattle.std.specs.Prelude.{◌≡◌, IfOk};
 
-use super::making::{
-    are, are_apart, delete, heap, insert, is_left, key, leaf_of, long, pair, two, update,
-};
-use super::refused::was_refused;
+use super::making::{are_apart, delete, insert, is_left, update};
 use bw_delta::{Memory, Replay, Write};
+use bw_fixtures::{LONG, are, heap, key, leaf_of, pair, two, was_refused};
 use bw_key::Key;
 use bw_memory::Alloc;
 use bw_model::Pairs;
@@ -21,7 +19,7 @@ fn first(alloc: Alloc, replay: &Replay, low: &Key, most: u64) -> Result<Pairs, M
 
 // The last pairs of a replay below a key.
 fn last(alloc: Alloc, replay: &Replay, high: &Key, most: u64) -> Result<Pairs, Memory> {
-    let low = Key::new(alloc, b"").map_err(|_| Memory)?;
+    let low = key(alloc, b"")?;
     let mut read = Vec::new(alloc);
     replay.add_last(&low, Some(high), most, &mut read)?;
     Ok(Pairs::from_vec(read))
@@ -29,38 +27,47 @@ fn last(alloc: Alloc, replay: &Replay, high: &Key, most: u64) -> Result<Pairs, M
 
 // Compares the first pairs of a leaf of all keys with a 1 and b 2.
 fn compare_firsts<R: Abort>(rt: &R, alloc: Alloc, replay: &Replay) {
-    let (a, b) = (key(rt, alloc, b"a"), key(rt, alloc, b"b"));
+    let (a, b) = (
+        key(alloc, b"a").expect(rt, "memory"),
+        key(alloc, b"b").expect(rt, "memory"),
+    );
     let pairs = first(alloc, replay, &a, 9).expect(rt, "memory");
-    assert!(rt; are(&pairs, &[(b"a", b"1"), (b"b", b"2")]));
+    assert!(rt; are(pairs.as_slice(), &[(b"a", b"1"), (b"b", b"2")]));
     let pairs = first(alloc, replay, &a, 1).expect(rt, "memory");
-    assert!(rt; are(&pairs, &[(b"a", b"1")]));
+    assert!(rt; are(pairs.as_slice(), &[(b"a", b"1")]));
     let pairs = first(alloc, replay, &b, 9).expect(rt, "memory");
-    assert!(rt; are(&pairs, &[(b"b", b"2")]));
+    assert!(rt; are(pairs.as_slice(), &[(b"b", b"2")]));
     let pairs = first(alloc, replay, &b, 0).expect(rt, "memory");
-    assert!(rt; are(&pairs, &[]));
+    assert!(rt; are(pairs.as_slice(), &[]));
 }
 
 // Compares the last pairs of that leaf.
 fn compare_lasts<R: Abort>(rt: &R, alloc: Alloc, replay: &Replay) {
-    let (b, c) = (key(rt, alloc, b"b"), key(rt, alloc, b"c"));
+    let (b, c) = (
+        key(alloc, b"b").expect(rt, "memory"),
+        key(alloc, b"c").expect(rt, "memory"),
+    );
     let pairs = last(alloc, replay, &c, 9).expect(rt, "memory");
-    assert!(rt; are(&pairs, &[(b"b", b"2"), (b"a", b"1")]));
+    assert!(rt; are(pairs.as_slice(), &[(b"b", b"2"), (b"a", b"1")]));
     let pairs = last(alloc, replay, &b, 9).expect(rt, "memory");
-    assert!(rt; are(&pairs, &[(b"a", b"1")]));
+    assert!(rt; are(pairs.as_slice(), &[(b"a", b"1")]));
     let pairs = last(alloc, replay, &c, 1).expect(rt, "memory");
-    assert!(rt; are(&pairs, &[(b"b", b"2")]));
+    assert!(rt; are(pairs.as_slice(), &[(b"b", b"2")]));
 }
 
 // The leaf of all keys: a 1, b 2.
 fn a_and_b<R: Abort>(rt: &R, alloc: Alloc) -> Leaf {
-    let (a, b) = (pair(rt, alloc, b"a", b"1"), pair(rt, alloc, b"b", b"2"));
-    let pairs = two(rt, alloc, a, b);
-    Leaf::from_pairs(key(rt, alloc, b""), None, None, pairs)
+    let (a, b) = (
+        pair(alloc, b"a", b"1").expect(rt, "memory"),
+        pair(alloc, b"b", b"2").expect(rt, "memory"),
+    );
+    let pairs = two(alloc, a, b).expect(rt, "memory");
+    Leaf::from_pairs(key(alloc, b"").expect(rt, "memory"), None, None, pairs)
 }
 
 #[test]
 fn a_leaf_is_read_from_both_ends(rt: HostRuntime) {
-    let alloc = heap(&rt, rt.alloc());
+    let alloc = heap(rt.alloc()).expect(&rt, "memory");
     let leaf = a_and_b(&rt, alloc);
     let replay = Replay::new(alloc, &[&leaf], None, &[]).expect(&rt, "memory");
     compare_firsts(&rt, alloc, &replay);
@@ -69,8 +76,8 @@ fn a_leaf_is_read_from_both_ends(rt: HostRuntime) {
 
 #[test]
 fn a_leaf_under_a_write_is_read_from_both_ends(rt: HostRuntime) {
-    let alloc = heap(&rt, rt.alloc());
-    let leaf = leaf_of(&rt, alloc, b"1");
+    let alloc = heap(rt.alloc()).expect(&rt, "memory");
+    let leaf = leaf_of(alloc, b"1").expect(&rt, "memory");
     let insert = insert(&rt, alloc, 0, b"b", b"2");
     let replay = Replay::new(alloc, &[&leaf], None, &[&insert]).expect(&rt, "memory");
     let replay = replay.advance(1).expect(&rt, "memory");
@@ -80,7 +87,7 @@ fn a_leaf_under_a_write_is_read_from_both_ends(rt: HostRuntime) {
 
 #[test]
 fn a_leaf_without_writes_is_read_where_it_stands(rt: HostRuntime) {
-    let alloc = heap(&rt, rt.alloc());
+    let alloc = heap(rt.alloc()).expect(&rt, "memory");
     let leaf = a_and_b(&rt, alloc);
     alloc.refuse(1);
     let replay = Replay::new(alloc, &[&leaf], None, &[]).expect(&rt, "memory");
@@ -90,8 +97,8 @@ fn a_leaf_without_writes_is_read_where_it_stands(rt: HostRuntime) {
 
 #[test]
 fn a_leaf_is_read_where_it_stands_up_to_its_first_write(rt: HostRuntime) {
-    let alloc = heap(&rt, rt.alloc());
-    let leaf = leaf_of(&rt, alloc, b"1");
+    let alloc = heap(rt.alloc()).expect(&rt, "memory");
+    let leaf = leaf_of(alloc, b"1").expect(&rt, "memory");
     let delete = delete(&rt, alloc, 5);
     let replay = Replay::new(alloc, &[&leaf], None, &[&delete]).expect(&rt, "memory");
     alloc.refuse(1);
@@ -101,33 +108,41 @@ fn a_leaf_is_read_where_it_stands_up_to_its_first_write(rt: HostRuntime) {
 
 #[test]
 fn of_two_parts_the_first_has_the_value(rt: HostRuntime) {
-    let alloc = heap(&rt, rt.alloc());
-    let (above, below) = (leaf_of(&rt, alloc, b"9"), a_and_b(&rt, alloc));
+    let alloc = heap(rt.alloc()).expect(&rt, "memory");
+    let (above, below) = (
+        leaf_of(alloc, b"9").expect(&rt, "memory"),
+        a_and_b(&rt, alloc),
+    );
     let replay = Replay::new(alloc, &[&above, &below], None, &[]).expect(&rt, "memory");
-    let pairs = first(alloc, &replay, &key(&rt, alloc, b""), 9).expect(&rt, "memory");
-    assert!(rt; are(&pairs, &[(b"a", b"9"), (b"b", b"2")]));
+    let pairs = first(alloc, &replay, &key(alloc, b"").expect(&rt, "memory"), 9).expect(
+        &rt, "memory",
+    );
+    assert!(rt; are(pairs.as_slice(), &[(b"a", b"9"), (b"b", b"2")]));
 }
 
 // A leaf may reach past the end of its page.
 #[test]
 fn below_its_end_a_leaf_is_read_with_its_writes(rt: HostRuntime) {
-    let alloc = heap(&rt, rt.alloc());
-    let (leaf, end) = (a_and_b(&rt, alloc), key(&rt, alloc, b"b"));
+    let alloc = heap(rt.alloc()).expect(&rt, "memory");
+    let (leaf, end) = (a_and_b(&rt, alloc), key(alloc, b"b").expect(&rt, "memory"));
     let insert = insert(&rt, alloc, 0, b"aa", b"3");
     let replay = Replay::new(alloc, &[&leaf], Some(&end), &[&insert]).expect(&rt, "memory");
     let replay = replay.advance(1).expect(&rt, "memory");
     let pairs = last(alloc, &replay, &end, 9).expect(&rt, "memory");
-    assert!(rt; are(&pairs, &[(b"aa", b"3"), (b"a", b"1")]));
+    assert!(rt; are(pairs.as_slice(), &[(b"aa", b"3"), (b"a", b"1")]));
 }
 
 #[test]
 fn below_their_end_two_parts_are_read(rt: HostRuntime) {
-    let alloc = heap(&rt, rt.alloc());
-    let (above, below) = (leaf_of(&rt, alloc, b"9"), a_and_b(&rt, alloc));
-    let end = key(&rt, alloc, b"b");
+    let alloc = heap(rt.alloc()).expect(&rt, "memory");
+    let (above, below) = (
+        leaf_of(alloc, b"9").expect(&rt, "memory"),
+        a_and_b(&rt, alloc),
+    );
+    let end = key(alloc, b"b").expect(&rt, "memory");
     let replay = Replay::new(alloc, &[&above, &below], Some(&end), &[]).expect(&rt, "memory");
     let pairs = last(alloc, &replay, &end, 9).expect(&rt, "memory");
-    assert!(rt; are(&pairs, &[(b"a", b"9")]));
+    assert!(rt; are(pairs.as_slice(), &[(b"a", b"9")]));
 }
 
 // What an update to 3 at 7, a delete at 2 and an insert of 9 at 5 leave of a 4 at `a`, as of stamps that rise.
@@ -168,7 +183,7 @@ fn compare<'a, R: Abort>(
     leaf: &'a Leaf,
     writes: (&'a Write, &'a Write, &'a Write),
 ) {
-    let least = key(rt, alloc, b"");
+    let least = key(alloc, b"").expect(rt, "memory");
     let mut replay = replay_of(rt, alloc, leaf, writes).expect(rt, "memory");
     for (stamp, wanted) in LEFT {
         replay = advanced(rt, replay, stamp);
@@ -179,8 +194,8 @@ fn compare<'a, R: Abort>(
 
 #[test]
 fn a_replay_goes_on_from_stamp_to_stamp(rt: HostRuntime) {
-    let alloc = heap(&rt, rt.alloc());
-    let leaf = leaf_of(&rt, alloc, b"4");
+    let alloc = heap(rt.alloc()).expect(&rt, "memory");
+    let leaf = leaf_of(alloc, b"4").expect(&rt, "memory");
     let update = update(&rt, alloc, 7, b"3");
     let delete = delete(&rt, alloc, 2);
     let insert = insert(&rt, alloc, 5, b"a", b"9");
@@ -202,10 +217,10 @@ fn read_at<'a, R: Abort>(
 
 // What an insert and an update leave of a leaf, where this growth is refused.
 fn read_leaf<R: Abort>(rt: &R, alloc: Alloc, growth: u64) -> Result<Pairs, Memory> {
-    let leaf = leaf_of(rt, alloc, long());
-    let least = key(rt, alloc, b"");
-    let insert = insert(rt, alloc, 2, long(), long());
-    let update = update(rt, alloc, 1, long());
+    let leaf = leaf_of(alloc, LONG).expect(rt, "memory");
+    let least = key(alloc, b"").expect(rt, "memory");
+    let insert = insert(rt, alloc, 2, LONG, LONG);
+    let update = update(rt, alloc, 1, LONG);
     let late = delete(rt, alloc, 9);
     alloc.refuse(growth);
     read_at(rt, alloc, &leaf, &least, (&late, &insert, &update))
@@ -213,12 +228,12 @@ fn read_leaf<R: Abort>(rt: &R, alloc: Alloc, growth: u64) -> Result<Pairs, Memor
 
 #[test]
 fn each_growth_of_a_replay_is_refused(rt: HostRuntime) {
-    let alloc = heap(&rt, rt.alloc());
+    let alloc = heap(rt.alloc()).expect(&rt, "memory");
     for growth in 1..100 {
         let left = read_leaf(&rt, alloc, growth);
         if !was_refused(alloc, growth) {
             let pairs = left.expect(&rt, "memory");
-            assert!(rt; are(&pairs, &[(b"a", long()), (long(), long())]));
+            assert!(rt; are(pairs.as_slice(), &[(b"a", LONG), (LONG, LONG)]));
             assert!(rt; growth > 5);
             return;
         }

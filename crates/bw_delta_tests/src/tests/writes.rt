@@ -1,14 +1,17 @@
 // Whose memory a write has, and how much.
-use super::making::{heap, key, long, value};
 use bw_delta::{Action, Memory, Op, Write};
+use bw_fixtures::{LONG, heap, key, value};
 use bw_memory::{Alloc, Heap};
 use std::process::Abort;
 use std::test::Fail;
 
 // A swap at a long key, of a long value for another one: three blocks of 28 bytes.
 fn swap<R: Abort>(rt: &R, alloc: Alloc) -> Op {
-    let (old, new) = (value(rt, alloc, long()), value(rt, alloc, long()));
-    Op::SwapIf(key(rt, alloc, long()), old, new)
+    let (old, new) = (
+        value(alloc, LONG).expect(rt, "memory"),
+        value(alloc, LONG).expect(rt, "memory"),
+    );
+    Op::SwapIf(key(alloc, LONG).expect(rt, "memory"), old, new)
 }
 
 // Whether a write is that swap with stamp 7.
@@ -16,9 +19,9 @@ fn is_swap(write: &Write) -> bool {
     match &write.action {
         Action::SwapIf(old, new) => {
             write.stamp == 7
-                && write.key.bytes() == long()
-                && old.bytes() == long()
-                && new.bytes() == long()
+                && write.key.bytes() == LONG
+                && old.bytes() == LONG
+                && new.bytes() == LONG
         }
         _ => false,
     }
@@ -37,7 +40,7 @@ fn write_in<R: Abort>(rt: &R, alloc: Alloc, op: &Op) {
 
 #[test]
 fn a_write_has_the_memory_of_its_own_heap(rt: HostRuntime) -> Result<(), Fail> {
-    let ops = heap(&rt, rt.alloc());
+    let ops = heap(rt.alloc()).expect(&rt, "memory");
     let own = Heap::within(rt.alloc(), 84).leak(rt.alloc())?;
     let op = swap(&rt, ops);
     ops.refuse(1);
@@ -54,7 +57,7 @@ fn is_refused(alloc: Alloc, op: &Op) -> bool {
 
 #[test]
 fn a_write_takes_one_growth_for_each_long_key_and_value(rt: HostRuntime) {
-    let alloc = heap(&rt, rt.alloc());
+    let alloc = heap(rt.alloc()).expect(&rt, "memory");
     let op = swap(&rt, alloc);
     for growth in 1..=3 {
         alloc.refuse(growth);

@@ -1,5 +1,5 @@
 // Pages that are dropped give their memory back, with all that is in them.
-use super::making::{LONG, key, one, pair};
+use bw_fixtures::{LONG, key, one, pair};
 use bw_memory::{Alloc, Heap};
 use bw_page::{Inner, Leaf, PageId};
 use std::process::Abort;
@@ -10,8 +10,11 @@ const LONGER: &[u8] = b"b text of more than 24 bytes";
 
 // Makes a leaf whose bounds and pair take memory, and drops it.
 fn drop_leaf<R: Abort>(rt: &R, alloc: Alloc) {
-    let pairs = one(rt, alloc, pair(rt, alloc, LONG, LONG));
-    let (low, high) = (key(rt, alloc, LONG), key(rt, alloc, LONGER));
+    let pairs = one(alloc, pair(alloc, LONG, LONG).expect(rt, "memory")).expect(rt, "memory");
+    let (low, high) = (
+        key(alloc, LONG).expect(rt, "memory"),
+        key(alloc, LONGER).expect(rt, "memory"),
+    );
     let leaf = Leaf::from_pairs(low, Some(high), Some(PageId(1)), pairs);
     assert!(rt; alloc.used() > 100);
     drop(leaf);
@@ -19,8 +22,14 @@ fn drop_leaf<R: Abort>(rt: &R, alloc: Alloc) {
 
 // Makes an inner page whose bounds and separator take memory, and drops it.
 fn drop_inner<R: Abort>(rt: &R, alloc: Alloc) {
-    let children = vec![in alloc; (key(rt, alloc, LONG), PageId(0))].expect(rt, "the child");
-    let (low, high) = (key(rt, alloc, LONG), key(rt, alloc, LONGER));
+    let children = vec![in alloc; (key(alloc, LONG).expect(rt, "memory"), PageId(0))].expect(
+        rt,
+        "the child",
+    );
+    let (low, high) = (
+        key(alloc, LONG).expect(rt, "memory"),
+        key(alloc, LONGER).expect(rt, "memory"),
+    );
     let inner = Inner::from_children(1, low, Some(high), Some(PageId(9)), children);
     assert!(rt; alloc.used() > 100);
     drop(inner);

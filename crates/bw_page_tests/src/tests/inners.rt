@@ -1,5 +1,6 @@
 // Inner pages.
-use super::making::{c_with, from_c, from_start, from_start_and_c, heap, key};
+use super::making::{c_with, from_c, from_start, from_start_and_c};
+use bw_fixtures::{heap, key};
 use bw_memory::Alloc;
 use bw_page::{Inner, Page, PageId};
 use std::process::Abort;
@@ -23,7 +24,7 @@ fn is_last_from<R: Abort>(rt: &R, inner: &Inner, low: &[u8]) {
 
 // The child that a page has for a key of its range.
 fn child_for<R: Abort>(rt: &R, alloc: Alloc, inner: &Inner, bytes: &[u8]) -> u32 {
-    let key = key(rt, alloc, bytes);
+    let key = key(alloc, bytes).expect(rt, "memory");
     assert!(rt; key >= *inner.low());
     alloc.refuse(1);
     let child = inner.child_for(&key);
@@ -34,7 +35,7 @@ fn child_for<R: Abort>(rt: &R, alloc: Alloc, inner: &Inner, bytes: &[u8]) -> u32
 
 #[test]
 fn an_inner_page_has_its_bounds_and_children(rt: HostRuntime) {
-    let alloc = heap(&rt, rt.alloc());
+    let alloc = heap(rt.alloc()).expect(&rt, "memory");
     let inner = from_start(&rt, alloc);
     assert_eq!(rt; inner.level(), 1);
     assert!(rt; inner.low().bytes() == b"".as_slice());
@@ -45,7 +46,7 @@ fn an_inner_page_has_its_bounds_and_children(rt: HostRuntime) {
 
 #[test]
 fn two_inner_pages_join(rt: HostRuntime) {
-    let alloc = heap(&rt, rt.alloc());
+    let alloc = heap(rt.alloc()).expect(&rt, "memory");
     let inner = from_start_and_c(&rt, alloc);
     is_last_from(&rt, &inner, b"");
     has_children(&rt, &inner, &[(b"", 0), (b"c", 1)]);
@@ -53,10 +54,10 @@ fn two_inner_pages_join(rt: HostRuntime) {
 
 #[test]
 fn a_child_is_put_between_two_others(rt: HostRuntime) {
-    let alloc = heap(&rt, rt.alloc());
+    let alloc = heap(rt.alloc()).expect(&rt, "memory");
     let inner = from_start_and_c(&rt, alloc);
     let more = inner
-        .with_child(&key(&rt, alloc, b"b"), PageId(5))
+        .with_child(&key(alloc, b"b").expect(&rt, "memory"), PageId(5))
         .expect(&rt, "memory");
     is_last_from(&rt, &more, b"");
     has_children(&rt, &more, &[(b"", 0), (b"b", 5), (b"c", 1)]);
@@ -64,10 +65,10 @@ fn a_child_is_put_between_two_others(rt: HostRuntime) {
 
 #[test]
 fn a_child_is_put_in_place_of_another(rt: HostRuntime) {
-    let alloc = heap(&rt, rt.alloc());
+    let alloc = heap(rt.alloc()).expect(&rt, "memory");
     let inner = from_start_and_c(&rt, alloc);
     let other = inner
-        .with_child(&key(&rt, alloc, b"c"), PageId(6))
+        .with_child(&key(alloc, b"c").expect(&rt, "memory"), PageId(6))
         .expect(&rt, "memory");
     is_last_from(&rt, &other, b"");
     has_children(&rt, &other, &[(b"", 0), (b"c", 6)]);
@@ -75,10 +76,10 @@ fn a_child_is_put_in_place_of_another(rt: HostRuntime) {
 
 #[test]
 fn a_child_is_taken_out(rt: HostRuntime) {
-    let alloc = heap(&rt, rt.alloc());
+    let alloc = heap(rt.alloc()).expect(&rt, "memory");
     let inner = from_start_and_c(&rt, alloc);
     let less = inner
-        .without_child(&key(&rt, alloc, b"c"))
+        .without_child(&key(alloc, b"c").expect(&rt, "memory"))
         .expect(&rt, "memory");
     is_last_from(&rt, &less, b"");
     has_children(&rt, &less, &[(b"", 0)]);
@@ -86,7 +87,7 @@ fn a_child_is_taken_out(rt: HostRuntime) {
 
 #[test]
 fn the_upper_half_begins_with_the_first_child_that_moves(rt: HostRuntime) {
-    let alloc = heap(&rt, rt.alloc());
+    let alloc = heap(rt.alloc()).expect(&rt, "memory");
     let inner = from_start_and_c(&rt, alloc);
     let half = inner.upper_half(1).expect(&rt, "memory");
     is_last_from(&rt, &half, b"c");
@@ -95,7 +96,7 @@ fn the_upper_half_begins_with_the_first_child_that_moves(rt: HostRuntime) {
 
 #[test]
 fn a_key_belongs_to_the_last_separator_up_to_it(rt: HostRuntime) {
-    let alloc = heap(&rt, rt.alloc());
+    let alloc = heap(rt.alloc()).expect(&rt, "memory");
     let inner = from_start_and_c(&rt, alloc);
     let wanted = [
         (b"".as_slice(), 0),
@@ -122,7 +123,7 @@ fn told(page: &Page) -> u32 {
 
 #[test]
 fn a_page_is_of_one_kind(rt: HostRuntime) {
-    let alloc = heap(&rt, rt.alloc());
+    let alloc = heap(rt.alloc()).expect(&rt, "memory");
     assert!(rt; told(&Page::Leaf(c_with(&rt, alloc, b"3"))) == 0);
     assert!(rt; told(&Page::Inner(from_c(&rt, alloc))) == 1);
     assert!(rt; told(&Page::Gone(PageId(4))) == 4);

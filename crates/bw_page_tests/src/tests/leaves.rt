@@ -1,7 +1,8 @@
 // Leaves.
 ghost use Rattle.std.specs.Prelude.{◌≡◌, [], ◌∷◌};
 
-use super::making::{a_and_b, c_with, heap, key, pair};
+use super::making::c_with;
+use bw_fixtures::{are, heap, key, pair, up_to_c};
 use bw_key::Key;
 use bw_memory::Alloc;
 use bw_model::Pairs;
@@ -24,20 +25,25 @@ fn four<R: Abort>(
 
 // The leaf of the keys from `c` on and below `h`, with page 7 at its right.
 fn c_to_h<R: Abort>(rt: &R, alloc: Alloc) -> Leaf {
-    let (c, d) = (pair(rt, alloc, b"c", b"3"), pair(rt, alloc, b"d", b"4"));
-    let (dd, f) = (pair(rt, alloc, b"dd", b""), pair(rt, alloc, b"f", b"6"));
+    let (c, d) = (
+        pair(alloc, b"c", b"3").expect(rt, "memory"),
+        pair(alloc, b"d", b"4").expect(rt, "memory"),
+    );
+    let (dd, f) = (
+        pair(alloc, b"dd", b"").expect(rt, "memory"),
+        pair(alloc, b"f", b"6").expect(rt, "memory"),
+    );
     let pairs = four(rt, alloc, c, d, dd, f);
-    let (low, high) = (key(rt, alloc, b"c"), key(rt, alloc, b"h"));
+    let (low, high) = (
+        key(alloc, b"c").expect(rt, "memory"),
+        key(alloc, b"h").expect(rt, "memory"),
+    );
     Leaf::from_pairs(low, Some(high), Some(PageId(7)), pairs)
 }
 
 // Compares a leaf's pairs with the bytes of the wanted ones.
 fn has_pairs<R: Abort>(rt: &R, leaf: &Leaf, wanted: &[(&'static [u8], &'static [u8])]) {
-    assert_eq!(rt; leaf.pairs().len(), wanted.len());
-    for (pair, (key, value)) in leaf.pairs().iter().zip(wanted) {
-        assert!(rt; pair.0.bytes() == *key);
-        assert!(rt; pair.1.bytes() == *value);
-    }
+    assert!(rt; are(leaf.pairs(), wanted));
 }
 
 // Compares the low key of a leaf, which is the last one.
@@ -49,18 +55,18 @@ fn is_last_from<R: Abort>(rt: &R, leaf: &Leaf, low: &[u8]) {
 
 #[test]
 fn an_empty_leaf_has_all_keys_and_no_pair(rt: HostRuntime) {
-    let alloc = heap(&rt, rt.alloc());
+    let alloc = heap(rt.alloc()).expect(&rt, "memory");
     alloc.refuse(1);
     let leaf = Leaf::empty(alloc);
     assert_eq!(rt; alloc.left(), 1);
     is_last_from(&rt, &leaf, b"");
     has_pairs(&rt, &leaf, &[]);
-    assert!(rt; leaf.find(&key(&rt, alloc, b"")).is_none());
+    assert!(rt; leaf.find(&key(alloc, b"").expect(&rt, "memory")).is_none());
 }
 
 #[test]
 fn a_leaf_has_its_bounds_and_pairs(rt: HostRuntime) {
-    let alloc = heap(&rt, rt.alloc());
+    let alloc = heap(rt.alloc()).expect(&rt, "memory");
     let leaf = c_to_h(&rt, alloc);
     assert!(rt; leaf.low().bytes() == b"c".as_slice());
     assert!(rt; leaf.high().map(|high| high.bytes()) == Some(b"h".as_slice()));
@@ -74,7 +80,7 @@ fn a_leaf_has_its_bounds_and_pairs(rt: HostRuntime) {
 
 #[test]
 fn a_key_is_found_among_the_pairs_alone(rt: HostRuntime) {
-    let alloc = heap(&rt, rt.alloc());
+    let alloc = heap(rt.alloc()).expect(&rt, "memory");
     let leaf = c_to_h(&rt, alloc);
     let found = [
         (b"c".as_slice(), b"3".as_slice()),
@@ -83,13 +89,16 @@ fn a_key_is_found_among_the_pairs_alone(rt: HostRuntime) {
         (b"f", b"6"),
     ];
     for (bytes, wanted) in found {
-        let key = key(&rt, alloc, bytes);
+        let key = key(alloc, bytes).expect(&rt, "memory");
         alloc.refuse(1);
         assert!(rt; leaf.find(&key).map(|value| value.bytes()) == Some(wanted));
         assert_eq!(rt; alloc.left(), 1);
     }
     for bytes in [b"".as_slice(), b"b", b"cc", b"e", b"g", b"h", b"z"] {
-        assert!(rt; leaf.find(&key(&rt, alloc, bytes)).is_none());
+        assert!(rt;
+            leaf.find(&key(alloc, bytes).expect(&rt, "memory"))
+                .is_none()
+        );
     }
 }
 
@@ -110,12 +119,12 @@ fn has_between<R: Abort>(
 
 #[test]
 fn a_range_has_its_pairs_and_takes_no_memory(rt: HostRuntime) {
-    let alloc = heap(&rt, rt.alloc());
+    let alloc = heap(rt.alloc()).expect(&rt, "memory");
     let leaf = c_to_h(&rt, alloc);
     let (d, e, f) = (
-        key(&rt, alloc, b"d"),
-        key(&rt, alloc, b"e"),
-        key(&rt, alloc, b"f"),
+        key(alloc, b"d").expect(&rt, "memory"),
+        key(alloc, b"e").expect(&rt, "memory"),
+        key(alloc, b"f").expect(&rt, "memory"),
     );
     alloc.refuse(1);
     has_between(&rt, &leaf, &d, Some(&f), &[b"d", b"dd"]);
@@ -126,8 +135,9 @@ fn a_range_has_its_pairs_and_takes_no_memory(rt: HostRuntime) {
 
 #[test]
 fn two_leaves_join(rt: HostRuntime) {
-    let alloc = heap(&rt, rt.alloc());
-    let leaf = a_and_b(&rt, alloc)
+    let alloc = heap(rt.alloc()).expect(&rt, "memory");
+    let leaf = up_to_c(alloc)
+        .expect(&rt, "memory")
         .joined(&c_with(&rt, alloc, b"3"))
         .expect(&rt, "memory");
     is_last_from(&rt, &leaf, b"");
@@ -136,8 +146,9 @@ fn two_leaves_join(rt: HostRuntime) {
 
 #[test]
 fn the_upper_half_begins_with_the_first_pair_that_moves(rt: HostRuntime) {
-    let alloc = heap(&rt, rt.alloc());
-    let leaf = a_and_b(&rt, alloc)
+    let alloc = heap(rt.alloc()).expect(&rt, "memory");
+    let leaf = up_to_c(alloc)
+        .expect(&rt, "memory")
         .joined(&c_with(&rt, alloc, b"3"))
         .expect(&rt, "memory");
     let half = leaf.upper_half(1).expect(&rt, "memory");

@@ -1,11 +1,12 @@
 // Each growth of memory refused in turn. A refused call asks for no further one.
-use super::making::{LONG, a_and_b, c_with, from_c, from_start, from_start_and_c, heap, key};
+use super::making::{c_with, from_c, from_start, from_start_and_c};
+use bw_fixtures::{LONG, heap, key, up_to_c};
 use bw_page::PageId;
 
 #[test]
 fn the_half_of_a_leaf_takes_one_growth(rt: HostRuntime) {
-    let alloc = heap(&rt, rt.alloc());
-    let leaf = a_and_b(&rt, alloc);
+    let alloc = heap(rt.alloc()).expect(&rt, "memory");
+    let leaf = up_to_c(alloc).expect(&rt, "memory");
     alloc.refuse(1);
     assert!(rt; leaf.upper_half(1).is_err());
     assert_eq!(rt; alloc.left(), 0);
@@ -16,8 +17,8 @@ fn the_half_of_a_leaf_takes_one_growth(rt: HostRuntime) {
 
 #[test]
 fn two_leaves_take_one_growth_and_one_for_a_long_value(rt: HostRuntime) {
-    let alloc = heap(&rt, rt.alloc());
-    let left = a_and_b(&rt, alloc);
+    let alloc = heap(rt.alloc()).expect(&rt, "memory");
+    let left = up_to_c(alloc).expect(&rt, "memory");
     let right = c_with(&rt, alloc, LONG);
     for growth in 1..=2 {
         alloc.refuse(growth);
@@ -31,7 +32,7 @@ fn two_leaves_take_one_growth_and_one_for_a_long_value(rt: HostRuntime) {
 
 #[test]
 fn two_inner_pages_take_one_growth(rt: HostRuntime) {
-    let alloc = heap(&rt, rt.alloc());
+    let alloc = heap(rt.alloc()).expect(&rt, "memory");
     let left = from_start(&rt, alloc);
     let right = from_c(&rt, alloc);
     alloc.refuse(1);
@@ -44,9 +45,9 @@ fn two_inner_pages_take_one_growth(rt: HostRuntime) {
 
 #[test]
 fn another_child_takes_one_growth_and_one_for_a_long_separator(rt: HostRuntime) {
-    let alloc = heap(&rt, rt.alloc());
+    let alloc = heap(rt.alloc()).expect(&rt, "memory");
     let inner = from_start_and_c(&rt, alloc);
-    let sep = key(&rt, alloc, LONG);
+    let sep = key(alloc, LONG).expect(&rt, "memory");
     for growth in 1..=2 {
         alloc.refuse(growth);
         assert!(rt; inner.with_child(&sep, PageId(5)).is_err());
@@ -59,9 +60,9 @@ fn another_child_takes_one_growth_and_one_for_a_long_separator(rt: HostRuntime) 
 
 #[test]
 fn one_child_less_takes_one_growth(rt: HostRuntime) {
-    let alloc = heap(&rt, rt.alloc());
+    let alloc = heap(rt.alloc()).expect(&rt, "memory");
     let inner = from_start_and_c(&rt, alloc);
-    let sep = key(&rt, alloc, b"c");
+    let sep = key(alloc, b"c").expect(&rt, "memory");
     alloc.refuse(1);
     assert!(rt; inner.without_child(&sep).is_err());
     assert_eq!(rt; alloc.left(), 0);
@@ -72,9 +73,9 @@ fn one_child_less_takes_one_growth(rt: HostRuntime) {
 
 #[test]
 fn the_half_of_an_inner_page_takes_one_growth_and_two_for_a_long_low_key(rt: HostRuntime) {
-    let alloc = heap(&rt, rt.alloc());
+    let alloc = heap(rt.alloc()).expect(&rt, "memory");
     let inner = from_start_and_c(&rt, alloc)
-        .with_child(&key(&rt, alloc, LONG), PageId(5))
+        .with_child(&key(alloc, LONG).expect(&rt, "memory"), PageId(5))
         .expect(&rt, "memory");
     assert!(rt; inner.children().len() == 3);
     for growth in 1..=3 {
