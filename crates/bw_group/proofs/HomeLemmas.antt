@@ -145,9 +145,9 @@ module _ (tree : TreeView) (ops : List Op) (ps : List Point) (n m p : ℕ) (run 
               none_left (suc n) [] is lt = omega (arith, lt)
               none_left (suc n) (p ∷ ps) is lt = none_left n ps is (omega (arith, lt))
           at (first ∷ rest) is entries homes = (
-              record { place = first.place; key = first.key.now; entry = entries.0; one = homes.0 },
-              ap (λ (q : Point). q.key.now) (sym (first_of n ps is)),
-            )
+            record { place = first.place; key = first.key.now; entry = entries.0; one = homes.0 },
+            ap (λ (q : Point). q.key.now) (sym (first_of n ps is)),
+          )
             where
               first_of : (n : ℕ) (ps : List Point) → drop n ps ≡ first ∷ rest → get_or ps n d ≡ first
               first_of zero [] is = absurd (let e : [] ≡ first ∷ rest = is in cc)

@@ -64,10 +64,10 @@ module _ (old new : TreeView) (levels : new.levels ≡ old.levels) (pages : (p :
   order_stays : (ps : List ℕ) → AreInKeyOrder old.slots ps → AreInKeyOrder new.slots ps
   order_stays [] order = tt
   order_stays (p ∷ ps) order = (
-      all_same (BeginsBelow old.slots p) (BeginsBelow new.slots p)
-      (λ q below. ap (λ (k : KeyBytes). is_lt (key_cmp k (low_of (slot_at new.slots q)))) (low_stays p) ∙ ap (λ (k : KeyBytes). is_lt (key_cmp (low_of (slot_at old.slots p)) k)) (low_stays q) ∙ below) ps order.0,
-      order_stays ps order.1,
-    )
+    all_same (BeginsBelow old.slots p) (BeginsBelow new.slots p)
+        (λ q below. ap (λ (k : KeyBytes). is_lt (key_cmp k (low_of (slot_at new.slots q)))) (low_stays p) ∙ ap (λ (k : KeyBytes). is_lt (key_cmp (low_of (slot_at old.slots p)) k)) (low_stays q) ∙ below) ps order.0,
+    order_stays ps order.1,
+  )
 
   pub homes_stay : (ops : List Op) (homes : HomesView) → length new.heads ≡ length old.heads → AreHomes old ops homes → AreHomes new ops homes
   homes_stay ops homes heads are = record {

@@ -67,10 +67,7 @@ impl Homes {
             number_of self.now (place_at points.now result.1 d) ≢ number_of self.now (place_at points.now start d) }
     {
         let number = self.numbers[points[start].place];
-        (
-            self.pages[number],
-            self.run_end(points, start, number),
-        )
+        (self.pages[number], self.run_end(points, start, number))
     }
 
     // Where the run of points with a number stops that begins at `start`.
@@ -159,7 +156,7 @@ fn find_run(
 {
     tree.know_homes();
     let page = routes.route(points[start].key);
-    (page, run_end(points, start, tree.end(page)))
+    (page, run_end(points, start, routes.end()))
 }
 
 // Where the run of points below an end stops that begins at `start`: at the first point behind it that isn't below.
