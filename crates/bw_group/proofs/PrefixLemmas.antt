@@ -1,20 +1,27 @@
 -- Keys are in the order of their prefixes, and of themselves where these are alike.
-use Rattle.std.proofs.Common.{◌≡◌, ℕ, zero, suc, ◌+◌, ◌*◌, ◌^◌, ◌<◌, ◌≤◌, List, [], ◌∷◌, get_or, refl, sym, ap, ◌∙◌, arith, Ordering}
-use Rattle.std.specs.Ordering.{nat_cmp, ordering_then, MatchOrdering}
-use Rattle.std.specs.Cmp.{ranks, nat_cmp_is}
+use Rattle.std.proofs.Common.{◌≡◌, ℕ, zero, suc, ◌+◌, ◌*◌, ◌^◌, ◌<◌, ◌≤◌, Bool, true, false, cond, ◌&&◌, nat_eq, List, [], ◌∷◌, length, get_or, refl, sym, ap, ◌∙◌, subst, arith, Ordering}
+use Rattle.std.specs.Prelude.{filter}
+use Rattle.std.specs.List.{AllByRecursion}
+use Rattle.std.specs.List.Sorted.{IsSortedBy, IsStableBy}
+use Rattle.std.specs.Ordering.{is_lt, nat_cmp, ordering_then, MatchOrdering}
+use Rattle.std.specs.Cmp.{ranks, nat_cmp_is, unsigned_Decides}
 use Rattle.std.proofs.lemmas.Nat.{pow-add}
 use Rattle.std.proofs.Math.Pow.{pow_mono}
 use Rattle.std.specs.declared.cmp.Ordering.TheVariants.{Less, Equal, Greater}
-use Rattle.bw_key.specs.Order.{key_cmp}
-use Rattle.bw_group.specs.Prefixes.{continued_by, IsBytes}
+use Rattle.bw_key.specs.Order.{KeyBytes, key_cmp, key_eq}
+use Rattle.bw_group.specs.declared.grouping.Point.{Point}
+use Rattle.bw_group.specs.Prefixes.{continued_by, key_prefix, rank_of, HasPrefix, IsBytes}
+use Rattle.bw_group.proofs.Groups.{is_below, same_of_key}
+use Rattle.bw_group.proofs.Lists.{all_at}
+use Rattle.bw_page.proofs.Search.{same_keys}
 
 below : {x y : ℕ} → x < y → nat_cmp x y ≡ Less
 below {x} {y} lt = sym (nat_cmp_is x y Less lt)
 
-pub alike : (x : ℕ) → nat_cmp x x ≡ Equal
+alike : (x : ℕ) → nat_cmp x x ≡ Equal
 alike x = sym (nat_cmp_is x x Equal refl)
 
-pub above : {x y : ℕ} → y < x → nat_cmp x y ≡ Greater
+above : {x y : ℕ} → y < x → nat_cmp x y ≡ Greater
 above {x} {y} lt = sym (nat_cmp_is x y Greater lt)
 
 rest_is : (b : ℕ) (bytes : List ℕ) → IsBytes (b ∷ bytes) → IsBytes bytes
@@ -68,7 +75,7 @@ prefix_first (suc n) x (b ∷ bs) (c ∷ cs) ib ic = by (nat_cmp b c) refl (rank
         ∙ ap (λ o. ordering_then o (key_cmp bs cs)) (sym is)
 
 -- one byte more takes eight bits more
-pub digits_fit : (i x b : ℕ) → x < 2 ^ (8 * i) → i < 6 → b < 256 → (x * 256 + b < 2 ^ (8 * (i + 1))) × (x * 256 + b < 2 ^ 64)
+pub digits_fit : (i x b : ℕ) → x < 2 ^ (8 * i) → i < 8 → b < 256 → (x * 256 + b < 2 ^ (8 * (i + 1))) × (x * 256 + b < 2 ^ 64)
 digits_fit i x b fits lt small =
     let eight : 8 * (i + 1) ≡ 8 * i + 8 = omega arith in
     let power : 2 ^ (8 * (i + 1)) ≡ 2 ^ (8 * i) * 256 = ap (λ (n : ℕ). 2 ^ n) eight ∙ pow-add 2 (8 * i) 8 in
@@ -82,3 +89,48 @@ one_more zero x [] = omega arith
 one_more zero x (b ∷ bytes) = refl
 one_more (suc n) x [] = one_more n (x * 256) []
 one_more (suc n) x (b ∷ bytes) = one_more n (x * 256 + b) bytes
+
+-- points stand by their ranks as by their keys
+ranked_as_keys : (p q : Point) → HasPrefix p → HasPrefix q → key_cmp (rank_of p) (rank_of q) ≡ key_cmp p.key.now q.key.now
+ranked_as_keys p q hp hq =
+    ap (λ z. ordering_then (nat_cmp z q.prefix) (key_cmp p.key.now q.key.now)) hp.is
+    ∙ ap (λ z. ordering_then (nat_cmp (key_prefix p.key.now) z) (key_cmp p.key.now q.key.now)) hq.is
+    ∙ prefix_first 8 0 p.key.now q.key.now hp.bytes hq.bytes
+
+-- points that are sorted by their ranks are sorted by their keys
+pub sorted_by_keys : (ps : List Point) → AllByRecursion HasPrefix ps → IsSortedBy (is_below rank_of) ps → IsSortedBy (is_below (λ (p : Point). p.key.now)) ps
+sorted_by_keys ps all sorted k d low up =
+    let at = λ (i : ℕ) (lt : i < length ps). all_at HasPrefix ps i (get_or ps i d) lt (same_at ps i d (get_or ps i d) lt) all in
+    ap is_lt (sym (ranked_as_keys (get_or ps (k + 1) d) (get_or ps k d) (at (k + 1) (omega (arith, up))) (at k (omega (arith, up))))) ∙ sorted k d low up
+  where
+    same_at : (xs : List Point) (i : ℕ) (d e : Point) → i < length xs → get_or xs i d ≡ get_or xs i e
+    same_at [] i d e lt = absurd (omega arith)
+    same_at (x ∷ xs) zero d e lt = refl
+    same_at (x ∷ xs) (suc i) d e lt = same_at xs i d e (omega arith)
+
+-- a point has a key where it has the key's rank
+of_rank : (key : KeyBytes) (p : Point) → HasPrefix p → key_eq key p.key.now ≡ key_eq (key_prefix key ∷ key) (rank_of p)
+of_rank key p has = by (key_eq key p.key.now) refl
+  where
+    no_both : (b : Bool) → b && false ≡ false
+    no_both true = refl
+    no_both false = refl
+
+    by : (b : Bool) → key_eq key p.key.now ≡ b → key_eq key p.key.now ≡ (nat_eq (key_prefix key) p.prefix && key_eq key p.key.now)
+    by false is = is ∙ sym (ap (λ c. nat_eq (key_prefix key) p.prefix && c) is ∙ no_both (nat_eq (key_prefix key) p.prefix))
+    by true is =
+        let same : key_prefix key ≡ p.prefix = ap key_prefix (same_keys key p.key.now is) ∙ sym has.is in
+        sym (ap (λ z. nat_eq (key_prefix key) z && key_eq key p.key.now) (sym same) ∙ ap (λ b. b && key_eq key p.key.now) (((unsigned_Decides (key_prefix key) (key_prefix key)).1 refl)))
+
+filter_all : {X : Type 0} (P : X → Type 0) (f g : X → Bool) → ((x : X) → P x → f x ≡ g x) → (xs : List X) → AllByRecursion P xs → filter f xs ≡ filter g xs
+filter_all P f g same [] all = refl
+filter_all P f g same (x ∷ xs) all = rw (same x all.0, filter_all P f g same xs all.1) refl
+
+-- a sort by ranks leaves the points of one key in their order
+pub same_of_keys : (old new : List Point) → AllByRecursion HasPrefix old → AllByRecursion HasPrefix new → IsStableBy (is_below rank_of) old new → (key : KeyBytes)
+    → filter (λ (p : Point). key_eq key p.key.now) new ≡ filter (λ (p : Point). key_eq key p.key.now) old
+same_of_keys old new was is stable key =
+    let at : Point = record { key = record { ref_ptr = (0, 0); now = key }; place = 0; prefix = key_prefix key } in
+    filter_all HasPrefix (λ (p : Point). key_eq key p.key.now) (λ (p : Point). key_eq (rank_of at) (rank_of p)) (of_rank key) new is
+    ∙ same_of_key rank_of old new stable at
+    ∙ sym (filter_all HasPrefix (λ (p : Point). key_eq key p.key.now) (λ (p : Point). key_eq (rank_of at) (rank_of p)) (of_rank key) old was)

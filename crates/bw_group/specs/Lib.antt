@@ -1,4 +1,3 @@
 pub mod Points
 pub mod Homes
 pub mod Prefixes
-pub mod Sorting

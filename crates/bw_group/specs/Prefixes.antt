@@ -1,7 +1,7 @@
--- The first bytes of a key as one number, and words: such a number above a place.
-use Rattle.std.specs.Prelude.{ℕ, ◌+◌, ◌*◌, ◌/◌, ◌%◌, ◌<◌, zero, suc, List, [], ◌∷◌, slice_index_or}
+-- The first bytes of a key as one number: most keys are compared by it alone.
+use Rattle.std.specs.Prelude.{◌≡◌, ℕ, ◌+◌, ◌*◌, ◌<◌, zero, suc, List, [], ◌∷◌, slice_index_or}
 use Rattle.bw_key.specs.Order.{KeyBytes}
-use Rattle.bw_group.specs.declared.prefixes.Word.{Word}
+use Rattle.bw_group.specs.declared.grouping.Point.{Point}
 
 -- a number to the base 256 that is continued by the first n bytes of a key, with zeros behind a shorter one
 abbrev pub continued_by : ℕ → ℕ → KeyBytes → ℕ
@@ -9,17 +9,19 @@ continued_by zero number bytes = number
 continued_by (suc n) number [] = continued_by n (number * 256) []
 continued_by (suc n) number (b ∷ bytes) = continued_by n (number * 256 + b) bytes
 
--- the first six bytes of a key as one number
+-- the first eight bytes of a key as one number
 abbrev pub key_prefix : KeyBytes → ℕ
-key_prefix = continued_by 6 0
+key_prefix = continued_by 8 0
 
 -- each of them is a byte
 abbrev pub IsBytes : List ℕ → Type 0
 IsBytes bytes = (k : ℕ) → slice_index_or bytes k 0 < 256
 
--- what a word has above, and below
-abbrev pub word_prefix : Word → ℕ
-word_prefix word = word.number / 65536
+-- the point knows the prefix of its key
+pub record HasPrefix (point : Point) : Type 0 where
+  pub is : point.prefix ≡ key_prefix point.key.now
+  pub bytes : IsBytes point.key.now
 
-abbrev pub word_place : Word → ℕ
-word_place word = word.number % 65536
+-- what points are compared by: the prefix, and behind it the key
+abbrev pub rank_of : Point → List ℕ
+rank_of point = point.prefix ∷ point.key.now

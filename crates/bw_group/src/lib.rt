@@ -7,7 +7,6 @@
 mod grouping;
 mod homes;
 mod prefixes;
-mod sorting;
 
 pub use grouping::{Grouping, Point, group_end};
 pub use homes::{Homes, find_homes};

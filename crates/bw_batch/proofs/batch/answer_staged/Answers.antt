@@ -9,12 +9,12 @@ use Rattle.bw_batch.proofs.batch.answer_staged.Goals as goal
 pub replies-requires-clause-homes : goal.replies-requires-clause-homes
 replies-requires-clause-homes g c κs within =
     homes_stay c.args.tree.now c.adopt_on.new.self c.adopt_on.ensures.levels c.adopt_on.ensures.pages c.args.batch.now.ops _
-    (ap (λ (l : List ℕ). length l) c.adopt_on.ensures.heads ∙ length_put c.args.tree.now.heads _ _) c.in_ok-post_all.ensures.homes
+    (ap (λ (l : List ℕ). length l) c.adopt_on.ensures.heads ∙ length_put c.args.tree.now.heads _ _) c.in_ok-homes.ensures.homes
 
 pub returns-clause-replies : goal.returns-clause-replies
 returns-clause-replies g c =
     c.in_ok-replies.ensures
-    ∙ ap (replies_of c.args.batch.now.ops) (ap (contents_at c.adopt_on.new.self) c.next_stamp.ensures ∙ start_adopted c.args.tree.now c.adopt_on.new.self c.adopt_on.ensures.next c.adopt_on.ensures.contents)
+    ∙ ap (replies_of c.args.batch.now.ops) (ap (contents_at c.adopt_on.new.self) c.next_stamp-base.ensures ∙ start_adopted c.args.tree.now c.adopt_on.new.self c.adopt_on.ensures.next c.adopt_on.ensures.contents)
 
 pub returns-clause-leaves : goal.returns-clause-leaves
 returns-clause-leaves g c = same_leaves c.args.tree.now c.adopt_on.new.self c.adopt_on.ensures.levels c.adopt_on.ensures.pages

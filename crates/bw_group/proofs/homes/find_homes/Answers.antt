@@ -41,7 +41,7 @@ loop-start-preserved c =
     let numbers' = c.set_numbers.new.numbers in
     let number = length c.loop-start.pages.items in
     let count : c.len-in-loop-start.result ≡ number = omega (arith, c.len-in-loop-start.ensures, c.loop-start.pages.ok) in
-    let any : Point = record { key = record { ref_ptr = (0, 0); now = [] }; place = 0 } in
+    let any : Point = record { key = record { ref_ptr = (0, 0); now = [] }; place = 0; prefix = 0 } in
     let part = λ (l : List Point). entries_of (take (m - n) (drop n l)) in
     let here = c.deref-in-loop-start.ensures.value in
     let listed : numbers' ≡ with_number numbers (part points) number =

@@ -8,7 +8,7 @@ use Rattle.bw_group.proofs.homes.run_end.Goals as goal
 
 pub loop-place-init : goal.loop-place-init
 loop-place-init c =
-    let any : Point = record { key = record { ref_ptr = (0, 0); now = [] }; place = 0 } in
+    let any : Point = record { key = record { ref_ptr = (0, 0); now = [] }; place = 0; prefix = 0 } in
     run_one (λ (e : Entry). T (is_below_end (option_copied c.args.end) e.0)) c.args.points.now c.args.start any c.requires.start (c.requires.first any)
 
 pub loop-place-preserved : goal.loop-place-preserved

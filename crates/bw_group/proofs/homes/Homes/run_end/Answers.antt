@@ -9,7 +9,7 @@ use Rattle.bw_group.proofs.homes.Homes.run_end.Goals as goal
 
 pub loop-end-init : goal.loop-end-init
 loop-end-init c =
-    let any : Point = record { key = record { ref_ptr = (0, 0); now = [] }; place = 0 } in
+    let any : Point = record { key = record { ref_ptr = (0, 0); now = [] }; place = 0; prefix = 0 } in
     run_one (λ (e : Entry). number_of c.args.self.now e.1 ≡ c.args.number) c.args.points.now c.args.start any c.requires.start (c.requires.first any)
 
 pub index-requires : goal.index-requires
