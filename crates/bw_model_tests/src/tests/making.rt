@@ -1,6 +1,7 @@
 // Keys, values, operations and replies from text.
+use bw_fixtures::heap;
 use bw_key::Key;
-use bw_memory::{Alloc, Heap};
+use bw_memory::Alloc;
 use bw_model::{Op, Pairs, Reply, Value};
 use std::alloc::Global;
 use std::process::Abort;
@@ -29,7 +30,7 @@ pub struct Maker<'a, R: Abort> {
 impl<'a, R: Abort> Maker<'a, R> {
     /// A maker on a heap of its own, which is never freed.
     pub fn new(rt: &'a R, global: Global) -> Maker<'a, R> {
-        let alloc = Heap::counted(global).leak(global).expect(rt, "a heap");
+        let alloc = heap(global).expect(rt, "a heap");
         Maker { rt, alloc }
     }
 

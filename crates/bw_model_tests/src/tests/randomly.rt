@@ -1,8 +1,7 @@
 // Some thousand operations drawn from a seed, compared with a table of optional values.
-ghost use Rattle.std.specs.Prelude.{◌<◌};
-
 use super::making::{LONG, Maker, Pair};
 use super::reference::{are_answered, holds};
+use bw_fixtures::Random;
 use bw_memory::Alloc;
 use bw_model::{Op, ReferenceMap, Reply};
 use std::process::Abort;
@@ -15,31 +14,14 @@ const VALUES: [&str; 4] = ["", "0", "18446744073709551615", LONG];
 // At each key its value, if it has one.
 type Table = [Option<&'static str>; 6];
 
-// Pseudo-random numbers by a linear congruence, whose high bits are taken.
-#[derive(Drop)]
-struct Random {
-    state: u64,
-}
-
-impl Random {
-    fn below(&mut self, limit: usize) -> usize
-        requires { 0 < limit }
-        ensures { result < limit }
-    {
-        let state = self.state.wrapping_mul(6364136223846793005);
-        self.state = state.wrapping_add(1442695040888963407);
-        (self.state >> 33) as usize % limit
-    }
-
-    fn value(&mut self) -> &'static str {
-        VALUES[self.below(4)]
-    }
+fn drawn_value(random: &mut Random) -> &'static str {
+    VALUES[random.below(4)]
 }
 
 // A write that is drawn, and its reply. The table is changed by it.
 fn write<R: Abort>(make: &Maker<R>, table: &mut Table, random: &mut Random) -> (Op, Reply) {
     let at = random.below(6);
-    let (key, value, other) = (KEYS[at], random.value(), random.value());
+    let (key, value, other) = (KEYS[at], drawn_value(random), drawn_value(random));
     let before = table[at];
     let op = match random.below(5) {
         0 => make.insert(key, value),
@@ -136,7 +118,7 @@ fn run_batch<R: Abort>(
 #[test]
 fn batches_are_answered_as_by_a_table(rt: HostRuntime) {
     let make = Maker::new(&rt, rt.alloc());
-    let mut random = Random { state: 20130408 };
+    let mut random = Random::new(20130408);
     let mut table: Table = [None; 6];
     let mut map = ReferenceMap::new(make.alloc);
     for _ in 0..400u64 {

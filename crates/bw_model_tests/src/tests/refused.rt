@@ -1,6 +1,7 @@
 // Each growth of memory refused in turn.
 use super::making::{LONG, Maker, Pair};
 use super::reference::{holds, map_of};
+use bw_fixtures::was_refused;
 use bw_key::Key;
 use bw_memory::Alloc;
 use bw_model::{Action, Op, ReferenceMap};
@@ -56,14 +57,13 @@ fn meets_refusal<R: Abort>(rt: &R, make: &Maker<R>, work: &Work, growth: u64) ->
     let mut map = map_of(rt, make, BEFORE);
     make.alloc.refuse(growth);
     let lacked = lacks_memory(&mut map, work);
-    let was_refused = make.alloc.left() == 0 || make.alloc.left() > growth;
-    make.alloc.refuse(0);
+    let refused = was_refused(make.alloc, growth);
 
-    assert!(rt; lacked == was_refused);
-    if was_refused {
+    assert!(rt; lacked == refused);
+    if refused {
         holds(rt, &map, &make.pairs(BEFORE));
     }
-    was_refused
+    refused
 }
 
 // Does the work with growth 1 refused, then with growth 2, until it meets no refusal. Answers how many were refused.
