@@ -51,6 +51,12 @@ pub fn post_all<R: Threads + Sync, G: Gate>(
     ensures homes { IfOk result (λ posting. AreHomes tree.now batch.now.ops posting.homes) }
     ensures posted { IfOk result (λ posting. IsPostedStageOn tree.now tree.now.staged posting.pages.items
         posting.closed.heads posting.closed.links) }
+
+    // The board was over the pages of the batch, or over none where it only reads.
+    ensures pages { 0 < length (staged_writes tree.now.staged) →
+        IfOk result (λ posting. posting.pages.items ≡ posting.homes.pages) }
+    ensures no_pages { length (staged_writes tree.now.staged) ≡ 0 →
+        IfOk result (λ posting. posting.pages.items ≡ []) }
     ensures lost { IfOk result (λ posting. posting.lost ≤ pairs_of (length (staged_writes tree.now.staged))) }
 {
     let staged = tree.staged().unwrap();

@@ -24,7 +24,7 @@ pub struct Routes<'a> {
     tree: &'a Tree,
     // the inner page that the last search went down from, where no change lies over it
     above: Option<&'a Inner>,
-    // the place of the child that a search last took there
+    // the place of the child that a search last took there, or the first one
     place: usize,
     // where the range of the leaf ends that was found last
     end: Option<&'a Key>,
@@ -53,13 +53,6 @@ impl<'a> Routes<'a> {
             place: 0,
             end: None,
         }
-    }
-
-    /// The tree that is searched.
-    pub fn tree(&self) -> &'a Tree
-        ensures { result.now ≡ self.now.tree }
-    {
-        self.tree
     }
 
     /// The one leaf of the leaf level whose range has the key.

@@ -2,7 +2,9 @@ use Rattle.std.proofs.Common.{◌≡◌, ◌<◌, ◌≤◌, ℕ, List, length, 
 use Rattle.std.specs.Prelude.{EachIndex, Option, slice_index}
 use Rattle.bw_core.specs.World.{total}
 use Rattle.bw_board.specs.Public.{BoardView, SeatView}
-use Rattle.bw_tree.specs.View.{StageView}
+use Rattle.bw_tree.specs.Stages.{IsStagedAs}
+use Rattle.bw_tree.specs.View.{TreeView, StageView, staged_writes}
+use Rattle.bw_tree.specs.declared.staging.Staged.{Staged}
 use Rattle.bw_tree.specs.Words.{words_of}
 use Rattle.bw_post.specs.Posting.{IsWaiting, width_of}
 use Rattle.bw_post.proofs.Homes.{AreWritten, IsOver, is_over, low_words, posted_stage, told_batch, written_pages}
@@ -47,3 +49,16 @@ returns-clause-posted g c =
     let over = subst (IsOver tree homes pages) (sym worked.board_is) (is_over tree homes pages c.in_ok-board.board c.unwrap-staged.result told written first opened.records opened.spares c.in_ok-homes.ensures.pages) in
     posted_stage tree c.join_workers-whole.result.seat homes pages c.in_ok-closed.closed.heads c.in_ok-closed.closed.links c.in_ok-closed.closed.swapped c.unwrap-staged.result c.args.batch.now.ops c.requires.waiting told
     (ap (λ (b : BoardView). b.floor) worked.board_is ∙ opened.floor) over worked.homes c.in_ok-closed.ensures.closed
+
+records_are : (tree : TreeView) (batch : Staged) → IsStagedAs tree batch → batch.records ≡ length (staged_writes tree.staged)
+records_are tree batch told = told.records ∙ ap (λ (o : Option StageView). length (staged_writes o)) (sym told.is)
+
+pub returns-clause-pages : goal.returns-clause-pages
+returns-clause-pages g c = λ some.
+    let told = told_batch c.staged.result c.args.tree.now c.unwrap-staged.result c.staged.ensures c.unwrap-staged.ensures in
+    c.in_ok-pages.ensures.some (omega (arith, some, records_are c.args.tree.now c.unwrap-staged.result told))
+
+pub returns-clause-no_pages : goal.returns-clause-no_pages
+returns-clause-no_pages g c = λ none.
+    let told = told_batch c.staged.result c.args.tree.now c.unwrap-staged.result c.staged.ensures c.unwrap-staged.ensures in
+    c.in_ok-pages.ensures.none (omega (arith, none, records_are c.args.tree.now c.unwrap-staged.result told))
