@@ -8,8 +8,8 @@ use Rattle.bw_batch.proofs.batch.answer_staged.Goals as goal
 
 pub replies-requires-clause-homes : goal.replies-requires-clause-homes
 replies-requires-clause-homes g c κs within =
-    homes_stay c.args.tree.now c.adopt_on.new.self c.adopt_on.ensures.levels c.adopt_on.ensures.pages c.args.batch.now.ops c.in_ok-homes.homes
-    (ap (λ (l : List ℕ). length l) c.adopt_on.ensures.heads ∙ length_put c.args.tree.now.heads c.in_ok-homes.pages.items c.in_ok-homes.closed.heads) c.in_ok-homes.ensures.homes
+    homes_stay c.args.tree.now c.adopt_on.new.self c.adopt_on.ensures.levels c.adopt_on.ensures.pages c.args.batch.now.ops c.in_ok-homes.field-0.homes
+    (ap (λ (l : List ℕ). length l) c.adopt_on.ensures.heads ∙ length_put c.args.tree.now.heads c.in_ok-homes.field-0.pages.items c.in_ok-homes.field-0.closed.heads) c.in_ok-homes.ensures.homes
 
 pub returns-clause-replies : goal.returns-clause-replies
 returns-clause-replies g c =
