@@ -3,6 +3,7 @@ ghost use Rattle.std.specs.Prelude.{◌≡◌, true};
 ghost use Rattle.std.specs.List.{Contains};
 ghost use Rattle.bw_tree.specs.Levels.{row};
 ghost use Rattle.bw_tree.specs.Stages.{is_adopted};
+ghost use Rattle.bw_tree.specs.Words.{IsPostedStageOn};
 
 use super::making::{FLOOR, batch, has, holds, post, stands, three, upsert};
 use bw_fixtures::{heap, key, value};
@@ -60,10 +61,13 @@ fn each_stamp_sees_the_map_before_its_operation(rt: HostRuntime) {
 }
 
 #[test]
-fn an_adopted_batch_is_undone(rt: HostRuntime) {
+fn an_adopted_batch_is_undone_without_memory(rt: HostRuntime) {
     let alloc = heap(rt.alloc()).expect(&rt, "memory");
     let mut tree = adopted(&rt, alloc);
+    alloc.refuse(1);
     tree.undo();
+    assert_eq!(rt; alloc.left(), 1);
+    alloc.refuse(0);
     stands(&rt, &tree, &[0, 1, 2, 3], 0, 0);
     holds(
         &rt,
@@ -127,6 +131,35 @@ fn written_twice<R: Abort + Threads + Sync>(rt: &R, alloc: Alloc) -> Tree
     assert!(rt; closed.links() == [0, FLOOR].as_slice());
     tree.adopt_on(pages, closed);
     tree
+}
+
+// Adopts the words of the one page as those of all pages.
+fn adopt_all<R: Abort>(rt: &R, tree: &mut Tree, posting: Posting)
+    requires { let closed = posting.closed in
+        IsPostedStageOn tree.old tree.old.staged posting.pages.items closed.heads closed.links }
+{
+    let Posting { pages, closed, .. } = posting;
+    assert!(rt; pages.len() == 1);
+    assert!(rt; pages[0] == PageId(0));
+    assert!(rt; tree.heads().len() == 1);
+    tree.adopt(closed);
+}
+
+#[test]
+fn the_words_of_all_pages_are_adopted_and_undone(rt: HostRuntime) {
+    let alloc = heap(rt.alloc()).expect(&rt, "memory");
+    let mut tree = Tree::new(alloc).expect(&rt, "memory");
+    let ops = [
+        upsert(&rt, alloc, b"a", b"1"),
+        upsert(&rt, alloc, b"b", b"2"),
+    ];
+    let posting = post(&rt, alloc, &mut tree, &ops, 1);
+    alloc.refuse(1);
+    adopt_all(&rt, &mut tree, posting);
+    stands(&rt, &tree, &[FLOOR + 1], 2, 0);
+    tree.undo();
+    stands(&rt, &tree, &[0], 0, 0);
+    assert_eq!(rt; alloc.left(), 1);
 }
 
 #[test]
