@@ -1,18 +1,12 @@
 -- Ends of ranges of keys.
-use Rattle.std.proofs.Common.{◌≡◌, Bool, true, false, T, Option, Some, None, refl, sym, ap, ◌∙◌, subst, Ordering}
+use Rattle.std.proofs.Common.{◌≡◌, true, false, T, Option, Some, None, refl, sym, ap, ◌∙◌, subst, Ordering}
 use Rattle.std.specs.Ordering.{is_le, is_lt, ordering_reverse}
 use Rattle.std.specs.declared.cmp.Ordering.TheVariants.{Less, Equal, Greater}
 use Rattle.bw_key.specs.Order.{KeyBytes, key_cmp, key_cmp_total}
 use Rattle.bw_model.specs.Contents.{is_below_end}
+use Rattle.bw_page.proofs.Truths.{holds, true_holds}
 use Rattle.bw_page.proofs.KeyLemmas.{below_upto, upto_below}
 use Rattle.bw_chain.specs.Scans.{EndsBelow, Reaches}
-
-holds : (b : Bool) → T b → b ≡ true
-holds true t = refl
-holds false t = absurd t
-
-true_holds : (a : Bool) → a ≡ true → T a
-true_holds a e = subst T (sym e) tt
 
 different : false ≡ true → ⊥
 different e = cc

@@ -1,11 +1,12 @@
 -- Where something lies among separators that rise, found by steps and then by halves.
-use Rattle.std.proofs.Common.{◌≡◌, ℕ, zero, suc, ◌+◌, ◌-◌, ◌<◌, ◌≤◌, Bool, true, false, ◌&&◌, T, List, [], ◌∷◌, length, take, drop, get_or, Option, Some, None, inl, inr, refl, sym, ap, ◌∙◌, subst, arith}
+use Rattle.std.proofs.Common.{◌≡◌, ℕ, zero, suc, ◌+◌, ◌-◌, ◌<◌, ◌≤◌, Bool, true, false, T, List, [], ◌∷◌, length, take, drop, get_or, Option, Some, None, inl, inr, refl, sym, ap, ◌∙◌, subst, arith}
 use Rattle.std.proofs.lemmas.Bool.{cases_lt}
 use Rattle.std.proofs.lemmas.List.{get_or-take, get_or-drop, length-drop, length-take}
 use Rattle.std.specs.Option.{SomeIff}
 use Rattle.std.specs.FinMap.{is_sorted}
 use Rattle.std.specs.FinMap.Entries.{below_all}
 use Rattle.bw_key.specs.Order.{KeyBytes, key_cmp}
+use Rattle.bw_page.proofs.Truths.{left_of, right_of, both_of}
 use Rattle.bw_page.proofs.Entries.{sorted_drop}
 use Rattle.bw_chain.specs.declared.target.Target.{Target}
 use Rattle.bw_chain.specs.Targets.{PartsChildren, lies_from}
@@ -14,18 +15,6 @@ use Rattle.bw_chain.proofs.TargetLemmas.{parted}
 
 different : false ≡ true → ⊥
 different e = cc
-
-left_of : (a b : Bool) → T (a && b) → T a
-left_of true b h = tt
-left_of false b h = absurd h
-
-right_of : (a b : Bool) → T (a && b) → T b
-right_of true b h = h
-right_of false b h = absurd h
-
-both_of : (a b : Bool) → T a → T b → T (a && b)
-both_of true b p q = q
-both_of false b p q = absurd p
 
 below_take : (k : KeyBytes) (n : ℕ) (es : List (KeyBytes × ℕ)) → T (below_all key_cmp k es) → T (below_all key_cmp k (take n es))
 below_take k zero es h = tt

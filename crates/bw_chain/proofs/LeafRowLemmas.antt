@@ -1,5 +1,5 @@
 -- The leaf level: what it holds at a key is what the page holds where the key is at home.
-use Rattle.std.proofs.Common.{◌≡◌, ℕ, zero, suc, Bool, true, false, cond, not, ◌&&◌, T, List, [], ◌∷◌, ◌++◌, Option, Some, None, refl, sym, ap, ◌∙◌, subst, arith}
+use Rattle.std.proofs.Common.{◌≡◌, ℕ, zero, suc, Bool, true, false, cond, T, List, [], ◌∷◌, ◌++◌, Option, Some, None, refl, sym, ap, ◌∙◌, subst, arith}
 use Rattle.std.specs.List.{Contains, list_all}
 use Rattle.std.specs.Ordering.{is_lt, eq_by_cmp}
 use Rattle.std.specs.Option.{option_or}
@@ -9,6 +9,7 @@ use Rattle.bw_key.specs.Order.{KeyBytes, key_cmp, key_eq, key_ties}
 use Rattle.bw_model.specs.Contents.{is_in_range, is_below_end, is_pair_in_range}
 use Rattle.bw_model.specs.Values.{ValueBytes}
 use Rattle.bw_page.specs.Inners.{IsUpto}
+use Rattle.bw_page.proofs.Truths.{holds, holds_not, left_of, right_of}
 use Rattle.bw_page.proofs.KeyLemmas.{below_upto, upto_trans, below_back, below_self}
 use Rattle.bw_page.proofs.Search.{same_keys}
 use Rattle.bw_delta.specs.Writes.{WriteView}
@@ -26,39 +27,24 @@ or_none : {V : Type 0} (o : Option V) → option_or o None ≡ o
 or_none None = refl
 or_none (Some v) = refl
 
-both_left : (a b : Bool) → T (a && b) → T a
-both_left true b h = tt
-both_left false b h = h
-
-both_right : (a b : Bool) → T (a && b) → T b
-both_right true b h = h
-both_right false b h = absurd h
-
-holds_not : (a : Bool) → T (not a) → a ≡ false
-holds_not true h = absurd h
-holds_not false h = refl
-
-not_holds : (a : Bool) → a ≡ false → T (not a)
-not_holds a e = subst (λ b. T (not b)) (sym e) tt
-
 different : true ≡ false → ⊥
 different e = cc
 
 -- a range has no key that isn't in it
 none_outside : {V : Type 0} (low : KeyBytes) (high : Option KeyBytes) (key : KeyBytes) (es : List (KeyBytes × V)) → (T (is_in_range low high key) → ⊥) → T (list_all (is_pair_in_range low high) es) → find key_cmp key es ≡ None
 none_outside low high key [] out inside = refl
-none_outside low high key (e ∷ es) out inside = at (key_eq key e.0) refl (none_outside low high key es out (both_right _ _ inside))
+none_outside low high key (e ∷ es) out inside = at (key_eq key e.0) refl (none_outside low high key es out (right_of _ _ inside))
   where
     at : (b : Bool) → key_eq key e.0 ≡ b → find key_cmp key es ≡ None → cond (eq_by_cmp key_cmp key e.0) (Some e.1) (find key_cmp key es) ≡ None
-    at true same rest = absurd (out (subst (λ (k : KeyBytes). T (is_in_range low high k)) (sym (same_keys key e.0 same)) (both_left _ _ inside)))
+    at true same rest = absurd (out (subst (λ (k : KeyBytes). T (is_in_range low high k)) (sym (same_keys key e.0 same)) (left_of _ _ inside)))
     at false other rest = ap (λ b. cond b (Some e.1) (find key_cmp key es)) (sym (key_ties key e.0) ∙ other) ∙ rest
 
 no_write_outside : (low : KeyBytes) (high : Option KeyBytes) (key : KeyBytes) (ws : List WriteView) → (T (is_in_range low high key) → ⊥) → T (list_all (λ w. is_in_range low high w.key) ws) → writes_to key ws ≡ []
 no_write_outside low high key [] out inside = refl
-no_write_outside low high key (w ∷ ws) out inside = at (key_eq key w.key) refl (no_write_outside low high key ws out (both_right _ _ inside))
+no_write_outside low high key (w ∷ ws) out inside = at (key_eq key w.key) refl (no_write_outside low high key ws out (right_of _ _ inside))
   where
     at : (b : Bool) → key_eq key w.key ≡ b → writes_to key ws ≡ [] → cond (key_eq key w.key) (w ∷ writes_to key ws) (writes_to key ws) ≡ []
-    at true same rest = absurd (out (subst (λ (k : KeyBytes). T (is_in_range low high k)) (sym (same_keys key w.key same)) (both_left _ _ inside)))
+    at true same rest = absurd (out (subst (λ (k : KeyBytes). T (is_in_range low high k)) (sym (same_keys key w.key same)) (left_of _ _ inside)))
     at false other rest = ap (λ b. cond b (w ∷ writes_to key ws) (writes_to key ws)) other ∙ rest
 
 -- a leaf has nothing at a key outside its range
@@ -84,15 +70,11 @@ nothing_both xs ys ws vs key a b = record {
 }
 
 below_out : (low : KeyBytes) (high : Option KeyBytes) (key : KeyBytes) → is_lt (key_cmp key low) ≡ true → T (is_in_range low high key) → ⊥
-below_out low high key below inside = different (sym below ∙ holds_not _ (both_left _ _ inside))
+below_out low high key below inside = different (sym below ∙ holds_not _ (left_of _ _ inside))
 
 pub wide_of : (low : KeyBytes) (high : Option KeyBytes) (side : Option ℕ) (b : Body) → IsSoundBody low high side b → T (is_below_end high low)
 wide_of low high side (Pairs pairs writes) sound = sound.page.wide
 wide_of low high side (Children level children) sound = sound.page.wide
-
-holds : (b : Bool) → T b → b ≡ true
-holds true t = refl
-holds false t = absurd t
 
 -- the low key is below the high one
 pub low_below : (slots : List Slot) (level : ℕ) (low high : KeyBytes) (side : Option ℕ) (p : ℕ) → Stands slots level low (Some high) side p → is_lt (key_cmp low high) ≡ true
@@ -150,7 +132,7 @@ row_above slots level low (x ∷ y ∷ ys) p s h (suc k, lt, at) is =
     upto_trans low h.0 s.low (below_back low h.0 (low_below slots level low h.0 (Some y) x h.1)) (row_above slots level h.0 (y ∷ ys) p s h.2 (k, omega (arith, lt), at) is)
 
 past_out : (low high key : KeyBytes) → is_lt (key_cmp key high) ≡ false → T (is_in_range low (Some high) key) → ⊥
-past_out low high key past inside = different (sym (holds _ (both_right _ _ inside)) ∙ past)
+past_out low high key past inside = different (sym (holds _ (right_of _ _ inside)) ∙ past)
 
 -- at a key of a page's range the row has what the page has
 pub row_has : (slots : List Slot) (level : ℕ) (low : KeyBytes) (ps : List ℕ) (p : ℕ) (s : PageState) (key : KeyBytes) → SideBySide slots level low ps → Contains ps p → slot_at slots p ≡ Live s → IsUpto s.low key → T (is_below_end s.high key) →

@@ -3,11 +3,11 @@ pub mod RowLemmas
 pub mod RouteLemmas
 pub mod LevelLemmas
 pub mod ChainLemmas
+pub mod InnerLemmas
 pub mod RecordLemmas
 pub mod GrowthLemmas
 pub mod TargetLemmas
 pub mod GallopLemmas
-pub mod LeafEndLemmas
 pub mod TurnLemmas
 pub mod ReadingLemmas
 pub mod LeafRowLemmas
@@ -17,3 +17,5 @@ pub mod MarkLemmas
 pub mod SearchLemmas
 pub mod PageScanLemmas
 pub mod LeafChainLemmas
+pub mod LeafEndLemmas
+pub mod StepLemmas

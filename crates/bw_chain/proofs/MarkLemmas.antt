@@ -8,16 +8,13 @@ use Rattle.std.specs.Ordering.{is_lt}
 use Rattle.bw_key.specs.Order.{KeyBytes, key_cmp}
 use Rattle.bw_model.specs.Contents.{is_below_end}
 use Rattle.bw_page.specs.Inners.{IsUpto}
+use Rattle.bw_page.proofs.Truths.{holds, true_holds, holds_not}
 use Rattle.bw_page.proofs.KeyLemmas.{below_back, below_self, upto_trans}
 use Rattle.bw_chain.specs.declared.target.Target.{Target}
 use Rattle.bw_chain.specs.declared.target.Target.TheVariants.{Home, Before}
 use Rattle.bw_chain.specs.Slots.{Slot, Free, Gone, Live, children_of, slot_at}
 use Rattle.bw_chain.specs.Targets.{StandsFor, StandsOn, StandsOnAll, is_upto, lies_from}
-use Rattle.bw_chain.proofs.TargetLemmas.{holds, true_holds, lies_before}
-
-holds_not : (a : Bool) → T (not a) → a ≡ false
-holds_not true h = absurd h
-holds_not false h = refl
+use Rattle.bw_chain.proofs.TargetLemmas.{lies_before}
 
 not_there : (a : Bool) → a ≡ false → T (not a)
 not_there a e = subst (λ b. T (not b)) (sym e) tt

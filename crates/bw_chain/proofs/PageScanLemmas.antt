@@ -11,6 +11,7 @@ use Rattle.bw_page.proofs.KeyLemmas.{below_trans, upto_trans}
 use Rattle.bw_page.specs.Leaves.{LeafView}
 use Rattle.bw_page.specs.declared.pages.Page.{Page}
 use Rattle.bw_page.specs.declared.pages.Page.TheVariants.{Leaf as LeafPage}
+use Rattle.bw_page.proofs.Truths.{holds}
 use Rattle.bw_delta.specs.Writes.{WriteView}
 use Rattle.bw_delta.specs.Batches.{writes_to}
 use Rattle.bw_delta.specs.History.{history, action_at, pointed_to}
@@ -130,10 +131,6 @@ replayed_leaf slot leaf writes end replay all ends base so = record {
       ∙ ap (λ o. history o (action_at (writes_to key writes)) stamp) (first_part (find key_cmp key leaf.pairs) ∙ sym (base key (ends_above slot key (holds _ below))))
       ∙ ap (λ (l : List WriteView). history (base_of slot key) (action_at (writes_to key l)) stamp) all;
 }
-  where
-    holds : (b : Bool) → T b → b ≡ true
-    holds true t = refl
-    holds false t = absurd t
 
 -- what lies under the writes of a chain over a base leaf
 pub base_on : (bases : Bases) (slot : Slot) (o : Option (Bor Delta)) (page : Option (Bor Page)) (b : Bor Page) (leaf : LeafView ValueBytes) → page ≡ Some b → b.now ≡ LeafPage leaf → slot_without_writes slot ≡ slot_without_writes (over bases o (plain_at page)) → IsNoWrite o →

@@ -1,5 +1,5 @@
 -- Values and writes under the changes of a chain.
-use Rattle.std.proofs.Common.{◌≡◌, ℕ, zero, suc, ◌<◌, Bool, true, false, cond, T, List, [], ◌∷◌, ◌++◌, length, get_or, map, Option, Some, None, refl, sym, ap, ◌∙◌, subst, arith}
+use Rattle.std.proofs.Common.{◌≡◌, ℕ, zero, suc, ◌<◌, true, false, cond, List, [], ◌∷◌, ◌++◌, length, get_or, map, Option, Some, None, refl, sym, ap, ◌∙◌, subst, arith}
 use Rattle.std.specs.Prelude.{slice_get}
 use Rattle.std.specs.Borrow.{Bor}
 use Rattle.std.specs.Ordering.{is_lt}
@@ -10,6 +10,7 @@ use Rattle.bw_model.specs.Values.{ValueBytes}
 use Rattle.bw_page.proofs.KeyLemmas.{keys_tie}
 use Rattle.bw_page.specs.declared.pages.Page.{Page}
 use Rattle.bw_page.specs.declared.pages.Page.TheVariants.{Leaf as LeafPage, Inner as InnerPage, Gone as GonePage}
+use Rattle.bw_page.proofs.Truths.{holds}
 use Rattle.bw_delta.specs.Writes.{WriteView}
 use Rattle.bw_delta.specs.Batches.{writes_to}
 use Rattle.bw_delta.specs.History.{pointed_to}
@@ -113,10 +114,6 @@ base_split bases (Live s) k key to above = by s.body
   where
     lower : is_lt (key_cmp key k) ≡ true
     lower = holds (is_lt (key_cmp key k)) above
-      where
-        holds : (b : Bool) → T b → b ≡ true
-        holds true t = refl
-        holds false t = absurd t
 
     by : (b : Body) → find key_cmp key (body_pairs (body_below k b)) ≡ find key_cmp key (body_pairs b)
     by (Pairs pairs writes) =

@@ -1,9 +1,10 @@
 -- The way of a search through the levels of a tree.
-use Rattle.std.proofs.Common.{◌≡◌, ℕ, zero, suc, ◌+◌, ◌-◌, ◌*◌, ◌<◌, ◌≤◌, Bool, true, false, not, T, List, [], ◌∷◌, length, get_or, Option, Some, None, refl, sym, ap, ◌∙◌, subst, arith}
+use Rattle.std.proofs.Common.{◌≡◌, ℕ, zero, suc, ◌+◌, ◌-◌, ◌*◌, ◌<◌, ◌≤◌, true, false, T, List, [], ◌∷◌, length, get_or, Option, Some, None, refl, sym, ap, ◌∙◌, subst, arith}
 use Rattle.std.specs.List.{Contains}
 use Rattle.bw_key.specs.Order.{KeyBytes}
 use Rattle.bw_model.specs.Contents.{is_below_end}
 use Rattle.bw_page.specs.Inners.{IsLastUpto, IsUpto}
+use Rattle.bw_page.proofs.Truths.{holds_not, not_holds}
 use Rattle.bw_page.proofs.KeyLemmas.{upto_trans}
 use Rattle.bw_chain.specs.declared.turn.Turn.TheVariants.{Here, Right, Down, Left}
 use Rattle.bw_chain.specs.Walk.{Leads, walked, ended}
@@ -14,13 +15,6 @@ use Rattle.bw_chain.specs.Turns.{IsTurn, StartsUpto}
 use Rattle.bw_chain.specs.Searches.{Sought}
 use Rattle.bw_chain.proofs.WalkLemmas.{walked_is, ended_is, way_short}
 use Rattle.bw_chain.proofs.RowLemmas.{InRow, in_row, first_stands}
-
-holds_not : (a : Bool) → T (not a) → a ≡ false
-holds_not true h = absurd h
-holds_not false h = refl
-
-not_holds : (a : Bool) → a ≡ false → T (not a)
-not_holds a e = subst (λ b. T (not b)) (sym e) tt
 
 -- what is looked up and isn't free lies among the slots
 pub held : (slots : List Slot) (p : ℕ) → (slot_at slots p ≡ Free → ⊥) → p < length slots

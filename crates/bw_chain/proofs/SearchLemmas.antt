@@ -1,10 +1,11 @@
 -- The way of a search.
-use Rattle.std.proofs.Common.{◌≡◌, ℕ, ◌+◌, ◌<◌, ◌≤◌, Bool, true, false, not, T, List, [], ◌∷◌, length, get_or, Option, Some, None, is_some, refl, sym, ap, ◌∙◌, subst, arith}
+use Rattle.std.proofs.Common.{◌≡◌, ℕ, ◌+◌, ◌<◌, ◌≤◌, true, false, not, T, List, [], ◌∷◌, length, get_or, Option, Some, None, is_some, refl, sym, ap, ◌∙◌, subst, arith}
 use Rattle.std.specs.Ordering.{is_lt}
 use Rattle.bw_key.specs.Order.{KeyBytes, key_cmp}
 use Rattle.bw_model.specs.Contents.{is_below_end}
 use Rattle.bw_page.specs.Inners.{InnerView, IsInner, IsLastUpto}
 use Rattle.bw_page.specs.Pages.{BeginsAt}
+use Rattle.bw_page.proofs.Truths.{holds, true_holds, holds_not}
 use Rattle.bw_page.proofs.KeyLemmas.{below_upto}
 use Rattle.bw_chain.specs.declared.turn.Turn.TheVariants.{Here, Right, Down, Left}
 use Rattle.bw_chain.specs.declared.target.Target.{Target}
@@ -17,12 +18,8 @@ use Rattle.bw_chain.specs.Turns.{IsTurn, StartsUpto}
 use Rattle.bw_chain.specs.Searches.{IsInLevels, IsPlaceFor, IsSearching, Sought, plain_inner}
 use Rattle.bw_chain.proofs.RowLemmas.{in_row}
 use Rattle.bw_chain.proofs.RouteLemmas.{Next, rank, go_down, root_sought, stands_on, sought_held, sought_upto, turned_right, turned_down, turned_left, turned_here}
-use Rattle.bw_chain.proofs.TargetLemmas.{holds, true_holds, lies_before, child_there}
+use Rattle.bw_chain.proofs.TargetLemmas.{lies_before, child_there}
 use Rattle.bw_chain.proofs.MarkLemmas.{mark, mark_from, mark_stands}
-
-holds_not : (a : Bool) → T (not a) → a ≡ false
-holds_not true h = absurd h
-holds_not false h = refl
 
 different : false ≡ true → ⊥
 different e = cc

@@ -12,18 +12,12 @@ use Rattle.bw_key.specs.Order.{KeyBytes, key_cmp}
 use Rattle.bw_model.specs.Contents.{is_below_end}
 use Rattle.bw_page.specs.Inners.{IsInner, IsUpto}
 use Rattle.bw_page.specs.Pages.{BeginsAt}
+use Rattle.bw_page.proofs.Truths.{holds, true_holds}
 use Rattle.bw_page.proofs.KeyLemmas.{below_back, below_self, upto_below, upto_trans}
 use Rattle.bw_page.proofs.Search.{rises}
 use Rattle.bw_chain.specs.declared.target.Target.{Target}
 use Rattle.bw_chain.specs.declared.target.Target.TheVariants.{Home, Before}
 use Rattle.bw_chain.specs.Targets.{PartsChildren, SeparatorsAgree, IsChildFor, lies_from}
-
-pub holds : (b : Bool) → T b → b ≡ true
-holds true t = refl
-holds false t = absurd t
-
-pub true_holds : (a : Bool) → a ≡ true → T a
-true_holds a e = subst T (sym e) tt
 
 pub holds_not : (a : Bool) → not a ≡ true → a ≡ false
 holds_not true h = absurd (different h)

@@ -5,6 +5,7 @@ use Rattle.std.specs.Ordering.{is_lt}
 use Rattle.bw_key.specs.Order.{KeyBytes, key_cmp}
 use Rattle.bw_model.specs.Contents.{is_below_end}
 use Rattle.bw_page.specs.Inners.{IsLastUpto}
+use Rattle.bw_page.proofs.Truths.{holds}
 use Rattle.bw_page.proofs.KeyLemmas.{below_upto, upto_below}
 use Rattle.bw_delta.proofs.Filters.{kept, was_there}
 use Rattle.bw_delta.specs.declared.deltas.Delta.TheVariants.{Split}
@@ -16,7 +17,7 @@ use Rattle.bw_chain.specs.Chains.{Bases, change, body_below, below}
 use Rattle.bw_chain.specs.Scans.{high_of}
 use Rattle.bw_chain.specs.Turns.{IsTurn, IsWithin, slot_without_writes, body_without_writes}
 use Rattle.bw_chain.specs.Targets.{IsTurnFor, IsWithinFor, SeparatorsAgree, StandsFor, StandsOn, is_upto, lies_from, lies_past}
-use Rattle.bw_chain.proofs.TargetLemmas.{holds, holds_not, lies_no_more}
+use Rattle.bw_chain.proofs.TargetLemmas.{holds_not, lies_no_more}
 
 different : false ≡ true → ⊥
 different e = cc

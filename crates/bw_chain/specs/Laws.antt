@@ -1,9 +1,12 @@
 -- What holds of chains and of levels.
-use Rattle.std.specs.Prelude.{◌≡◌, ℕ, List, Option}
+use Rattle.std.specs.Prelude.{◌≡◌, ℕ, ◌<◌, List, length, Option}
 use Rattle.bw_key.specs.Order.{KeyBytes}
+use Rattle.bw_delta.specs.History.{HasDistinctStamps}
 use Rattle.bw_chain.specs.Walk.{Leads}
-use Rattle.bw_chain.specs.Slots.{Slot}
-use Rattle.bw_chain.specs.Levels.{AreLevels, IsHome, levels_under}
+use Rattle.bw_chain.specs.Slots.{Slot, slot_at}
+use Rattle.bw_chain.specs.Levels.{AreLevels, IsHome, IsHomeAt, levels_under, row}
+use Rattle.bw_chain.specs.Reading.{contents_in, row_writes, value_in}
+use Rattle.bw_chain.specs.Steps.{KeepsLevels}
 
 -- a way along a step is one only
 abbrev pub WayIsOne : Type 0
@@ -22,3 +25,25 @@ abbrev pub HomeIsOne : Type 0
 HomeIsOne =
     (slots : List Slot) (root : ℕ) (levels : List (List ℕ)) (key : KeyBytes) (p q : ℕ) →
     AreLevels slots root levels → IsHome slots levels key p → IsHome slots levels key q → p ≡ q
+
+-- in lawful levels a key has a home on each level
+abbrev pub HomeIsThere : Type 0
+HomeIsThere =
+    (slots : List Slot) (root : ℕ) (levels : List (List ℕ)) → AreLevels slots root levels →
+    (level : ℕ) (key : KeyBytes) → level < length levels → (p : ℕ) × IsHomeAt slots levels key level p
+
+-- a change that keeps levels makes lawful ones of lawful ones
+abbrev pub LevelsAreKept : Type 0
+LevelsAreKept =
+    (old new : List Slot) (root : ℕ) (levels levels' : List (List ℕ)) → AreLevels old root levels →
+    KeepsLevels old new levels levels' → AreLevels new root levels'
+
+-- trees hold the same, each as of its stamp, where each key has the same value at its home in both
+abbrev pub ContentsAreKept : Type 0
+ContentsAreKept =
+    (old new : List Slot) (root root' : ℕ) (levels levels' : List (List ℕ)) (n m : ℕ) →
+    AreLevels old root levels → AreLevels new root' levels' →
+    HasDistinctStamps (row_writes old (row levels 0)) → HasDistinctStamps (row_writes new (row levels' 0)) →
+    ((key : KeyBytes) (p q : ℕ) → IsHome old levels key p → IsHome new levels' key q →
+    value_in (slot_at new q) key m ≡ value_in (slot_at old p) key n) →
+    contents_in new levels' m ≡ contents_in old levels n

@@ -11,4 +11,5 @@ pub mod Before
 pub mod LeafChains
 pub mod Searches
 pub mod LeafEnds
+pub mod Steps
 pub mod Laws

@@ -1,13 +1,15 @@
 -- The value at a key as of a stamp, on the page where the key is at home.
 use Rattle.std.specs.Prelude.{◌≡◌, ℕ, T, List, [], flat_map, Option}
-use Rattle.std.specs.FinMap.{find}
+use Rattle.std.specs.FinMap.{find, from_entries}
 use Rattle.bw_key.specs.Order.{KeyBytes, key_cmp}
-use Rattle.bw_model.specs.Contents.{is_below_end}
+use Rattle.bw_model.specs.Contents.{Contents, is_below_end}
 use Rattle.bw_model.specs.Values.{ValueBytes}
 use Rattle.bw_delta.specs.Writes.{WriteView}
 use Rattle.bw_delta.specs.Batches.{writes_to}
 use Rattle.bw_delta.specs.History.{history, action_at}
+use Rattle.bw_delta.specs.ContentsAsOf.{contents_as_of}
 use Rattle.bw_chain.specs.Chains.{ChainsView, page_at}
+use Rattle.bw_chain.specs.Levels.{row}
 use Rattle.bw_chain.specs.Slots.{Slot, Body, Pairs, Children, Free, Gone, Live, slot_at}
 
 abbrev pub body_writes : Body → List WriteView
@@ -60,3 +62,9 @@ row_pairs slots ps = flat_map (λ p. pairs_under (slot_at slots p)) ps
 -- the writes over pages
 abbrev pub row_writes : List Slot → List ℕ → List WriteView
 row_writes slots ps = flat_map (λ p. writes_over (slot_at slots p)) ps
+
+-- what levels hold as of a stamp: the writes over their leaves, in the order of their stamps, over the pairs under them
+abbrev pub contents_in : List Slot → List (List ℕ) → ℕ → Contents ValueBytes
+contents_in slots levels stamp =
+    let leaves = row levels 0 in
+    contents_as_of (from_entries (row_pairs slots leaves)) (row_writes slots leaves) stamp

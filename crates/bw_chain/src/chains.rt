@@ -108,7 +108,7 @@ impl Chains {
     }
 
     // The base page that a word names, if it names one.
-    fn base(&self, word: u64) -> Option<&Page>
+    pub(crate) fn base(&self, word: u64) -> Option<&Page>
         ensures { plain_at result ≡ based (slice_get self.now.bases word) }
     {
         self.bases.get(word as usize)?.as_ref()

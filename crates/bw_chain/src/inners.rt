@@ -1,21 +1,29 @@
 // Inner pages as they stand.
-ghost use Rattle.std.specs.Prelude.{◌≡◌, IfSome};
-ghost use Rattle.bw_chain.specs.Chains.{IsChain, page_at};
+ghost use Rattle.std.specs.Prelude.{◌≡◌, true, None, is_some, IfSome};
+ghost use Rattle.bw_page.specs.Inners.{InnerView};
+ghost use Rattle.bw_chain.specs.Chains.{IsChain, page_at, record_at};
 ghost use Rattle.bw_chain.specs.Searches.{plain_inner};
 
 use crate::chains::Chains;
 use bw_page::{Inner, Page};
 
 impl Chains {
-    /// The inner page that a chain is, where nothing but a base page decides on its bounds and children. It takes no
-    /// memory.
+    /// The inner page that a chain is, where it is one and has no record. It takes no memory.
     pub fn inner(&self, head: u64) -> Option<&Inner>
         requires { IsChain self.now head }
-        ensures { IfSome result (λ inner. page_at self.now head ≡ plain_inner inner.now) }
+        ensures page { IfSome result (λ inner. page_at self.now head ≡ plain_inner inner.now) }
+        ensures some { record_at self.now.records head ≡ None → (inner : InnerView) →
+            page_at self.now head ≡ plain_inner inner → is_some result ≡ true }
     {
-        match self.under_writes(head) {
-            (None, Some(Page::Inner(inner))) => Some(inner),
-            _ => None,
+        if self.record(head).is_some() {
+            return None;
+        }
+        let Some(base) = self.base(head) else {
+            return None;
+        };
+        match base {
+            Page::Inner(inner) => Some(inner),
+            Page::Leaf(_) | Page::Gone(_) => None,
         }
     }
 }

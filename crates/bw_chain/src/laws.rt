@@ -1,5 +1,5 @@
 // What holds of the definitions.
-ghost use Rattle.bw_chain.specs.Laws.{HomeIsOne, LevelsAreFound, WayIsOne};
+ghost use Rattle.bw_chain.specs.Laws.{ContentsAreKept, HomeIsOne, HomeIsThere, LevelsAreFound, LevelsAreKept, WayIsOne};
 
 /// The law that each walk along links, side links or left links rests on: from a place there is one way only, and one
 /// place where it ends. It does nothing: its contract is the law.
@@ -16,4 +16,23 @@ pub fn levels_are_found()
 /// The law that a search rests on: in lawful levels a key has one home. It does nothing: its contract is the law.
 pub fn home_is_one()
     ensures { HomeIsOne }
+{}
+
+/// The law that each level has all keys: in lawful levels a key has a home on each of them. It does nothing: its contract
+/// is the law.
+pub fn home_is_there()
+    ensures { HomeIsThere }
+{}
+
+/// The law by which a split, a name for a page, a merge, or a new root leaves a tree lawful: a change of pages that keeps
+/// the rows side by side, and below each child a page of the level below, makes lawful levels of lawful ones. It does
+/// nothing: its contract is the law.
+pub fn levels_are_kept()
+    ensures { LevelsAreKept }
+{}
+
+/// The law by which a change of pages leaves what a tree holds: two trees hold the same, each as of its stamp, where each
+/// key has one value at its homes in both. It does nothing: its contract is the law.
+pub fn contents_are_kept()
+    ensures { ContentsAreKept }
 {}

@@ -1,7 +1,9 @@
 // Where the range of the leaf ends that a search is for.
-ghost use Rattle.std.specs.Prelude.{IfSome};
+ghost use Rattle.std.specs.Prelude.{◌≡◌, is_some, IfSome};
+ghost use Rattle.std.specs.Option.{option_copied};
 ghost use Rattle.bw_chain.specs.Chains.{Bases, IsChain, change, page_at, plain};
-ghost use Rattle.bw_chain.specs.LeafEnds.{IsEndFor};
+ghost use Rattle.bw_chain.specs.LeafEnds.{ends_at};
+ghost use Rattle.bw_chain.specs.Scans.{high_of};
 ghost use Rattle.bw_chain.specs.Turns.{IsOther};
 
 use crate::chains::Chains;
@@ -15,7 +17,8 @@ impl Chains {
     /// links of its chain. What is sought doesn't lie before the leaf. It takes no memory.
     pub fn end_for(&self, head: u64, target: Target<'_>) -> Option<Option<&Key>>
         requires { IsChain self.now head }
-        ensures { IfSome result (IsEndFor target.entry (page_at self.now head)) }
+        ensures some { is_some result ≡ ends_at target.entry (page_at self.now head) }
+        ensures end { IfSome result (λ end. option_copied end ≡ high_of (page_at self.now head)) }
     {
         match self.under_writes(head) {
             (Some(delta), Some(base)) => leaf_end_over(delta, base, target),
@@ -32,8 +35,9 @@ fn leaf_end_over<'a>(
     target: Target<'_>,
 ) -> Option<Option<&'a Key>>
     requires { IsOther delta.now }
-    ensures { IfSome result
-        (λ end. (bases : Bases) → IsEndFor target.entry (change bases delta.now (plain base.now)) end) }
+    ensures some { (bases : Bases) → is_some result ≡ ends_at target.entry (change bases delta.now (plain base.now)) }
+    ensures end { IfSome result
+        (λ end. (bases : Bases) → option_copied end ≡ high_of (change bases delta.now (plain base.now))) }
 {
     let Page::Leaf(_) = base else {
         return None;
@@ -51,7 +55,8 @@ fn leaf_end_over<'a>(
 
 // The same of a plain base page.
 fn leaf_end_plain<'a>(base: &'a Page, target: Target<'_>) -> Option<Option<&'a Key>>
-    ensures { IfSome result (IsEndFor target.entry (plain base.now)) }
+    ensures some { is_some result ≡ ends_at target.entry (plain base.now) }
+    ensures end { IfSome result (λ end. option_copied end ≡ high_of (plain base.now)) }
 {
     let Page::Leaf(leaf) = base else {
         return None;

@@ -59,15 +59,6 @@ impl Chains {
         }
     }
 
-    /// All writes of a leaf's chain, the newest first.
-    pub fn writes(&self, alloc: Alloc, head: u64) -> Result<Vec<&Write, Alloc>, Memory>
-        requires ends { IsChain self.now head }
-        requires leaf { is_leaf (page_at self.now head) ≡ true }
-        ensures { IfOk result (λ found. pointed_to found.items ≡ writes_on self.now head) }
-    {
-        Ok(self.walk(alloc, head)?.0)
-    }
-
     /// All that is read of a leaf, by one walk along its chain. Memory is taken for the list of the writes alone, and none
     /// where there are none. `Memory` is answered where the list finds none.
     pub fn leaf(&self, alloc: Alloc, head: u64) -> Result<LeafChain<'_>, Memory>

@@ -10,6 +10,7 @@ use Rattle.std.specs.FinMap.{find}
 use Rattle.bw_key.specs.Order.{KeyBytes, key_cmp, key_cmp_total, key_eq}
 use Rattle.bw_model.specs.Contents.{is_below_end, is_in_range, is_pair_in_range}
 use Rattle.bw_model.specs.Values.{ValueBytes}
+use Rattle.bw_page.proofs.Truths.{holds}
 use Rattle.bw_page.proofs.KeyLemmas.{below_trans}
 use Rattle.bw_delta.specs.Writes.{WriteView}
 use Rattle.bw_delta.specs.History.{history, action_at}
@@ -45,10 +46,6 @@ pub from_least : (high : Option KeyBytes) (low key : KeyBytes) → low ≡ [] �
 from_least high low key least below =
     ap (λ (l : KeyBytes). not (is_lt (key_cmp key l)) && is_below_end high key) least
     ∙ ap (λ b. not b && is_below_end high key) (none_below_least key) ∙ holds _ below
-  where
-    holds : (b : Bool) → T b → b ≡ true
-    holds true t = refl
-    holds false t = absurd t
 
 module _ (start : KeyBytes → Option ValueBytes) (high : Option KeyBytes) (writes : List WriteView) where
   -- a replay that went on to a later stamp

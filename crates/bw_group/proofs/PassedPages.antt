@@ -1,6 +1,5 @@
 -- The pages that a walk along sorted keys has passed.
-use Rattle.std.proofs.Common.{◌≡◌, ℕ, zero, suc, ◌+◌, ◌<◌, ◌≤◌, ◌≢◌, Bool, true, false, T, List, [], ◌∷◌, ◌++◌, ◌==◌, length, get_or, Option, Some, None, refl, sym, ap, ◌∙◌, subst, arith}
-use Rattle.std.specs.Prelude.{slice_get}
+use Rattle.std.proofs.Common.{◌≡◌, ℕ, ◌+◌, ◌<◌, ◌≤◌, ◌≢◌, Bool, true, false, T, List, [], ◌∷◌, ◌++◌, ◌==◌, length, Option, Some, None, refl, sym, ap, subst, arith}
 use Rattle.std.specs.List.{AllByRecursion}
 use Rattle.std.specs.Ordering.{is_lt}
 use Rattle.std.specs.Cmp.{unsigned_Decides}
@@ -9,16 +8,16 @@ use Rattle.bw_core.proofs.Lists.{total-append}
 use Rattle.bw_key.specs.Order.{KeyBytes, key_cmp}
 use Rattle.bw_model.specs.Contents.{is_below_end}
 use Rattle.bw_model.specs.declared.operations.Op.{Op}
-use Rattle.bw_page.proofs.KeyLemmas.{below_upto, upto_below, upto_trans}
+use Rattle.bw_page.proofs.Truths.{holds_not, not_holds}
+use Rattle.bw_page.proofs.KeyLemmas.{upto_below, upto_trans}
 use Rattle.bw_tree.specs.Before.{low_of}
 use Rattle.bw_tree.specs.Levels.{IsHome, IsOneHome}
 use Rattle.bw_tree.specs.Scans.{high_of}
-use Rattle.bw_tree.specs.Slots.{Slot, slot_at}
+use Rattle.bw_tree.specs.Slots.{slot_at}
 use Rattle.bw_tree.specs.View.{TreeView}
 use Rattle.bw_tree.specs.Words.{ArePages}
 use Rattle.bw_group.specs.Homes.{AreInKeyOrder, BeginsBelow, IsTouched}
 use Rattle.bw_group.proofs.Lists.{all_append, all_same}
-use Rattle.bw_group.proofs.RunLemmas.{holds_not, not_holds}
 
 -- the page has a key of the batch that isn't above this one, and ends before it
 pub record IsPassed (tree : TreeView) (ops : List Op) (key : KeyBytes) (page : ℕ) : Type 0 where

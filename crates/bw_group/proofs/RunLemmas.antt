@@ -1,5 +1,5 @@
 -- Runs of points that are at home on one page.
-use Rattle.std.proofs.Common.{◌≡◌, ℕ, suc, ◌+◌, ◌-◌, ◌<◌, ◌≤◌, Bool, true, false, not, T, List, [], ◌∷◌, length, take, drop, get_or, Option, refl, sym, ap, ◌∙◌, subst, arith, length-drop}
+use Rattle.std.proofs.Common.{◌≡◌, ℕ, suc, ◌+◌, ◌-◌, ◌<◌, ◌≤◌, Bool, true, false, T, List, [], ◌∷◌, length, take, drop, get_or, Option, sym, ap, ◌∙◌, subst, arith, length-drop}
 use Rattle.std.specs.List.{AllByRecursion}
 use Rattle.std.specs.List.Sorted.{IsSortedBy}
 use Rattle.std.specs.Ordering.{is_lt}
@@ -7,6 +7,7 @@ use Rattle.std.proofs.lemmas.List.{get_or-map, get_or_default, map-append}
 use Rattle.std.proofs.lemmas.List.Sorted.{sorted_far}
 use Rattle.bw_key.specs.Order.{KeyBytes, key_cmp}
 use Rattle.bw_model.specs.Contents.{is_below_end}
+use Rattle.bw_page.proofs.Truths.{holds_not, not_holds}
 use Rattle.bw_page.proofs.KeyLemmas.{upto_trans}
 use Rattle.bw_tree.specs.Levels.{IsHome, IsOneHome}
 use Rattle.bw_tree.specs.Scans.{high_of}
@@ -73,13 +74,6 @@ later_above ps n m d sorted le lt =
     let far = sorted_far (λ (a b : Entry). is_lt (key_cmp a.0 b.0)) (ranks (λ (x : Entry). x.0)) es sorted n m e le (omega (arith, lt, seen_length ps)) in
     sym (ap (λ (x : Entry). is_lt (key_cmp x.0 (get_or ps n d).key.now)) (get_or-map seen ps m d e lt))
     ∙ sym (ap (λ (x : Entry). is_lt (key_cmp (get_or es m e).0 x.0)) (get_or-map seen ps n d e (omega (arith, le, lt)))) ∙ far
-
-pub not_holds : (b : Bool) → b ≡ false → T (not b)
-not_holds b e = subst (λ a. T (not a)) (sym e) tt
-
-pub holds_not : (b : Bool) → T (not b) → b ≡ false
-holds_not true h = absurd h
-holds_not false h = refl
 
 -- a key between one that is at home on a page and the page's end is at home there
 pub home_further : (slots : List Slot) (levels : List (List ℕ)) (key other : KeyBytes) (p : ℕ) → IsHome slots levels key p → is_lt (key_cmp other key) ≡ false → T (is_below_end (high_of (slot_at slots p)) other) → IsHome slots levels other p

@@ -1,19 +1,18 @@
 -- The homes of a batch stay where pages change in nothing but their writes.
-use Rattle.std.proofs.Common.{◌≡◌, ℕ, ◌<◌, ◌≤◌, T, List, [], ◌∷◌, length, Option, refl, sym, ap, ◌∙◌, subst}
-use Rattle.std.specs.List.{AllByRecursion, Contains}
+use Rattle.std.proofs.Common.{◌≡◌, ℕ, ◌<◌, T, List, [], ◌∷◌, length, Option, refl, sym, ap, ◌∙◌, subst}
+use Rattle.std.specs.List.{AllByRecursion}
 use Rattle.std.specs.Ordering.{is_lt}
 use Rattle.bw_key.specs.Order.{KeyBytes, key_cmp}
 use Rattle.bw_model.specs.Contents.{is_below_end}
 use Rattle.bw_model.specs.declared.operations.Op.{Op}
 use Rattle.bw_page.specs.Inners.{IsUpto}
 use Rattle.bw_tree.specs.Before.{low_of}
-use Rattle.bw_tree.specs.Levels.{IsHome, IsOneHome, row}
+use Rattle.bw_tree.specs.Levels.{IsHome, IsOneHome}
 use Rattle.bw_tree.specs.Scans.{high_of}
 use Rattle.bw_tree.specs.Slots.{Slot, PageState, Free, Gone, Live, slot_at}
 use Rattle.bw_tree.specs.Turns.{slot_without_writes}
 use Rattle.bw_tree.specs.View.{TreeView}
-use Rattle.bw_tree.specs.Words.{ArePages}
-use Rattle.bw_group.specs.Homes.{AreHomes, AreInKeyOrder, BeginsBelow, HasHome, HomesView, IsTouched}
+use Rattle.bw_group.specs.Homes.{AreHomes, AreInKeyOrder, BeginsBelow, HomesView, IsTouched}
 use Rattle.bw_group.proofs.Lists.{all_same}
 
 -- pages that differ in writes alone begin and end alike

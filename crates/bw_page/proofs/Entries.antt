@@ -12,36 +12,14 @@ use Rattle.bw_page.specs.Pages.{BoundsView, IsPage, BeginsAt, first_key}
 use Rattle.bw_model.specs.Sorted.{place_of}
 use Rattle.bw_model.proofs.PairsLemmas.{put_absent_at, put_found_at}
 use Rattle.bw_page.specs.Inners.{InnerView, IsInner}
+use Rattle.bw_page.proofs.Truths.{holds, true_holds, holds_not, not_holds, left_of, right_of, both_of}
 use Rattle.bw_page.proofs.KeyLemmas.{below_back, below_trans, below_upto, below_self}
-use Rattle.bw_page.proofs.Search.{Misses, same_keys, true_holds}
-
-pub holds_true : (a : Bool) → T a → a ≡ true
-holds_true true h = refl
-holds_true false h = absurd h
-
-pub holds_not : (a : Bool) → T (not a) → a ≡ false
-holds_not true h = absurd h
-holds_not false h = refl
-
-pub not_holds : (a : Bool) → a ≡ false → T (not a)
-not_holds a e = subst (λ b. T (not b)) (sym e) tt
-
-left_of : (a b : Bool) → T (a && b) → T a
-left_of true b h = tt
-left_of false b h = absurd h
-
-right_of : (a b : Bool) → T (a && b) → T b
-right_of true b h = h
-right_of false b h = absurd h
-
-both_of : (a b : Bool) → T a → T b → T (a && b)
-both_of true b p q = q
-both_of false b p q = absurd p
+use Rattle.bw_page.proofs.Search.{Misses, same_keys}
 
 -- a key below one that is below an end
 below_end : (high : Option KeyBytes) (k m : KeyBytes) → is_lt (key_cmp k m) ≡ true → T (is_below_end high m) → T (is_below_end high k)
 below_end None k m p h = tt
-below_end (Some to) k m p h = true_holds _ (below_trans k m to p (holds_true _ h))
+below_end (Some to) k m p h = true_holds _ (below_trans k m to p (holds _ h))
 
 -- a key of a range that begins above another begins there too
 starts_later : (low m k : KeyBytes) → is_lt (key_cmp low m) ≡ true → T (not (is_lt (key_cmp k m))) → is_lt (key_cmp low k) ≡ true
@@ -65,7 +43,7 @@ module _ {X : Type 0} where
   range_above low k high [] above h = tt
   range_above low k high (e ∷ es) above h =
       both_of _ _
-      (both_of _ _ (not_holds _ (below_back k e.0 (holds_true _ (left_of _ _ above)))) (to_high low high e es h))
+      (both_of _ _ (not_holds _ (below_back k e.0 (holds _ (left_of _ _ above)))) (to_high low high e es h))
       (range_above low k high es (right_of _ _ above) (right_of _ _ h))
 
   range_first : (low : KeyBytes) (high : Option KeyBytes) (e : KeyBytes × X) (es : List (KeyBytes × X)) → T (is_sorted key_cmp (e ∷ es)) → T (list_all (is_pair_in_range low high) (e ∷ es)) → T (list_all (is_pair_in_range e.0 high) (e ∷ es))
@@ -109,13 +87,13 @@ module _ {X : Type 0} where
   sorted_join low m high [] fs s h t g = t
   sorted_join low m high (e ∷ es) fs s h t g =
       both_of _ _
-      (below_join e.0 es fs (left_of _ _ s) (below_later e.0 m high fs (holds_true _ (to_high low (Some m) e es h)) g))
+      (below_join e.0 es fs (left_of _ _ s) (below_later e.0 m high fs (holds _ (to_high low (Some m) e es h)) g))
       (sorted_join low m high es fs (right_of _ _ s) (right_of _ _ h) t g)
 
   range_before : (low m : KeyBytes) (high : Option KeyBytes) (es : List (KeyBytes × X)) → T (is_below_end high m) → T (list_all (is_pair_in_range low (Some m)) es) → T (list_all (is_pair_in_range low high) es)
   range_before low m high [] wide h = tt
   range_before low m high (e ∷ es) wide h =
-      both_of _ _ (both_of _ _ (from_low low (Some m) e es h) (below_end high e.0 m (holds_true _ (to_high low (Some m) e es h)) wide)) (range_before low m high es wide (right_of _ _ h))
+      both_of _ _ (both_of _ _ (from_low low (Some m) e es h) (below_end high e.0 m (holds _ (to_high low (Some m) e es h)) wide)) (range_before low m high es wide (right_of _ _ h))
 
   range_join : (low : KeyBytes) (high : Option KeyBytes) (es fs : List (KeyBytes × X)) → T (list_all (is_pair_in_range low high) es) → T (list_all (is_pair_in_range low high) fs) → T (list_all (is_pair_in_range low high) (es ++ fs))
   range_join low high [] fs p q = q
@@ -128,7 +106,7 @@ module _ {X : Type 0} where
 
   joined_at : (low m : KeyBytes) (high : Option KeyBytes) (left_side side : Option ℕ) (es fs : List (KeyBytes × X)) → IsPage low (Some m) left_side es → IsPage m high side fs → IsPage low high side (es ++ fs)
   joined_at low m high left_side side es fs left right =
-      let over : is_lt (key_cmp low m) ≡ true = holds_true _ left.wide in
+      let over : is_lt (key_cmp low m) ≡ true = holds _ left.wide in
       record {
         sorted = sorted_join low m high es fs left.sorted left.inside right.sorted right.inside;
         inside = range_join low high es fs (range_before low m high es right.wide left.inside) (range_wider low m high fs over right.inside);

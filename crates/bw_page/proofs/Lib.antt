@@ -1,3 +1,4 @@
+pub mod Truths
 pub mod KeyLemmas
 pub mod Search
 pub mod Entries

@@ -7,9 +7,10 @@ use Rattle.std.specs.FinMap.Entries.{below_all}
 use Rattle.bw_key.specs.Order.{KeyBytes, key_cmp}
 use Rattle.bw_model.specs.Contents.{is_below_end, is_pair_in_range}
 use Rattle.bw_model.specs.Sorted.{place_of}
+use Rattle.bw_page.proofs.Truths.{true_holds}
 use Rattle.bw_page.proofs.Entries.{sorted_drop}
 use Rattle.bw_page.proofs.KeyLemmas.{below_back, upto_trans}
-use Rattle.bw_page.proofs.Search.{both, is_before, true_holds}
+use Rattle.bw_page.proofs.Search.{both, is_before}
 
 -- a key above one that isn't below another isn't below it either
 behind : (q k m : KeyBytes) → is_lt (key_cmp k q) ≡ false → is_lt (key_cmp k m) ≡ true → is_lt (key_cmp m q) ≡ false

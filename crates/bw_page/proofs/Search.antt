@@ -9,15 +9,13 @@ use Rattle.std.specs.FinMap.Entries.{below_all}
 use Rattle.std.specs.declared.cmp.Ordering.TheVariants.{Less, Equal, Greater}
 use Rattle.bw_key.specs.Order.{KeyBytes, key_cmp, key_eq, key_ties}
 use Rattle.bw_model.specs.Sorted.{place_of}
+use Rattle.bw_page.proofs.Truths.{true_holds}
 use Rattle.bw_page.proofs.KeyLemmas.{below_trans, below_self, neither_below, keys_tie, cmp_self}
 
 pub both : (a b : Bool) → T (a && b) → (a ≡ true) × (b ≡ true)
 both true true h = (refl, refl)
 both true false h = absurd h
 both false b h = absurd h
-
-pub true_holds : (a : Bool) → a ≡ true → T a
-true_holds a e = subst T (sym e) tt
 
 pub same_keys : (k q : KeyBytes) → key_eq k q ≡ true → k ≡ q
 same_keys k q e = elim (key_cmp k q) as (λ r. key_cmp k q ≡ r → k ≡ q) [

@@ -9,9 +9,9 @@ use Rattle.std.specs.declared.cmp.Ordering.TheVariants.{Less, Equal, Greater}
 use Rattle.bw_key.specs.Order.{KeyBytes, key_cmp, key_cmp_total}
 use Rattle.bw_page.specs.Inners.{IsLastUpto, IsUpto}
 use Rattle.bw_page.specs.Pages.{first_key}
+use Rattle.bw_page.proofs.Truths.{holds_not, not_holds}
 use Rattle.bw_page.proofs.KeyLemmas.{below_back, below_self, below_upto}
 use Rattle.bw_page.proofs.Search.{rises}
-use Rattle.bw_page.proofs.Entries.{holds_not, not_holds}
 
 -- whether an entry's key isn't above another
 abbrev pub is_upto : {X : Type 0} → KeyBytes → KeyBytes × X → Bool

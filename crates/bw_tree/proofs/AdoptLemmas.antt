@@ -1,7 +1,7 @@
 -- Adopting the words that a board was closed with.
 use Rattle.bw_tree.proofs.RowWritesLemmas.{leaf_of, page_has_writes}
 use Rattle.bw_chain.proofs.RowLemmas.{in_row}
-use Rattle.std.proofs.Common.{◌≡◌, ℕ, zero, suc, ◌+◌, ◌<◌, ◌≤◌, ◌^◌, Bool, true, false, ◌&&◌, T, List, [], ◌∷◌, ◌++◌, length, map, take, drop, Some, None, inl, inr, refl, sym, ap, ◌∙◌, subst, arith, length-append}
+use Rattle.std.proofs.Common.{◌≡◌, ℕ, zero, suc, ◌+◌, ◌<◌, ◌≤◌, ◌^◌, true, T, List, [], ◌∷◌, ◌++◌, length, map, take, drop, Some, None, inl, inr, refl, sym, ap, ◌∙◌, subst, arith, length-append}
 use Rattle.std.specs.Prelude.{filter, slice_get, slice_index}
 use Rattle.std.specs.List.{Contains, zip}
 use Rattle.std.specs.List.Sorted.{IsPermutation}
@@ -26,6 +26,7 @@ use Rattle.bw_delta.proofs.Filters.{same_filtered}
 use Rattle.bw_delta.proofs.Orders.{distinct_permuted}
 use Rattle.bw_delta.proofs.Stagings.{AreBelow, below_all, distinct_over}
 use Rattle.bw_key.specs.Order.{key_eq}
+use Rattle.bw_page.proofs.Truths.{holds, true_holds, left_of, right_of, both_of}
 use Rattle.bw_chain.specs.Slots.{Slot, PageState, Live, Free, slot_at, has_key, is_leaf}
 use Rattle.bw_chain.specs.Reading.{writes_over, row_pairs, row_writes}
 use Rattle.bw_chain.specs.Turns.{slot_without_writes}
@@ -99,28 +100,6 @@ one_state e = cc
 no_live : {s : PageState} → Free ≡ Live s → ⊥
 no_live e = cc
 
-both : (a b : Bool) → T a → T b → T (a && b)
-both true b h k = k
-both false b h k = absurd h
-
-holds : (b : Bool) → T b → b ≡ true
-holds true t = refl
-holds false t = absurd t
-
-both_left : (a b : Bool) → (a && b) ≡ true → T a
-both_left true b e = tt
-both_left false b e = absurd (different e)
-  where
-    different : false ≡ true → ⊥
-    different e = cc
-
-both_right : (a b : Bool) → (a && b) ≡ true → T b
-both_right true b e = subst T (sym e) tt
-both_right false b e = absurd (different e)
-  where
-    different : false ≡ true → ⊥
-    different e = cc
-
 slot_past : (f : ℕ → Slot) (heads : List ℕ) (p : ℕ) → length heads ≤ p → slot_at (map f heads) p ≡ Free
 slot_past f [] p le = refl
 slot_past f (h ∷ heads) zero le = absurd (omega arith)
@@ -143,12 +122,12 @@ pub record ChainOf (slots : List Slot) (levels : List (List ℕ)) (floor : ℕ) 
 
 home_inside : (slots : List Slot) (levels : List (List ℕ)) (key : KeyBytes) (p : ℕ) (s : PageState) → slot_at slots p ≡ Live s → IsHome slots levels key p → T (is_in_range s.low s.high key)
 home_inside slots levels key p s is home =
-    subst (λ (r : PageState). T (is_in_range r.low r.high key)) (one_state (sym home.reached.is ∙ is)) (both _ _ home.reached.from_low home.ends_above)
+    subst (λ (r : PageState). T (is_in_range r.low r.high key)) (one_state (sym home.reached.is ∙ is)) (both_of _ _ home.reached.from_low home.ends_above)
 
 home_from : (slots : List Slot) (levels : List (List ℕ)) (key : KeyBytes) (p : ℕ) (s : PageState) → 0 < length levels → Contains (row levels 0) p → slot_at slots p ≡ Live s → is_in_range s.low s.high key ≡ true → IsHome slots levels key p
 home_from slots levels key p s some has is inside = record {
-  reached = record { within = some; in_level = has; state = s; is = is; from_low = both_left _ _ inside };
-  ends_above = both_right _ _ inside;
+  reached = record { within = some; in_level = has; state = s; is = is; from_low = left_of _ _ (true_holds _ inside) };
+  ends_above = right_of _ _ (true_holds _ inside);
 }
 
 module _ (heads heads' : List ℕ) (bases : Bases) (first : Records) (root next bound : ℕ) (ws : List WriteView) (links : List ℕ) (linked : length links ≡ length ws) (pages : length heads' ≡ length heads)

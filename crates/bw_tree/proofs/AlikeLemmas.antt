@@ -1,10 +1,11 @@
 -- Trees whose pages differ in writes alone have the same levels.
-use Rattle.std.proofs.Common.{◌≡◌, ℕ, Bool, true, false, ◌&&◌, T, List, [], ◌∷◌, ◌++◌, Option, Some, None, refl, sym, ap, ◌∙◌, subst}
+use Rattle.std.proofs.Common.{◌≡◌, ℕ, T, List, [], ◌∷◌, ◌++◌, Option, Some, None, refl, sym, ap, ◌∙◌, subst}
 use Rattle.std.specs.List.{Contains, AllByRecursion, list_all}
 use Rattle.bw_key.specs.Order.{KeyBytes}
 use Rattle.bw_model.specs.Contents.{is_in_range}
 use Rattle.bw_model.specs.Values.{ValueBytes}
 use Rattle.bw_page.specs.Inners.{IsUpto}
+use Rattle.bw_page.proofs.Truths.{both_of}
 use Rattle.bw_delta.specs.Writes.{WriteView}
 use Rattle.bw_delta.specs.declared.deltas.Delta.TheVariants.{Put}
 use Rattle.bw_chain.specs.Walk.{Leads}
@@ -36,15 +37,11 @@ pub record Alike (s : PageState) (slot : Slot) : Type 0 where
   pub high : state.high ≡ s.high
   pub side : state.side ≡ s.side
 
-both : (a b : Bool) → T a → T b → T (a && b)
-both true b h k = k
-both false b h k = absurd h
-
 abbrev pub AreInside : PageState → List WriteView → Type 0
 AreInside s ws = AllByRecursion (λ w. T (is_in_range s.low s.high w.key)) ws
 
 written_sound : (low : KeyBytes) (high : Option KeyBytes) (side : Option ℕ) (w : WriteView) (b : Body) → T (is_in_range low high w.key) → IsSoundBody low high side b → IsSoundBody low high side (body_written w b)
-written_sound low high side w (Pairs pairs writes) inside h = record { page = h.page; inside = both (is_in_range low high w.key) (list_all (λ v. is_in_range low high v.key) writes) inside h.inside }
+written_sound low high side w (Pairs pairs writes) inside h = record { page = h.page; inside = both_of (is_in_range low high w.key) (list_all (λ v. is_in_range low high v.key) writes) inside h.inside }
 written_sound low high side w (Children level children) inside h = h
 
 written_level : (w : WriteView) (b : Body) → level_of (body_written w b) ≡ level_of b

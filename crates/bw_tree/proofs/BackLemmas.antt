@@ -9,6 +9,7 @@ use Rattle.std.proofs.lemmas.List.{reverse-append}
 use Rattle.bw_key.specs.Order.{KeyBytes, key_cmp}
 use Rattle.bw_model.specs.Contents.{Contents, is_below_end, is_in_range, pairs_of_range}
 use Rattle.bw_model.specs.Values.{ValueBytes}
+use Rattle.bw_page.proofs.Truths.{holds, true_holds, holds_not, left_of, right_of}
 use Rattle.bw_page.proofs.KeyLemmas.{below_back, below_self, upto_trans}
 use Rattle.bw_delta.proofs.Maps.{sorted_in_range}
 use Rattle.bw_chain.specs.Slots.{Slot, PageState, Free, Gone, Live, slot_at, has_key}
@@ -17,25 +18,6 @@ use Rattle.bw_chain.specs.Scans.{Reaches}
 use Rattle.bw_chain.specs.Before.{IsBefore, low_of}
 use Rattle.bw_tree.proofs.RangeLemmas.{one_then_other, all_of_those, none_of_those, first_of_front}
 use Rattle.bw_chain.proofs.EndLemmas.{upto_end}
-
-holds : (b : Bool) → T b → b ≡ true
-holds true t = refl
-holds false t = absurd t
-
-holds_not : (a : Bool) → T (not a) → a ≡ false
-holds_not true h = absurd h
-holds_not false h = refl
-
-true_holds : (a : Bool) → a ≡ true → T a
-true_holds a e = subst T (sym e) tt
-
-left_of : (a b : Bool) → T (a && b) → T a
-left_of true b h = tt
-left_of false b h = absurd h
-
-right_of : (a b : Bool) → T (a && b) → T b
-right_of true b h = h
-right_of false b h = absurd h
 
 different : true ≡ false → ⊥
 different e = cc

@@ -13,6 +13,7 @@ use Rattle.bw_model.specs.Values.{ValueBytes}
 use Rattle.bw_page.specs.Inners.{IsUpto}
 use Rattle.bw_page.specs.Leaves.{LeafView}
 use Rattle.bw_page.specs.Pages.{IsPage}
+use Rattle.bw_page.proofs.Truths.{holds, true_holds, holds_not, left_of}
 use Rattle.bw_page.proofs.KeyLemmas.{below_back, below_self, below_trans, upto_trans}
 use Rattle.bw_delta.specs.History.{HasDistinctStamps}
 use Rattle.bw_delta.proofs.ContentsAsOf.{same_contents}
@@ -38,25 +39,6 @@ plus_none n = omega arith
 
 shifted : (n i : ℕ) → n + 1 + i ≡ n + suc i
 shifted n i = omega arith
-
-left_of : (a b : Bool) → T (a && b) → T a
-left_of true b h = tt
-left_of false b h = absurd h
-
-right_of : (a b : Bool) → T (a && b) → T b
-right_of true b h = h
-right_of false b h = absurd h
-
-holds : (b : Bool) → T b → b ≡ true
-holds true t = refl
-holds false t = absurd t
-
-holds_not : (a : Bool) → T (not a) → a ≡ false
-holds_not true h = absurd h
-holds_not false h = refl
-
-true_holds : (a : Bool) → a ≡ true → T a
-true_holds a e = subst T (sym e) tt
 
 -- one leaf more
 pub folded_further : (tree : TreeView) (n : ℕ) (ps : List ℕ) (k p : ℕ) → k < length ps → get_or ps k p ≡ p → folded_from tree n (take (suc k) ps) ≡ folded_from tree n (take k ps) ++ folded_at tree (n + k) p ∷ []

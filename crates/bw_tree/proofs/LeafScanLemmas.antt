@@ -1,5 +1,5 @@
 -- A leaf of a tree, from its mapping word, and what a scan makes of it.
-use Rattle.std.proofs.Common.{◌≡◌, ℕ, ◌<◌, Bool, true, false, T, List, length, get_or, Option, Some, None, MatchOption, Result, Ok, Err, IfOk, refl, sym, ap, ◌∙◌, subst, arith}
+use Rattle.std.proofs.Common.{◌≡◌, ℕ, ◌<◌, true, false, T, List, length, get_or, Option, Some, None, MatchOption, Result, Ok, Err, IfOk, refl, sym, ap, ◌∙◌, subst, arith}
 use Rattle.std.proofs.lemmas.List.{length-map}
 use Rattle.std.specs.List.{Contains}
 use Rattle.bw_key.specs.Order.{KeyBytes}
@@ -18,13 +18,6 @@ use Rattle.bw_chain.proofs.RowLemmas.{InRow}
 use Rattle.bw_chain.proofs.RouteLemmas.{home_leaf}
 use Rattle.bw_tree.proofs.ContentsLemmas.{found_at}
 use Rattle.bw_tree.proofs.ScanLemmas.{page_distinct, leaf_in_row, own_home}
-
-holds : (b : Bool) → T b → b ≡ true
-holds true t = refl
-holds false t = absurd t
-
-true_holds : (a : Bool) → a ≡ true → T a
-true_holds a e = subst T (sym e) tt
 
 different : false ≡ true → ⊥
 different e = cc

@@ -12,6 +12,7 @@ use Rattle.bw_page.specs.Leaves.{LeafView}
 use Rattle.bw_page.specs.Inners.{IsInner}
 use Rattle.bw_page.specs.Pages.{BeginsAt}
 use Rattle.bw_page.specs.declared.pages.Page.{Page}
+use Rattle.bw_page.proofs.Truths.{holds}
 use Rattle.bw_page.proofs.KeyLemmas.{below_trans}
 use Rattle.bw_chain.specs.Walk.{walked, ended}
 use Rattle.bw_chain.specs.Slots.{Slot, PageState, Pairs, Live, slot_at}
@@ -154,10 +155,6 @@ term_named n (l ∷ leaves) k c (zero, lt, at) = (0, l, refl, ap (λ (e : KeyByt
 term_named n (l ∷ leaves) k c (suc j, lt, at) =
     let more = term_named (n + 1) leaves k c (j, omega (arith, lt), at) in
     (suc more.0, more.1, more.2, more.3, sym (shifted n more.0) ∙ more.4)
-
-holds : (b : Bool) → T b → b ≡ true
-holds true t = refl
-holds false t = absurd t
 
 both : (a b : Bool) → a ≡ true → T b → T (a && b)
 both true b e h = h

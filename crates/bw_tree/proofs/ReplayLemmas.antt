@@ -13,6 +13,7 @@ use Rattle.bw_key.specs.Order.{KeyBytes, key_cmp}
 use Rattle.bw_model.specs.Contents.{is_below_end, is_pair_in_range, pairs_of_range}
 use Rattle.bw_model.specs.Values.{ValueBytes}
 use Rattle.bw_page.specs.Inners.{IsUpto}
+use Rattle.bw_page.proofs.Truths.{left_of}
 use Rattle.bw_delta.specs.History.{HasDistinctStamps}
 use Rattle.bw_delta.specs.Replays.{ReplayView}
 use Rattle.bw_delta.proofs.Maps.{sorted_in_range}
@@ -71,10 +72,6 @@ pairs_of_replay slot replay from to end ends sorted so = record {
       ∙ ap (λ b. cond b (value_in slot key replay.stamp) None) (ap (λ b. not (is_lt (key_cmp key from)) && b) (ends key) ∙ moved (not (is_lt (key_cmp key from))) (is_below_end (high_of slot) key) (is_below_end to key));
 }
   where
-    left_of : (a b : Bool) → T (a && b) → T a
-    left_of true b h = tt
-    left_of false b h = absurd h
-
     moved : (a b c : Bool) → (a && (b && c)) ≡ ((a && c) && b)
     moved false b c = refl
     moved true true true = refl

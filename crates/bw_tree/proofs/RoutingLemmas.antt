@@ -1,5 +1,5 @@
 -- Searches of a tree along rising keys.
-use Rattle.std.proofs.Common.{◌≡◌, ℕ, ◌<◌, T, List, [], length, get_or, Option, Some, None, refl, sym, ap, ◌∙◌, subst, arith}
+use Rattle.std.proofs.Common.{◌≡◌, ℕ, ◌<◌, true, T, List, [], length, get_or, Option, Some, None, refl, sym, ap, ◌∙◌, subst, arith}
 use Rattle.std.specs.Prelude.{IfSome, unwrap_or}
 use Rattle.std.specs.Borrow.{Bor}
 use Rattle.std.specs.List.{Contains}
@@ -9,13 +9,14 @@ use Rattle.bw_key.specs.Order.{KeyBytes}
 use Rattle.bw_chain.specs.declared.target.Target.{Target}
 use Rattle.bw_chain.specs.declared.target.Target.TheVariants.{Home}
 use Rattle.bw_chain.specs.declared.turn.Turn.TheVariants.{Here}
-use Rattle.bw_chain.specs.LeafEnds.{IsEndFor}
+use Rattle.bw_chain.specs.LeafEnds.{ends_at}
 use Rattle.bw_chain.specs.Scans.{high_of}
 use Rattle.bw_chain.specs.Slots.{Slot, PageState, Free, Live, slot_at}
 use Rattle.bw_chain.specs.Levels.{AreLevels, row}
 use Rattle.bw_chain.specs.Chains.{Bases, Records, Ends, slot_of_word, slots_of}
 use Rattle.bw_chain.specs.Searches.{IsInLevels, IsSearching}
 use Rattle.bw_chain.specs.Targets.{AreAtHome, IsTurnFor, lies_from}
+use Rattle.bw_chain.proofs.LeafEndLemmas.{ends_here}
 use Rattle.bw_chain.proofs.MarkLemmas.{key_stands}
 use Rattle.bw_chain.proofs.ReadingLemmas.{read_is, slot_of_head}
 use Rattle.bw_chain.proofs.RouteLemmas.{held}
@@ -59,14 +60,14 @@ searched_at_head heads bases records root next bound staged tree target p head i
     at_head heads bases records root next bound staged tree p head is t (searched_there heads bases records root next bound staged tree target p is t starts on) read
 
 -- where a search ends at the page at which it stands, what it is for is at home there
-pub found_end : (heads : List ℕ) (bases : Bases) (records : Records) (root next bound : ℕ) (staged : Option StageWords) (tree : TreeView) (target : Target) (p head : ℕ) (end : Option (Bor KeyBytes)) → view_of heads bases records root next staged ≡ tree → IsStanding heads bases records root bound → IsSearching tree.slots tree.levels target p → PageAt tree heads bases records p head → IsEndFor target (slot_of_word bases records head) end → IsFoundEnd tree target p end
-found_end heads bases records root next bound staged tree target p head end is t on at h =
+pub found_end : (heads : List ℕ) (bases : Bases) (records : Records) (root next bound : ℕ) (staged : Option StageWords) (tree : TreeView) (target : Target) (p head : ℕ) (end : Option (Bor KeyBytes)) → view_of heads bases records root next staged ≡ tree → IsStanding heads bases records root bound → IsSearching tree.slots tree.levels target p → PageAt tree heads bases records p head → option_copied end ≡ high_of (slot_of_word bases records head) → ends_at target (slot_of_word bases records head) ≡ true → IsFoundEnd tree target p end
+found_end heads bases records root next bound staged tree target p head end is t on at high ends =
     let lawful : AreLevels tree.slots root tree.levels = subst (λ (v : TreeView). AreLevels v.slots root v.levels) is t.lawful in
-    let here : IsTurnFor target (slot_at tree.slots p) Here = subst (λ (o : Slot). IsTurnFor target o Here) (sym at.slot) h.here in
+    let here : IsTurnFor target (slot_at tree.slots p) Here = subst (λ (o : Slot). IsTurnFor target o Here) (sym at.slot) (ends_here target (slot_of_word bases records head) ends) in
     record {
       homes = ends_home tree.slots root tree.levels lawful target p on here;
       there = subst (λ (v : TreeView). p < length v.heads) is at.there;
-      is = h.is ∙ ap high_of (sym at.slot);
+      is = high ∙ ap high_of (sym at.slot);
     }
 
 -- a page of a level has a mapping word

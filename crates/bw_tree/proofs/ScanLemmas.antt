@@ -7,6 +7,7 @@ use Rattle.std.specs.FinMap.Entries.{find-where_key, is_sorted-where_key, same_e
 use Rattle.bw_key.specs.Order.{KeyBytes, key_cmp, key_cmp_total}
 use Rattle.bw_model.specs.Contents.{Contents, is_below_end, is_in_range, pairs_of_range}
 use Rattle.bw_model.specs.Values.{ValueBytes}
+use Rattle.bw_page.proofs.Truths.{holds, true_holds, holds_not, left_of, right_of}
 use Rattle.bw_page.proofs.KeyLemmas.{keys_tie, below_back, below_self, below_trans, upto_trans}
 use Rattle.bw_delta.specs.Writes.{WriteView}
 use Rattle.bw_delta.specs.Batches.{writes_to}
@@ -25,25 +26,6 @@ use Rattle.bw_chain.proofs.RouteLemmas.{side_bounded}
 use Rattle.bw_chain.proofs.LeafRowLemmas.{page_outside, wide_of}
 use Rattle.bw_chain.proofs.HomeLemmas.{home_value}
 use Rattle.bw_tree.proofs.RangeLemmas.{one_then_other, all_of_those, none_of_those, first_of_front}
-
-holds : (b : Bool) → T b → b ≡ true
-holds true t = refl
-holds false t = absurd t
-
-holds_not : (a : Bool) → T (not a) → a ≡ false
-holds_not true h = absurd h
-holds_not false h = refl
-
-left_of : (a b : Bool) → T (a && b) → T a
-left_of true b h = tt
-left_of false b h = absurd h
-
-right_of : (a b : Bool) → T (a && b) → T b
-right_of true b h = h
-right_of false b h = absurd h
-
-true_holds : (a : Bool) → a ≡ true → T a
-true_holds a e = subst T (sym e) tt
 
 different : true ≡ false → ⊥
 different e = cc

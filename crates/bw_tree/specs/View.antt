@@ -8,7 +8,7 @@ use Rattle.bw_model.specs.Values.{ValueBytes}
 use Rattle.bw_delta.specs.Writes.{WriteView}
 use Rattle.bw_delta.specs.ContentsAsOf.{contents_as_of}
 use Rattle.bw_delta.specs.History.{HasDistinctStamps}
-use Rattle.bw_chain.specs.Reading.{base_of, value_in, writes_over, row_pairs, row_writes}
+use Rattle.bw_chain.specs.Reading.{base_of, contents_in, value_in, writes_over, row_pairs, row_writes}
 use Rattle.bw_chain.specs.Slots.{Slot, slot_at}
 use Rattle.bw_chain.specs.Levels.{IsHome, row}
 
@@ -36,9 +36,7 @@ pub record TreeView : Type 0 where
 -- what a tree holds as of a stamp: the writes over all its leaves, in the order of their stamps, over the pairs under
 -- them
 abbrev pub contents_at : TreeView → ℕ → Contents ValueBytes
-contents_at tree stamp =
-    let leaves = row tree.levels 0 in
-    contents_as_of (from_entries (row_pairs tree.slots leaves)) (row_writes tree.slots leaves) stamp
+contents_at tree stamp = contents_in tree.slots tree.levels stamp
 
 -- the first pairs of a range of keys as of a stamp, and the last ones
 abbrev pub first_pairs : TreeView → KeyBytes → Option KeyBytes → ℕ → ℕ → List (KeyBytes × ValueBytes)

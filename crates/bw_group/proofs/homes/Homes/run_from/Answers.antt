@@ -1,4 +1,4 @@
-use Rattle.std.proofs.Common.{◌≡◌, ◌-◌, ◌<◌, ℕ, length, sym, ap, ◌∙◌, arith}
+use Rattle.std.proofs.Common.{◌-◌, ◌<◌, length, ap, ◌∙◌, arith}
 use Rattle.bw_group.specs.Homes.{HomesView}
 use Rattle.bw_group.specs.Points.{entries_in, entries_of}
 use Rattle.bw_group.proofs.Entries.{part_holds}

@@ -1,5 +1,6 @@
 use Rattle.std.proofs.Common.{◌∙◌, ap, get_or, arith}
 use Rattle.std.proofs.lemmas.Option.{IfSome_then}
+use Rattle.bw_chain.proofs.LeafEndLemmas.{where_some}
 use Rattle.bw_tree.proofs.RoutingLemmas.{found_end, searched_at_head, searched_there}
 use Rattle.bw_tree.proofs.tree.Tree.end_for.Goals as goal
 
@@ -17,5 +18,5 @@ pub returns : goal.returns
 returns c =
     let at = searched_at_head c.self.inside.heads.items c.self.inside.chains.bases c.self.inside.chains.records c.self.inside.root c.self.inside.next _ c.self.inside.staged _ c.args.target c.args.page c.index.result.now c.self.view_is c.self.invariant.now c.requires.starts c.requires.begins
     (c.index.ensures ∙ ap (λ n. get_or c.self.inside.heads.items n c.index.result.now) c.page.view_is) in
-    IfSome_then c.end_for.result c.end_for.ensures (λ end h.
-    found_end c.self.inside.heads.items c.self.inside.chains.bases c.self.inside.chains.records c.self.inside.root c.self.inside.next _ c.self.inside.staged _ c.args.target c.args.page c.index.result.now end c.self.view_is c.self.invariant.now c.requires.begins at h)
+    IfSome_then c.end_for.result (where_some _ c.end_for.result _ c.end_for.ensures.some c.end_for.ensures.end) (λ end h.
+    found_end c.self.inside.heads.items c.self.inside.chains.bases c.self.inside.chains.records c.self.inside.root c.self.inside.next _ c.self.inside.staged _ c.args.target c.args.page c.index.result.now end c.self.view_is c.self.invariant.now c.requires.begins at h.0 h.1)

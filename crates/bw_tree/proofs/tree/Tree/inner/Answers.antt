@@ -17,4 +17,4 @@ pub returns : goal.returns
 returns c =
     let at = page_at_head c.self.inside.heads.items c.self.inside.chains.bases c.self.inside.chains.records c.self.inside.root c.self.inside.next _ c.self.inside.staged _ c.args.page c.index.result.now c.self.view_is c.self.invariant.now c.requires
     (c.index.ensures ∙ ap (λ n. get_or c.self.inside.heads.items n c.index.result.now) c.page.view_is) in
-    IfSome_then c.inner.result c.inner.ensures (λ inner is. at.slot ∙ is)
+    IfSome_then c.inner.result c.inner.ensures.page (λ inner is. at.slot ∙ is)
