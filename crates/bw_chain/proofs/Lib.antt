@@ -19,3 +19,4 @@ pub mod PageScanLemmas
 pub mod LeafChainLemmas
 pub mod LeafEndLemmas
 pub mod StepLemmas
+pub mod SupportLemmas

@@ -6,7 +6,9 @@ use Rattle.bw_chain.specs.Walk.{Leads}
 use Rattle.bw_chain.specs.Slots.{Slot, slot_at}
 use Rattle.bw_chain.specs.Levels.{AreLevels, IsHome, IsHomeAt, levels_under, row}
 use Rattle.bw_chain.specs.Reading.{contents_in, row_writes, value_in}
+use Rattle.bw_chain.specs.Chains.{Bases, Records, slot_of_word}
 use Rattle.bw_chain.specs.Steps.{KeepsLevels}
+use Rattle.bw_chain.specs.Supports.{KeepsBases, supports_at}
 
 -- a way along a step is one only
 abbrev pub WayIsOne : Type 0
@@ -19,6 +21,12 @@ abbrev pub LevelsAreFound : Type 0
 LevelsAreFound =
     (slots : List Slot) (root : ℕ) (levels : List (List ℕ)) → AreLevels slots root levels →
     levels_under slots root ≡ levels
+
+-- a page is the same over other base pages, where those on which it rests are
+abbrev pub PageIsKept : Type 0
+PageIsKept =
+    (old new : Bases) (records : Records) (word : ℕ) → KeepsBases old new (supports_at records word) →
+    slot_of_word new records word ≡ slot_of_word old records word
 
 -- in lawful levels a key has one home
 abbrev pub HomeIsOne : Type 0

@@ -11,5 +11,6 @@ pub mod Before
 pub mod LeafChains
 pub mod Searches
 pub mod LeafEnds
+pub mod Supports
 pub mod Steps
 pub mod Laws

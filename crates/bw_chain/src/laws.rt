@@ -1,5 +1,5 @@
 // What holds of the definitions.
-ghost use Rattle.bw_chain.specs.Laws.{ContentsAreKept, HomeIsOne, HomeIsThere, LevelsAreFound, LevelsAreKept, WayIsOne};
+ghost use Rattle.bw_chain.specs.Laws.{ContentsAreKept, HomeIsOne, HomeIsThere, LevelsAreFound, LevelsAreKept, PageIsKept, WayIsOne};
 
 /// The law that each walk along links, side links or left links rests on: from a place there is one way only, and one
 /// place where it ends. It does nothing: its contract is the law.
@@ -11,6 +11,12 @@ pub fn way_is_one()
 /// those that are found from the root, by first children and side links. It does nothing: its contract is the law.
 pub fn levels_are_found()
     ensures { LevelsAreFound }
+{}
+
+/// The law by which one page is consolidated in place: a page is the same over other base pages, where those on which it
+/// rests are. It does nothing: its contract is the law.
+pub fn page_is_kept()
+    ensures { PageIsKept }
 {}
 
 /// The law that a search rests on: in lawful levels a key has one home. It does nothing: its contract is the law.
