@@ -23,7 +23,7 @@ bare_low Free = refl
 bare_low (Gone l) = refl
 bare_low (Live s) = refl
 
-pub bare_high : (slot : Slot) → high_of (slot_without_writes slot) ≡ high_of slot
+bare_high : (slot : Slot) → high_of (slot_without_writes slot) ≡ high_of slot
 bare_high Free = refl
 bare_high (Gone l) = refl
 bare_high (Live s) = refl
