@@ -20,3 +20,5 @@ pub mod LeafChainLemmas
 pub mod LeafEndLemmas
 pub mod StepLemmas
 pub mod SupportLemmas
+pub mod AlikeLemmas
+pub mod BaseLemmas

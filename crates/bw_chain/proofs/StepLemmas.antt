@@ -8,7 +8,7 @@ use Rattle.bw_page.proofs.Truths.{true_holds, not_holds}
 use Rattle.bw_delta.proofs.ContentsAsOf.{same_contents}
 use Rattle.bw_chain.specs.Slots.{Slot}
 use Rattle.bw_chain.specs.Levels.{BeginsWith, LeadsBelow, SideBySide, row}
-use Rattle.bw_chain.specs.Steps.{IsTerm}
+use Rattle.bw_chain.specs.Steps.{WasTerm}
 use Rattle.bw_chain.specs.Laws.{ContentsAreKept, HomeIsThere, LevelsAreKept}
 use Rattle.bw_chain.proofs.HomeLemmas.{home_value}
 use Rattle.bw_chain.proofs.LeafRowLemmas.{HasKey}
@@ -42,8 +42,10 @@ levels_kept old new root levels levels' lawful keeps = record {
     within_old : (n : ℕ) → n < length levels' → n < length levels
     within_old n within = subst (λ m. n < m) keeps.count within
 
-    leads_on : (n : ℕ) (k : KeyBytes) (c : ℕ) → suc n < length levels → IsTerm old levels n k c ⊎ LeadsBelow new (row levels' n) k c → LeadsBelow new (row levels' n) k c
-    leads_on n k c above (inl term) = keeps.leads n k c (omega (arith, above)) (lawful.terms n term.page term.state k c above term.in_level term.is term.named)
+    leads_on : (n : ℕ) (k : KeyBytes) (c : ℕ) → suc n < length levels → WasTerm old new levels levels' n k c ⊎ LeadsBelow new (row levels' n) k c → LeadsBelow new (row levels' n) k c
+    leads_on n k c above (inl term) =
+        let was = term.was in
+        term.leads (lawful.terms n was.page was.state k c above was.in_level was.is was.named)
     leads_on n k c above (inr leads) = leads
 
 -- a row has each key from its low key on

@@ -7,7 +7,7 @@ use Rattle.bw_chain.specs.Slots.{Slot, slot_at}
 use Rattle.bw_chain.specs.Levels.{AreLevels, IsHome, IsHomeAt, levels_under, row}
 use Rattle.bw_chain.specs.Reading.{contents_in, row_writes, value_in}
 use Rattle.bw_chain.specs.Chains.{Bases, Records, slot_of_word}
-use Rattle.bw_chain.specs.Steps.{KeepsLevels}
+use Rattle.bw_chain.specs.Steps.{AreAlike, KeepsLevels}
 use Rattle.bw_chain.specs.Supports.{KeepsBases, supports_at}
 
 -- a way along a step is one only
@@ -45,6 +45,12 @@ abbrev pub LevelsAreKept : Type 0
 LevelsAreKept =
     (old new : List Slot) (root : ℕ) (levels levels' : List (List ℕ)) → AreLevels old root levels →
     KeepsLevels old new levels levels' → AreLevels new root levels'
+
+-- lawful levels stay so under a root where all pages are alike
+abbrev pub LevelsAreAlike : Type 0
+LevelsAreAlike =
+    (old new : List Slot) (root : ℕ) (levels : List (List ℕ)) →
+    ((p : ℕ) → AreAlike (slot_at old p) (slot_at new p)) → AreLevels old root levels → AreLevels new root levels
 
 -- trees hold the same, each as of its stamp, where each key has the same value at its home in both
 abbrev pub ContentsAreKept : Type 0

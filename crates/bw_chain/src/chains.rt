@@ -21,7 +21,7 @@ pub const FLOOR: u64 = 1 << 32;
 /// What mapping words name: base pages by their numbers, and records. A vacant number has no page.
 #[derive(Debug, Drop)]
 pub struct Chains {
-    bases: Vec<Option<Page>, Alloc>,
+    pub(crate) bases: Vec<Option<Page>, Alloc>,
     arena: Arena,
 }
 
@@ -116,7 +116,7 @@ impl Chains {
 
     // The word under the record that a word names, if it names one.
     #[tactic(auto, using(crate::proofs::ChainLemmas::link_among, crate::proofs::ChainLemmas::no_link))]
-    fn link(&self, word: u64) -> Option<u64>
+    pub(crate) fn link(&self, word: u64) -> Option<u64>
         ensures { result ≡ link_of self.now.records word }
     {
         if word < FLOOR {

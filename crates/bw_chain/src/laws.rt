@@ -1,5 +1,5 @@
 // What holds of the definitions.
-ghost use Rattle.bw_chain.specs.Laws.{ContentsAreKept, HomeIsOne, HomeIsThere, LevelsAreFound, LevelsAreKept, PageIsKept, WayIsOne};
+ghost use Rattle.bw_chain.specs.Laws.{ContentsAreKept, HomeIsOne, HomeIsThere, LevelsAreFound, LevelsAreAlike, LevelsAreKept, PageIsKept, WayIsOne};
 
 /// The law that each walk along links, side links or left links rests on: from a place there is one way only, and one
 /// place where it ends. It does nothing: its contract is the law.
@@ -13,8 +13,8 @@ pub fn levels_are_found()
     ensures { LevelsAreFound }
 {}
 
-/// The law by which one page is consolidated in place: a page is the same over other base pages, where those on which it
-/// rests are. It does nothing: its contract is the law.
+/// The law by which the other pages stay as they are when a base page is added or takes the place of another: a page is the
+/// same over other base pages, where those on which it rests are. It does nothing: its contract is the law.
 pub fn page_is_kept()
     ensures { PageIsKept }
 {}
@@ -30,11 +30,17 @@ pub fn home_is_there()
     ensures { HomeIsThere }
 {}
 
-/// The law by which a split, a name for a page, a merge, or a new root leaves a tree lawful: a change of pages that keeps
-/// the rows side by side, and below each child a page of the level below, makes lawful levels of lawful ones. It does
-/// nothing: its contract is the law.
+/// The law by which a split, a name for a page, a merge, or an identifier given back leaves a tree lawful: a change of pages
+/// that keeps the rows side by side, and below each child a page of the level below, makes lawful levels of lawful ones.
+/// It is not for a new root, which changes how many levels there are. It does nothing: its contract is the law.
 pub fn levels_are_kept()
     ensures { LevelsAreKept }
+{}
+
+/// The law by which writes, and their consolidation, leave a tree lawful: lawful levels stay so where pages differ in pairs
+/// and writes alone. It does nothing: its contract is the law.
+pub fn levels_are_alike()
+    ensures { LevelsAreAlike }
 {}
 
 /// The law by which a change of pages leaves what a tree holds: two trees hold the same, each as of its stamp, where each

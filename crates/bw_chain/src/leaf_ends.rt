@@ -13,8 +13,8 @@ use bw_key::Key;
 use bw_page::Page;
 
 impl Chains {
-    /// Where the range of a leaf ends, if a search ends at the leaf: what `turn_at` and `end` tell, by one walk along the
-    /// links of its chain. What is sought doesn't lie before the leaf. It takes no memory.
+    /// Where the range of a leaf ends, if what is sought doesn't lie past it; a search that stands at the leaf then ends
+    /// there. That is what `turn_at` and `end` tell, by one walk along the links of its chain. It takes no memory.
     pub fn end_for(&self, head: u64, target: Target<'_>) -> Option<Option<&Key>>
         requires { IsChain self.now head }
         ensures some { is_some result ≡ ends_at target.entry (page_at self.now head) }

@@ -10,6 +10,7 @@ use Rattle.std.proofs.lemmas.Bool.{cases_lt}
 use Rattle.std.proofs.lemmas.List.{length-map, map-append}
 use Rattle.std.proofs.lemmas.List.Elements.{All-from_recursion, recursion_from_All}
 use Rattle.std.proofs.lemmas.List.Sorted.{All-permutation}
+use Rattle.std.proofs.lemmas.Option.{slice_get-get_or}
 use Rattle.bw_key.specs.Order.{KeyBytes}
 use Rattle.bw_model.specs.Contents.{is_in_range}
 use Rattle.bw_model.specs.Values.{ValueBytes}
@@ -34,7 +35,8 @@ use Rattle.bw_chain.specs.Levels.{AreLevels, IsHome, row, levels_under}
 use Rattle.bw_chain.specs.Chains.{Bases, Records, Ends, slot_of_word, slots_of}
 use Rattle.bw_tree.specs.Trees.{IsStanding}
 use Rattle.bw_chain.specs.Records.{put_records, writes_in}
-use Rattle.bw_tree.proofs.AlikeLemmas.{IsPutOver, AreInside, levels_alike, pairs_alike, put_bare}
+use Rattle.bw_chain.specs.Supports.{supports_at}
+use Rattle.bw_tree.proofs.AlikeLemmas.{IsPutOver, AreInside, levels_written, pairs_alike, put_bare}
 use Rattle.bw_chain.proofs.GrowthLemmas.{take_front}
 use Rattle.bw_chain.proofs.LevelLemmas.{levels_now}
 use Rattle.bw_tree.proofs.PlacedLemmas.{named_are, named_pass}
@@ -100,7 +102,7 @@ one_state e = cc
 no_live : {s : PageState} → Free ≡ Live s → ⊥
 no_live e = cc
 
-slot_past : (f : ℕ → Slot) (heads : List ℕ) (p : ℕ) → length heads ≤ p → slot_at (map f heads) p ≡ Free
+pub slot_past : (f : ℕ → Slot) (heads : List ℕ) (p : ℕ) → length heads ≤ p → slot_at (map f heads) p ≡ Free
 slot_past f [] p le = refl
 slot_past f (h ∷ heads) zero le = absurd (omega arith)
 slot_past f (h ∷ heads) (suc p) le = slot_past f heads p (omega arith)
@@ -146,14 +148,9 @@ module _ (heads heads' : List ℕ) (bases : Bases) (first : Records) (root next 
   new_slots = slots_of heads' bases after
 
   old_ends : (p : ℕ) → p < length heads → Ends bases first (slice_index heads p)
-  old_ends p lt = t.ends p (slice_index heads p) (there heads p lt)
-    where
-      there : (xs : List ℕ) (i : ℕ) → i < length xs → slice_get xs i ≡ Some (slice_index xs i)
-      there [] i lt = absurd (omega arith)
-      there (x ∷ xs) zero lt = refl
-      there (x ∷ xs) (suc i) lt = there xs i (omega arith)
+  old_ends p lt = t.ends p (slice_index heads p) (slice_get-get_or heads p 0 lt)
 
-  chain_is : (p : ℕ) (lt : p < length heads) → Ends bases after (slice_index heads' p) × (slot_of_word bases after (slice_index heads' p) ≡ put_over bases (named ws (chains p lt).chain) (slot_of_word bases first (slice_index heads p)))
+  chain_is : (p : ℕ) (lt : p < length heads) → Ends bases after (slice_index heads' p) × (slot_of_word bases after (slice_index heads' p) ≡ put_over bases (named ws (chains p lt).chain) (slot_of_word bases first (slice_index heads p))) × (supports_at after (slice_index heads' p) ≡ supports_at first (slice_index heads p))
   chain_is p lt = let c = chains p lt in chain_posted bases first ws links linked c.chain (slice_index heads' p) (slice_index heads p) c.way c.once (old_ends p lt)
 
   placed : (p : ℕ) → Placed bases ws old_levels p (slot_at old_slots p) (slot_at new_slots p)
@@ -182,7 +179,7 @@ module _ (heads heads' : List ℕ) (bases : Bases) (first : Records) (root next 
   over p = let o = placed p in record { writes = o.writes; is = o.is; inside = o.inside }
 
   pub lawful_after : AreLevels new_slots root old_levels
-  lawful_after = levels_alike bases old_slots new_slots over root old_levels t.lawful
+  lawful_after = levels_written bases old_slots new_slots over root old_levels t.lawful
 
   pub levels_after : levels_under new_slots root ≡ old_levels
   levels_after = levels_now new_slots root old_levels lawful_after
@@ -213,6 +210,11 @@ module _ (heads heads' : List ℕ) (bases : Bases) (first : Records) (root next 
   pub standing_after : bound ≤ 2 ^ 40 → length after ≤ 2 ^ 32 → IsStanding heads' bases after root bound
   standing_after fits few = record {
     ends = λ p word e. ends p word e;
+    own = λ p q v w b at_p at_q lt has_p has_q.
+        let x = rested p v at_p in
+        let y = rested q w at_q in
+        t.own p q (slice_index heads p) (slice_index heads q) b (slice_get-get_or heads p 0 x.0) (slice_get-get_or heads q 0 y.0) lt
+        (subst (λ (l : List ℕ). Contains l b) x.1 has_p) (subst (λ (l : List ℕ). Contains l b) y.1 has_q);
     lawful = subst (AreLevels new_slots root) (sym levels_after) lawful_after;
     distinct = subst (λ (l : List (List ℕ)). HasDistinctStamps (row_writes new_slots (row l 0))) (sym levels_after) new_distinct;
     past = subst (λ (l : List (List ℕ)). AreBelow bound (row_writes new_slots (row l 0))) (sym levels_after) new_below;
@@ -232,6 +234,12 @@ module _ (heads heads' : List ℕ) (bases : Bases) (first : Records) (root next 
           one : {v w : ℕ} → Some v ≡ Some w → v ≡ w
           one e = cc
       at (x ∷ xs) (suc i) word e = let more = at xs i word e in (omega (arith, more.0), more.1)
+
+      rested : (p word : ℕ) → slice_get heads' p ≡ Some word → (p < length heads) × (supports_at after word ≡ supports_at first (slice_index heads p))
+      rested p word e =
+          let a = at heads' p word e in
+          let lt : p < length heads = omega (arith, a.0, pages) in
+          (lt, ap (supports_at after) (sym a.1) ∙ (chain_is p lt).2)
 
       ends : (p word : ℕ) → slice_get heads' p ≡ Some word → Ends bases after word
       ends p word e = let a = at heads' p word e in subst (Ends bases after) a.1 (chain_is p (omega (arith, a.0, pages))).0

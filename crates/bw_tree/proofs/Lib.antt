@@ -18,3 +18,4 @@ pub mod AdoptedOnLemmas
 pub mod StagedLemmas
 pub mod FoldLemmas
 pub mod RoutingLemmas
+pub mod ConsolidationLemmas

@@ -21,6 +21,8 @@ use Rattle.bw_chain.specs.Levels.{AreLevels, SideBySide, Stands, StartsWith, Lea
 use Rattle.bw_tree.specs.Making.{AreAbutting, HasRules, IsOverLeaves, base_of_leaf, count_from, leaf_slot, pages_over, pairs_in, terms_from, tree_over}
 use Rattle.bw_tree.specs.View.{TreeView, contents_at}
 use Rattle.bw_chain.specs.Reading.{row_pairs, row_writes}
+use Rattle.bw_chain.specs.Supports.{OwnBases, supports_at}
+use Rattle.bw_chain.specs.Walk.{walked, ended}
 use Rattle.bw_tree.specs.Trees.{IsTree}
 use Rattle.bw_chain.proofs.LevelLemmas.{levels_now}
 use Rattle.bw_tree.proofs.MakingLemmas.{StandAt, over_slots, slot_based, from_none, there_is, counted_word, counted_length, counted_has, slot_there, leaf_there, root_there, leaf_state, leaf_row, leaf_pairs, leaf_writes, term_named, root_rules}
@@ -37,6 +39,16 @@ over_ends bases few p word e =
     let there : word < length bases = omega (arith, at.0, at.1) in
     ([], (word, record { way = (refl, no_link word); short = omega arith; within = there; limit = omega (arith, there, few); shaped = tt }))
 
+-- without records a page rests on the base page that its word names
+rests_alone : (word b : ℕ) → Contains (supports_at [] word) b → word ≡ b
+unfolding walked ended
+rests_alone word b (zero, lt, is) = is
+rests_alone word b (suc i, lt, is) = absurd (omega arith)
+
+over_own : (bases : Bases) → OwnBases (count_from 0 (length bases)) bases []
+over_own bases p q v w b at_p at_q lt has_p has_q =
+    omega (arith, (counted_word 0 (length bases) p v at_p).0, (counted_word 0 (length bases) q w at_q).0, rests_alone v b has_p, rests_alone w b has_q)
+
 none_distinct : HasDistinctStamps []
 unfolding IsDistinct
 none_distinct = tt
@@ -48,6 +60,7 @@ over_tree stamp bases levels small lawful none few =
       stage = tt;
       now = record {
         ends = over_ends bases few;
+        own = over_own bases;
         lawful = subst (AreLevels (over_slots bases) (length bases - 1)) (sym now) lawful;
         distinct = subst (λ (l : List (List ℕ)). HasDistinctStamps (row_writes (over_slots bases) (row l 0))) (sym now) (subst HasDistinctStamps (sym none) none_distinct);
         few_records = omega arith;

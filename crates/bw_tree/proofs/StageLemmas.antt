@@ -1,6 +1,7 @@
 -- Staging a batch.
 use Rattle.std.proofs.Common.{◌≡◌, ℕ, ◌+◌, ◌≤◌, ◌^◌, false, List, ◌++◌, length, map, take, drop, Option, Some, None, sym, ap, ◌∙◌, subst, arith, length-append}
 use Rattle.std.specs.FinMap.{from_entries}
+use Rattle.std.specs.List.{Contains}
 use Rattle.std.proofs.lemmas.List.{length-map}
 use Rattle.bw_model.specs.Model.{contents_after}
 use Rattle.bw_model.specs.declared.operations.Op.{Op}
@@ -19,6 +20,7 @@ use Rattle.bw_chain.specs.Records.{unlinked, writes_in}
 use Rattle.bw_tree.specs.Stages.{staged_on}
 use Rattle.bw_tree.specs.View.{TreeView, StageView, contents_at, contents_with}
 use Rattle.bw_chain.specs.Reading.{row_pairs, row_writes}
+use Rattle.bw_chain.proofs.SupportLemmas.{still_rests}
 use Rattle.bw_chain.proofs.GrowthLemmas.{Extends, append_extends, drop_front, same_map, still_ends, take_front}
 
 -- the same pages, with room for later stamps
@@ -28,6 +30,9 @@ stands_on heads bases old new root bound later t kept more le fits few = (
   same,
   record {
     ends = λ p word e. (still_ends bases old new word kept more (t.ends p word e)).0;
+    own = λ p q v w b at_p at_q lt has_p has_q. t.own p q v w b at_p at_q lt
+        (subst (λ (l : List ℕ). Contains l b) (still_rests bases old new v kept more (t.ends p v at_p)) has_p)
+        (subst (λ (l : List ℕ). Contains l b) (still_rests bases old new w kept more (t.ends q w at_q)) has_q);
     lawful = subst (λ (s : List Slot). AreLevels s root (levels_under s root)) (sym same) t.lawful;
     distinct = subst (λ (s : List Slot). HasDistinctStamps (row_writes s (row (levels_under s root) 0))) (sym same) t.distinct;
     past = subst (λ (s : List Slot). AreBelow later (row_writes s (row (levels_under s root) 0))) (sym same) (below_all bound later (row_writes (slots_of heads bases old) (row (levels_under (slots_of heads bases old) root) 0)) le t.past);

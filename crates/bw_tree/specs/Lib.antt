@@ -5,6 +5,7 @@ pub mod Words
 pub mod Replaying
 pub mod Making
 pub mod Folding
+pub mod Consolidation
 pub mod Routing
 pub use Rattle.bw_chain.specs.Walk
 pub use Rattle.bw_chain.specs.Slots

@@ -10,6 +10,7 @@ use Rattle.bw_chain.specs.Levels.{AreLevels, row, levels_under}
 use Rattle.bw_chain.specs.Chains.{AllEnd, Bases, Records, slots_of}
 use Rattle.bw_chain.specs.Records.{put_records, writes_in}
 use Rattle.bw_chain.specs.Reading.{row_writes}
+use Rattle.bw_chain.specs.Supports.{OwnBases}
 use Rattle.bw_tree.specs.View.{TreeView, StageView}
 use Rattle.bw_tree.specs.declared.words.WordsBefore.{WordsBefore}
 use Rattle.bw_tree.specs.Words.{words_before}
@@ -18,9 +19,10 @@ use Rattle.bw_tree.specs.Words.{words_before}
 abbrev pub leaf_writes : List Slot → ℕ → List WriteView
 leaf_writes slots root = row_writes slots (row (levels_under slots root) 0)
 
--- Pages that form levels, with writes whose stamps are distinct and below a bound.
+-- Pages that form levels, each on base pages of its own, with writes whose stamps are distinct and below a bound.
 pub record IsStanding (heads : List ℕ) (bases : Bases) (records : Records) (root bound : ℕ) : Type 0 where
   pub ends : AllEnd bases records heads
+  pub own : OwnBases heads bases records
   pub lawful : AreLevels (slots_of heads bases records) root (levels_under (slots_of heads bases records) root)
   pub distinct : HasDistinctStamps (leaf_writes (slots_of heads bases records) root)
   pub past : AllByRecursion (λ w. w.stamp < bound) (leaf_writes (slots_of heads bases records) root)

@@ -17,8 +17,9 @@ use std::marker::Model;
 /// Searches for the leaves of keys, one after another.
 ///
 /// Each finds the leaf that the tree's `route` does, whatever the order of the keys. Where they rise, a search goes on
-/// from the separator of the one before it, by steps each of which is twice the one before it, and then by halves. It
-/// goes down from the root where the inner page above the last leaf ends, and where a change lies over that page.
+/// from the separator of the one before it, by steps each of which is twice the one before it, and then by halves; the
+/// first one on an inner page begins at the page's first child. It goes down from the root where the inner page above
+/// the last leaf ends, and where a change lies over that page.
 #[derive(Drop)]
 pub struct Routes<'a> {
     tree: &'a Tree,
@@ -58,8 +59,8 @@ impl<'a> Routes<'a> {
     /// The one leaf of the leaf level whose range has the key.
     ///
     /// It takes about 2 log2 d key comparisons where the leaf stands d places behind the last one, about log2 n, for n
-    /// children, where it stands before that one, and a search from the root where the leaf isn't a child of the same
-    /// page; and a walk along the leaf's chain. It takes no memory.
+    /// children, where it stands before that one, and a search from the root where no page above is kept that has the key;
+    /// and a walk along the leaf's chain. It takes no memory.
     pub fn route(&mut self, key: &Key) -> PageId
         ensures tree { self.new.tree ≡ self.old.tree }
         ensures home { IsHome self.old.tree.slots self.old.tree.levels key.now result }

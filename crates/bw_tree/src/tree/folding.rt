@@ -64,7 +64,7 @@ impl Tree {
     }
 
     // A leaf's range with what the leaf holds as of the next stamp, and this right neighbour.
-    fn folded_leaf(&self, page: PageId, side: Option<PageId>) -> Result<Leaf, Memory>
+    pub(super) fn folded_leaf(&self, page: PageId, side: Option<PageId>) -> Result<Leaf, Memory>
         requires leaf { Contains (row self.now.levels 0) page }
         requires linked { is_some side ≡ is_some (side_of self.now.slots page) }
         ensures { IfOk result (λ leaf. leaf ≡ folded_leaf self.now page side) }

@@ -1,0 +1,138 @@
+-- One base page takes the place of another.
+use Rattle.std.proofs.Common.{inl, inr, ◌⊎◌, set, ◌≡◌, ℕ, zero, suc, ◌<◌, ◌^◌, List, [], ◌∷◌, length, Some, None, refl, sym, ap, ◌∙◌, subst, arith}
+use Rattle.std.proofs.lemmas.Bool.{cases_eq}
+use Rattle.std.specs.List.{Contains}
+use Rattle.std.specs.Prelude.{slice_get}
+use Rattle.bw_page.specs.declared.pages.Page.{Page}
+use Rattle.bw_delta.specs.declared.deltas.Delta.{Delta}
+use Rattle.bw_delta.specs.declared.deltas.Delta.TheVariants.{Put, Split, Absorb, Removed, AddChild, DropChild}
+use Rattle.bw_chain.specs.Chains.{AllEnd, Bases, Records, Ends, EndsAt, IsShaped, based, deltas_at, link_of, plain, slot_of_word}
+use Rattle.bw_chain.specs.Supports.{OwnBases, base_under, supports_at, supports_of}
+use Rattle.bw_chain.specs.Walk.{Leads}
+use Rattle.bw_chain.proofs.ChainLemmas.{no_link, no_record, on_base}
+use Rattle.bw_chain.proofs.SupportLemmas.{base_within, page_kept, supports_of_way}
+use Rattle.bw_chain.proofs.WalkLemmas.{ended_is}
+
+pub get_set_same : {X : Type 0} (xs : List X) (i : ℕ) (x : X) → i < length xs → slice_get (set xs i x) i ≡ Some x
+get_set_same [] i x lt = absurd (omega arith)
+get_set_same (y ∷ xs) zero x lt = refl
+get_set_same (y ∷ xs) (suc i) x lt = get_set_same xs i x (omega arith)
+
+pub get_set_other : {X : Type 0} (xs : List X) (i j : ℕ) (x : X) → (j ≡ i → ⊥) → slice_get (set xs i x) j ≡ slice_get xs j
+get_set_other [] i j x other = refl
+get_set_other (y ∷ xs) zero zero x other = absurd (other refl)
+get_set_other (y ∷ xs) zero (suc j) x other = refl
+get_set_other (y ∷ xs) (suc i) zero x other = refl
+get_set_other (y ∷ xs) (suc i) (suc j) x other = get_set_other xs i j x (λ e. other (ap suc e))
+
+set_length : {X : Type 0} (xs : List X) (i : ℕ) (x : X) → length (set xs i x) ≡ length xs
+set_length [] i x = refl
+set_length (y ∷ xs) zero x = refl
+set_length (y ∷ xs) (suc i) x = ap suc (set_length xs i x)
+
+-- a number of a base page is below those of records
+base_low : (bases : Bases) (records : Records) (word : ℕ) → Ends bases records word → base_under records word < 2 ^ 32
+base_low bases records word ends = by ends.0 ends.1.0 ends.1.1
+  where
+    by : (ws : List ℕ) (e : ℕ) → EndsAt bases records word ws e → base_under records word < 2 ^ 32
+    by ws e h = subst (λ n. n < 2 ^ 32) (sym (ended_is (link_of records) (length records) word ws e h.way h.short)) h.limit
+
+-- a page rests on the base page under its chain
+rests_on_base : (ds : List Delta) (e : ℕ) → IsShaped ds → Contains (supports_of ds e) e
+rests_on_base [] e shaped = (0, omega arith, refl)
+rests_on_base (Put w ∷ ds) e shaped = rests_on_base ds e shaped
+rests_on_base (Split k to ∷ ds) e shaped = subst (λ (l : List Delta). Contains (supports_of l e) e) (sym shaped) (0, omega arith, refl)
+rests_on_base (Absorb k base high side ∷ ds) e shaped = absurd shaped
+rests_on_base (Removed left ∷ ds) e shaped = absurd shaped
+rests_on_base (AddChild k child ∷ ds) e shaped = absurd shaped
+rests_on_base (DropChild k ∷ ds) e shaped = absurd shaped
+
+rests : (bases : Bases) (records : Records) (word : ℕ) → Ends bases records word → Contains (supports_at records word) (base_under records word)
+rests bases records word ends = by ends.0 ends.1.0 ends.1.1
+  where
+    by : (ws : List ℕ) (e : ℕ) → EndsAt bases records word ws e → Contains (supports_at records word) (base_under records word)
+    by ws e h =
+        subst (λ (l : List ℕ). Contains l (base_under records word)) (sym (supports_of_way records word ws e h.way h.short))
+        (subst (Contains (supports_of (deltas_at records ws) e)) (sym (ended_is (link_of records) (length records) word ws e h.way h.short)) (rests_on_base (deltas_at records ws) e h.shaped))
+
+module _ (heads : List ℕ) (bases : Bases) (records : Records) (ends : AllEnd bases records heads) (own : OwnBases heads bases records) (p word : ℕ) (at : slice_get heads p ≡ Some word) (page : Page) where
+  abbrev pub number : ℕ
+  number = base_under records word
+
+  abbrev pub heads_after : List ℕ
+  heads_after = set heads p number
+
+  abbrev pub bases_after : Bases
+  bases_after = set bases number (Some page)
+
+  within : number < length bases
+  within = base_within bases records word (ends p word at)
+
+  pub low : number < 2 ^ 32
+  low = base_low bases records word (ends p word at)
+
+  alone : Leads (link_of records) number [] number
+  alone = (refl, sym (no_link records number low))
+
+  ends_alone : Ends bases_after records number
+  ends_alone = ([], (number, record { way = alone; short = omega arith; within = omega (arith, within, set_length bases number (Some page)); limit = low; shaped = tt }))
+
+  -- the page stands alone where the chain was
+  pub put_there : slot_of_word bases_after records number ≡ plain page
+  put_there = on_base bases_after records number ends_alone (no_record records number low) ∙ ap based (get_set_same bases number (Some page) within)
+
+  -- and the other pages are as they were
+  pub others_kept : (q w : ℕ) → slice_get heads q ≡ Some w → (q ≡ p → ⊥) → slot_of_word bases_after records w ≡ slot_of_word bases records w
+  others_kept q w at_q other = page_kept bases bases_after records w (λ b has.
+      get_set_other bases number b (Some page) (λ same.
+      other (own q p w word number at_q at within (subst (Contains (supports_at records w)) same has) (rests bases records word (ends p word at)))))
+
+  is_there : (q w : ℕ) → slice_get heads_after q ≡ Some w → ((q ≡ p) × (w ≡ number)) ⊎ ((q ≡ p → ⊥) × (slice_get heads q ≡ Some w))
+  is_there q w at_q = by (cases_eq q p)
+    where
+      one : {x y : ℕ} → Some x ≡ Some y → x ≡ y
+      one e = cc
+
+      by : (q ≡ p) ⊎ (q ≡ p → ⊥) → ((q ≡ p) × (w ≡ number)) ⊎ ((q ≡ p → ⊥) × (slice_get heads q ≡ Some w))
+      by (inl same) = inl (same, one (sym at_q ∙ ap (slice_get heads_after) same ∙ get_set_same heads p number (inside heads p at)))
+        where
+          none : None ≡ Some word → ⊥
+          none e = cc
+
+          inside : (xs : List ℕ) (i : ℕ) → slice_get xs i ≡ Some word → i < length xs
+          inside [] i e = absurd (none e)
+          inside (x ∷ xs) zero e = omega arith
+          inside (x ∷ xs) (suc i) e = let more = inside xs i e in omega arith
+      by (inr other) = inr (other, sym (get_set_other heads p q number other) ∙ at_q)
+
+  pub all_end : AllEnd bases_after records heads_after
+  all_end q w at_q = by (is_there q w at_q)
+    where
+      within_still : (v : ℕ) → Ends bases records v → Ends bases_after records v
+      within_still v h =
+          let e = h.1.1 in
+          (h.0, (h.1.0, record { way = e.way; short = e.short; within = omega (arith, e.within, set_length bases number (Some page)); limit = e.limit; shaped = e.shaped }))
+
+      by : ((q ≡ p) × (w ≡ number)) ⊎ ((q ≡ p → ⊥) × (slice_get heads q ≡ Some w)) → Ends bases_after records w
+      by (inl here) = subst (Ends bases_after records) (sym here.1) ends_alone
+      by (inr there) = within_still w (ends q w there.1)
+
+  -- each page rests on what it rested on, or on less
+  rested : (q w b : ℕ) → slice_get heads_after q ≡ Some w → Contains (supports_at records w) b → (v : ℕ) × (slice_get heads q ≡ Some v) × Contains (supports_at records v) b
+  rested q w b at_q has = by (is_there q w at_q)
+    where
+      only : {n : ℕ} → Contains (n ∷ []) b → n ≡ b
+      only (zero, lt, is) = is
+      only (suc i, lt, is) = absurd (omega arith)
+
+      by : ((q ≡ p) × (w ≡ number)) ⊎ ((q ≡ p → ⊥) × (slice_get heads q ≡ Some w)) → (v : ℕ) × (slice_get heads q ≡ Some v) × Contains (supports_at records v) b
+      by (inl here) =
+          let same : number ≡ b = only (subst (λ (l : List ℕ). Contains l b) (supports_of_way records number [] number alone (omega arith)) (subst (λ v. Contains (supports_at records v) b) here.1 has)) in
+          (word, ap (slice_get heads) here.0 ∙ at, subst (Contains (supports_at records word)) same (rests bases records word (ends p word at)))
+      by (inr there) = (w, there.1, has)
+
+  pub own_after : OwnBases heads_after bases_after records
+  own_after q r v w b at_q at_r lt has_q has_r =
+      let x = rested q v b at_q has_q in
+      let y = rested r w b at_r has_r in
+      own q r x.0 y.0 b x.1 y.1 (omega (arith, lt, set_length bases number (Some page))) x.2 y.2

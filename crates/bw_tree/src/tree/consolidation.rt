@@ -1,0 +1,42 @@
+// Consolidation of one leaf in its place.
+ghost use Rattle.std.specs.Prelude.{◌≡◌, None, OnOk, OnErr};
+ghost use Rattle.std.specs.List.{Contains};
+
+use super::Tree;
+use bw_key::Memory;
+use bw_page::{Leaf, Page, PageId};
+
+impl Tree {
+    ghost use Rattle.bw_chain.specs.Levels.{row};
+    ghost use Rattle.bw_chain.specs.Slots.{side_of};
+    ghost use Rattle.bw_tree.specs.Consolidation.{IsConsolidated};
+    ghost use Rattle.bw_tree.specs.Folding.{folded_leaf};
+
+    /// Consolidates a leaf: what its writes make of its base page, as of the next stamp, takes the place of that page (ICDE
+    /// 2013). No batch is staged.
+    ///
+    /// The records of its chain stay among the others, and no word leads to them any more. It sorts the writes of this one
+    /// leaf and copies its pairs. After `Memory` the tree is as before.
+    pub fn consolidate(&mut self, page: PageId) -> Result<(), Memory>
+        requires none { self.old.staged ≡ None }
+        requires leaf { Contains (row self.old.levels 0) page }
+        ensures ok { OnOk result (IsConsolidated self.old self.new page) }
+        ensures err { OnErr result (self.new ≡ self.old) }
+    {
+        let (_, side) = self.chains.end(self.heads[page.0 as usize]);
+        let leaf = self.folded_leaf(page, side)?;
+        self.put_leaf(page, leaf);
+        Ok(())
+    }
+
+    // Puts a consolidated leaf in the place of its chain.
+    fn put_leaf(&mut self, page: PageId, leaf: Leaf)
+        requires none { self.old.staged ≡ None }
+        requires leaf { Contains (row self.old.levels 0) page }
+        requires folded { leaf ≡ folded_leaf self.old page (side_of self.old.slots page) }
+        ensures { IsConsolidated self.old self.new page }
+    {
+        let head = self.heads[page.0 as usize];
+        self.heads[page.0 as usize] = self.chains.replace_base(head, Page::Leaf(leaf));
+    }
+}
