@@ -90,8 +90,8 @@ fn consolidate<R: Abort>(
     bytes: &[u8],
 ) -> Result<PageId, Memory>
     requires { tree.old.staged ≡ None }
-    ensures { tree.new.staged ≡ None }
-    ensures { tree.new.next ≡ tree.old.next }
+    ensures staged { tree.new.staged ≡ None }
+    ensures next { tree.new.next ≡ tree.old.next }
 {
     let page = tree.route(&key(alloc, bytes).expect(rt, "memory"));
     tree.consolidate(page)?;
