@@ -47,7 +47,7 @@ rests_on_base (Removed left ∷ ds) e shaped = absurd shaped
 rests_on_base (AddChild k child ∷ ds) e shaped = absurd shaped
 rests_on_base (DropChild k ∷ ds) e shaped = absurd shaped
 
-rests : (bases : Bases) (records : Records) (word : ℕ) → Ends bases records word → Contains (supports_at records word) (base_under records word)
+pub rests : (bases : Bases) (records : Records) (word : ℕ) → Ends bases records word → Contains (supports_at records word) (base_under records word)
 rests bases records word ends = by ends.0 ends.1.0 ends.1.1
   where
     by : (ws : List ℕ) (e : ℕ) → EndsAt bases records word ws e → Contains (supports_at records word) (base_under records word)

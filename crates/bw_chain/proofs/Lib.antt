@@ -22,3 +22,6 @@ pub mod StepLemmas
 pub mod SupportLemmas
 pub mod AlikeLemmas
 pub mod BaseLemmas
+pub mod AdditionLemmas
+pub mod CutLemmas
+pub mod SplitLemmas

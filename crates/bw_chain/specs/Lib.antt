@@ -14,3 +14,4 @@ pub mod LeafEnds
 pub mod Supports
 pub mod Steps
 pub mod Laws
+pub mod Splits

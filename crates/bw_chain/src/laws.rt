@@ -1,5 +1,5 @@
 // What holds of the definitions.
-ghost use Rattle.bw_chain.specs.Laws.{ContentsAreKept, HomeIsOne, HomeIsThere, LevelsAreFound, LevelsAreAlike, LevelsAreKept, PageIsKept, WayIsOne};
+ghost use Rattle.bw_chain.specs.Laws.{ContentsAreKept, HomeIsOne, HomeIsThere, LevelsAreFound, LevelsAreAlike, LevelsAreKept, PageIsKept, PartsAreKept, WayIsOne};
 
 /// The law that each walk along links, side links or left links rests on: from a place there is one way only, and one
 /// place where it ends. It does nothing: its contract is the law.
@@ -47,4 +47,10 @@ pub fn levels_are_alike()
 /// key has one value at its homes in both. It does nothing: its contract is the law.
 pub fn contents_are_kept()
     ensures { ContentsAreKept }
+{}
+
+/// The law of a split: where a page of some level parts in two, the levels are lawful with the new page behind it, and hold
+/// what they held. It does nothing: its contract is the law.
+pub fn parts_are_kept()
+    ensures { PartsAreKept }
 {}

@@ -1,0 +1,278 @@
+-- Base pages and records that are added leave each page as it is.
+use Rattle.std.proofs.Common.{inl, inr, ◌⊎◌, set, ◌≡◌, ℕ, zero, suc, ◌+◌, ◌-◌, ◌<◌, ◌≤◌, ◌^◌, false, cond, List, [], ◌∷◌, ◌++◌, length, map, Option, Some, None, ltb, refl, sym, ap, ◌∙◌, subst, arith, length-append}
+use Rattle.std.proofs.lemmas.Bool.{cases_eq}
+use Rattle.std.proofs.lemmas.Bool.Decides.{nat_tests}
+use Rattle.std.specs.List.{Contains}
+use Rattle.std.specs.Prelude.{slice_get}
+use Rattle.bw_page.specs.declared.pages.Page.{Page}
+use Rattle.bw_delta.specs.declared.deltas.Delta.{Delta}
+use Rattle.bw_delta.specs.declared.deltas.Delta.TheVariants.{Put, Split, Absorb, Removed, AddChild, DropChild}
+use Rattle.bw_chain.specs.Slots.{Slot, Free, slot_at}
+use Rattle.bw_chain.specs.Chains.{AllEnd, Bases, Records, Ends, EndsAt, IsShaped, based, change, changed, delta_in, deltas_at, link_of, linked_word, plain, record_at, slot_of_word, slots_of}
+use Rattle.bw_chain.specs.Supports.{OwnBases, base_under, supports_at, supports_of}
+use Rattle.bw_chain.specs.Walk.{Leads}
+use Rattle.bw_chain.proofs.BaseLemmas.{get_set_other, get_set_same, rests}
+use Rattle.bw_chain.proofs.ChainLemmas.{no_link, no_record, on_base, slot_of_way}
+use Rattle.bw_chain.proofs.GrowthLemmas.{Extends, append_extends, still_ends}
+use Rattle.bw_chain.proofs.SupportLemmas.{base_within, page_kept, still_rests, supports_of_way}
+use Rattle.bw_chain.proofs.WalkLemmas.{ended_is}
+
+one : {X : Type 0} {x y : X} → Some x ≡ Some y → x ≡ y
+one e = cc
+
+none : {X : Type 0} {x : X} → None ≡ Some x → ⊥
+none e = cc
+
+only : {n b : ℕ} → Contains (n ∷ []) b → n ≡ b
+only (zero, lt, is) = is
+only (suc i, lt, is) = absurd (omega arith)
+
+-- what was there is where it was once more follows
+get_front : {X : Type 0} (xs ys : List X) (i : ℕ) → i < length xs → slice_get (xs ++ ys) i ≡ slice_get xs i
+get_front [] ys i lt = absurd (omega arith)
+get_front (x ∷ xs) ys zero lt = refl
+get_front (x ∷ xs) ys (suc i) lt = get_front xs ys i (omega arith)
+
+get_last : {X : Type 0} (xs : List X) (x : X) → slice_get (xs ++ x ∷ []) (length xs) ≡ Some x
+get_last [] x = refl
+get_last (y ∷ xs) x = get_last xs x
+
+-- an entry of a list with one more is one of the list, or that one
+from_front : {X : Type 0} (xs : List X) (x y : X) (i : ℕ) → slice_get (xs ++ x ∷ []) i ≡ Some y → (slice_get xs i ≡ Some y) ⊎ ((i ≡ length xs) × (y ≡ x))
+from_front [] x y zero e = inr (refl, sym (one e))
+from_front [] x y (suc i) e = absurd (none e)
+from_front (z ∷ xs) x y zero e = inl e
+from_front (z ∷ xs) x y (suc i) e = by (from_front xs x y i e)
+  where
+    by : (slice_get xs i ≡ Some y) ⊎ ((i ≡ length xs) × (y ≡ x)) → (slice_get xs i ≡ Some y) ⊎ ((suc i ≡ suc (length xs)) × (y ≡ x))
+    by (inl there) = inl there
+    by (inr last) = inr (ap suc last.0, last.1)
+
+not_last : {X : Type 0} (xs : List X) (x : X) (i : ℕ) → (i ≡ length xs → ⊥) → slice_get (xs ++ x ∷ []) i ≡ slice_get xs i
+not_last [] x zero other = absurd (other refl)
+not_last [] x (suc i) other = refl
+not_last (y ∷ xs) x zero other = refl
+not_last (y ∷ xs) x (suc i) other = not_last xs x i (λ e. other (ap suc e))
+
+inside : {X : Type 0} (xs : List X) (i : ℕ) (x : X) → slice_get xs i ≡ Some x → i < length xs
+inside [] i x e = absurd (none e)
+inside (y ∷ xs) zero x e = omega arith
+inside (y ∷ xs) (suc i) x e = let more = inside xs i x e in omega arith
+
+-- the page of an entry of a mapping table
+abbrev slot_of_entry : (ℕ → Slot) → Option ℕ → Slot
+slot_of_entry f None = Free
+slot_of_entry f (Some w) = f w
+
+slot_is : (f : ℕ → Slot) (heads : List ℕ) (p : ℕ) → slot_at (map f heads) p ≡ slot_of_entry f (slice_get heads p)
+slot_is f [] p = refl
+slot_is f (h ∷ heads) zero = refl
+slot_is f (h ∷ heads) (suc p) = slot_is f heads p
+
+same_slot : (f g : ℕ → Slot) (heads heads' : List ℕ) (q : ℕ) → slice_get heads' q ≡ slice_get heads q → ((w : ℕ) → slice_get heads q ≡ Some w → g w ≡ f w) → slot_at (map g heads') q ≡ slot_at (map f heads) q
+same_slot f g heads heads' q same agree = slot_is g heads' q ∙ ap (slot_of_entry g) same ∙ by (slice_get heads q) refl ∙ sym (slot_is f heads q)
+  where
+    by : (o : Option ℕ) → slice_get heads q ≡ o → slot_of_entry g (slice_get heads q) ≡ slot_of_entry f (slice_get heads q)
+    by None e = ap (slot_of_entry g) e ∙ sym (ap (slot_of_entry f) e)
+    by (Some w) e = ap (slot_of_entry g) e ∙ agree w e ∙ sym (ap (slot_of_entry f) e)
+
+slot_here : (f : ℕ → Slot) (heads : List ℕ) (p w : ℕ) → slice_get heads p ≡ Some w → slot_at (map f heads) p ≡ f w
+slot_here f heads p w at = slot_is f heads p ∙ ap (slot_of_entry f) at
+
+-- a page rests on its base page alone
+only_base : (ds : List Delta) (e b : ℕ) → IsShaped ds → Contains (supports_of ds e) b → b ≡ e
+only_base [] e b shaped has = sym (only has)
+only_base (Put w ∷ ds) e b shaped has = only_base ds e b shaped has
+only_base (Split k to ∷ ds) e b shaped has = sym (only (subst (λ (l : List Delta). Contains (supports_of l e) b) shaped has))
+only_base (Absorb k base high side ∷ ds) e b shaped has = absurd shaped
+only_base (Removed left ∷ ds) e b shaped has = absurd shaped
+only_base (AddChild k child ∷ ds) e b shaped has = absurd shaped
+only_base (DropChild k ∷ ds) e b shaped has = absurd shaped
+
+rests_within : (bases : Bases) (records : Records) (word b : ℕ) → Ends bases records word → Contains (supports_at records word) b → b < length bases
+rests_within bases records word b ends has = by ends.0 ends.1.0 ends.1.1
+  where
+    by : (ws : List ℕ) (e : ℕ) → EndsAt bases records word ws e → b < length bases
+    by ws e h =
+        let same = only_base (deltas_at records ws) e b h.shaped (subst (λ (l : List ℕ). Contains l b) (supports_of_way records word ws e h.way h.short) has) in
+        omega (arith, same, h.within)
+
+-- base pages are where they were, and there may be more
+pub record AreLonger (old new : Bases) : Type 0 where
+  pub longer : length old ≤ length new
+  pub same : (b : ℕ) → b < length old → slice_get new b ≡ slice_get old b
+
+-- the page of a word is the same over other base pages and records
+pub record IsKept (old new : Bases) (records more : Records) (word : ℕ) : Type 0 where
+  pub ends : Ends new more word
+  pub state : slot_of_word new more word ≡ slot_of_word old records word
+  pub supports : supports_at more word ≡ supports_at records word
+
+pub kept_on : (old new : Bases) (records more : Records) → AreLonger old new → Extends records more → length records ≤ length more → (word : ℕ) → Ends old records word → IsKept old new records more word
+kept_on old new records more bases extends longer word ends =
+    let still = still_ends old records more word extends longer ends in
+    record {
+      ends = widened still.0;
+      state = page_kept old new more word (λ b has. bases.same b (rests_within old more word b still.0 has)) ∙ still.1;
+      supports = still_rests old records more word extends longer ends;
+    }
+  where
+    widened : Ends old more word → Ends new more word
+    widened h =
+        let e = h.1.1 in
+        (h.0, (h.1.0, record { way = e.way; short = e.short; within = omega (arith, e.within, bases.longer); limit = e.limit; shaped = e.shaped }))
+
+all_longer : (bases : Bases) → AreLonger bases bases
+all_longer bases = record { longer = omega arith; same = λ b lt. refl }
+
+-- a page rested on a base page
+record Rested (heads : List ℕ) (bases : Bases) (records : Records) (q b : ℕ) : Type 0 where
+  word : ℕ
+  at : slice_get heads q ≡ Some word
+  within : b < length bases
+  has : Contains (supports_at records word) b
+
+one_rested : (heads : List ℕ) (bases : Bases) (records : Records) → OwnBases heads bases records → (q r b : ℕ) → Rested heads bases records q b → Rested heads bases records r b → q ≡ r
+one_rested heads bases records own q r b x y = own q r x.word y.word b x.at y.at x.within x.has y.has
+
+-- a record is put over a page that had none
+module _ (heads : List ℕ) (bases : Bases) (records : Records) (ends : AllEnd bases records heads) (own : OwnBases heads bases records) (p e : ℕ) (at : slice_get heads p ≡ Some e) (low : e < 2 ^ 32) (d : Delta) (shaped : IsShaped (d ∷ [])) where
+  abbrev pub records_with : Records
+  records_with = records ++ (d, e) ∷ []
+
+  abbrev pub new_word : ℕ
+  new_word = 2 ^ 32 + length records
+
+  abbrev pub heads_with : List ℕ
+  heads_with = set heads p new_word
+
+  more : length records_with ≡ length records + 1
+  more = length-append records ((d, e) ∷ [])
+
+  is_record : record_at records_with new_word ≡ Some (d, e)
+  is_record =
+      let test : ltb new_word 4294967296 ≡ false = grind (arith, nat_tests) in
+      ap (λ b. cond b None (slice_get records_with (new_word - 4294967296))) test
+      ∙ ap (slice_get records_with) place
+      ∙ get_last records (d, e)
+    where
+      place : new_word - 4294967296 ≡ length records
+      place = omega arith
+
+  way : Leads (link_of records_with) new_word (new_word ∷ []) e
+  way = (refl, (e, ap linked_word is_record, (refl, sym (no_link records_with e low))))
+
+  listed : deltas_at records_with (new_word ∷ []) ≡ d ∷ []
+  listed = ap (λ o. delta_in o []) is_record
+
+  base_is : base_under records e ≡ e
+  base_is = ended_is (link_of records) (length records) e [] e (refl, sym (no_link records e low)) (omega arith)
+
+  within : e < length bases
+  within = subst (λ n. n < length bases) base_is (base_within bases records e (ends p e at))
+
+  ends_here : Ends bases records_with new_word
+  ends_here = (new_word ∷ [], (e, record { way = way; short = omega (arith, more); within = within; limit = low; shaped = subst IsShaped (sym listed) shaped }))
+
+  kept_there : (q w : ℕ) → slice_get heads q ≡ Some w → IsKept bases bases records records_with w
+  kept_there q w at_q = kept_on bases bases records records_with (all_longer bases) (append_extends records ((d, e) ∷ [])) (omega (arith, more)) w (ends q w at_q)
+
+  get_here : slice_get heads_with p ≡ Some new_word
+  get_here = get_set_same heads p new_word (inside heads p e at)
+
+  is_there : (q w : ℕ) → slice_get heads_with q ≡ Some w → ((q ≡ p) × (w ≡ new_word)) ⊎ ((q ≡ p → ⊥) × (slice_get heads q ≡ Some w))
+  is_there q w at_q = by (cases_eq q p)
+    where
+      by : (q ≡ p) ⊎ (q ≡ p → ⊥) → ((q ≡ p) × (w ≡ new_word)) ⊎ ((q ≡ p → ⊥) × (slice_get heads q ≡ Some w))
+      by (inl same) = inl (same, one (sym at_q ∙ ap (slice_get heads_with) same ∙ get_here))
+      by (inr other) = inr (other, sym (get_set_other heads p q new_word other) ∙ at_q)
+
+  pub record_all_end : AllEnd bases records_with heads_with
+  record_all_end q w at_q = by (is_there q w at_q)
+    where
+      by : ((q ≡ p) × (w ≡ new_word)) ⊎ ((q ≡ p → ⊥) × (slice_get heads q ≡ Some w)) → Ends bases records_with w
+      by (inl here) = subst (Ends bases records_with) (sym here.1) ends_here
+      by (inr there) = (kept_there q w there.1).ends
+
+  -- each page rests on what it rested on
+  rested : (q w b : ℕ) → slice_get heads_with q ≡ Some w → b < length bases → Contains (supports_at records_with w) b → Rested heads bases records q b
+  rested q w b at_q lt has = by (is_there q w at_q)
+    where
+      by : ((q ≡ p) × (w ≡ new_word)) ⊎ ((q ≡ p → ⊥) × (slice_get heads q ≡ Some w)) → Rested heads bases records q b
+      by (inl here) =
+          let on = subst (λ v. Contains (supports_at records_with v) b) here.1 has in
+          let base : b ≡ e = only_base (d ∷ []) e b shaped (subst (λ (l : List ℕ). Contains l b) (supports_of_way records_with new_word (new_word ∷ []) e way (omega (arith, more)) ∙ ap (λ (l : List Delta). supports_of l e) listed) on) in
+          record { word = e; at = ap (slice_get heads) here.0 ∙ at; within = lt; has = subst (Contains (supports_at records e)) (base_is ∙ sym base) (rests bases records e (ends p e at)) }
+      by (inr there) = record { word = w; at = there.1; within = lt; has = subst (λ (l : List ℕ). Contains l b) (kept_there q w there.1).supports has }
+
+  pub record_own : OwnBases heads_with bases records_with
+  record_own q r v w b at_q at_r lt has_q has_r = one_rested heads bases records own q r b (rested q v b at_q lt has_q) (rested r w b at_r lt has_r)
+
+  pub record_here : slot_at (slots_of heads_with bases records_with) p ≡ change bases d (slot_at (slots_of heads bases records) p)
+  record_here =
+      slot_here (slot_of_word bases records_with) heads_with p new_word get_here
+      ∙ slot_of_way bases records_with new_word (new_word ∷ []) e way (omega (arith, more))
+      ∙ ap (λ (l : List Delta). changed bases l (based (slice_get bases e))) listed
+      ∙ sym (ap (change bases d) (slot_here (slot_of_word bases records) heads p e at ∙ on_base bases records e (ends p e at) (no_record records e low)))
+
+  pub record_others : (q : ℕ) → (q ≡ p → ⊥) → slot_at (slots_of heads_with bases records_with) q ≡ slot_at (slots_of heads bases records) q
+  record_others q other = same_slot (slot_of_word bases records) (slot_of_word bases records_with) heads heads_with q (get_set_other heads p q new_word other) (λ w at_q. (kept_there q w at_q).state)
+
+-- a page is added, with a base page of its own
+module _ (heads : List ℕ) (bases : Bases) (records : Records) (ends : AllEnd bases records heads) (own : OwnBases heads bases records) (few : length bases < 2 ^ 32) (page : Page) where
+  abbrev pub bases_with : Bases
+  bases_with = bases ++ Some page ∷ []
+
+  abbrev pub heads_longer : List ℕ
+  heads_longer = heads ++ length bases ∷ []
+
+  abbrev number : ℕ
+  number = length bases
+
+  more_bases : length bases_with ≡ length bases + 1
+  more_bases = length-append bases (Some page ∷ [])
+
+  longer_bases : AreLonger bases bases_with
+  longer_bases = record { longer = omega (arith, more_bases); same = λ b lt. get_front bases (Some page ∷ []) b lt }
+
+  alone : Leads (link_of records) number [] number
+  alone = (refl, sym (no_link records number few))
+
+  ends_alone : Ends bases_with records number
+  ends_alone = ([], (number, record { way = alone; short = omega arith; within = omega (arith, more_bases); limit = few; shaped = tt }))
+
+  kept_before : (q w : ℕ) → slice_get heads q ≡ Some w → IsKept bases bases_with records records w
+  kept_before q w at_q = kept_on bases bases_with records records longer_bases (λ v r e. e) (omega arith) w (ends q w at_q)
+
+  pub page_all_end : AllEnd bases_with records heads_longer
+  page_all_end q w at_q = by (from_front heads number w q at_q)
+    where
+      by : (slice_get heads q ≡ Some w) ⊎ ((q ≡ length heads) × (w ≡ number)) → Ends bases_with records w
+      by (inl there) = (kept_before q w there).ends
+      by (inr last) = subst (Ends bases_with records) (sym last.1) ends_alone
+
+  -- a page rests on the new base page, which is the new page, or on what it rested on
+  rests_where : (q w b : ℕ) → slice_get heads_longer q ≡ Some w → Contains (supports_at records w) b → Rested heads bases records q b ⊎ ((q ≡ length heads) × (b ≡ number))
+  rests_where q w b at_q has = by (from_front heads number w q at_q)
+    where
+      by : (slice_get heads q ≡ Some w) ⊎ ((q ≡ length heads) × (w ≡ number)) → Rested heads bases records q b ⊎ ((q ≡ length heads) × (b ≡ number))
+      by (inl there) = inl (record { word = w; at = there; within = rests_within bases records w b (ends q w there) has; has = has })
+      by (inr last) = inr (last.0, sym (only (subst (λ (l : List ℕ). Contains l b) (supports_of_way records number [] number alone (omega arith)) (subst (λ v. Contains (supports_at records v) b) last.1 has))))
+
+  pub page_own : OwnBases heads_longer bases_with records
+  page_own q r v w b at_q at_r lt has_q has_r = by (rests_where q v b at_q has_q) (rests_where r w b at_r has_r)
+    where
+      by : Rested heads bases records q b ⊎ ((q ≡ length heads) × (b ≡ number)) → Rested heads bases records r b ⊎ ((r ≡ length heads) × (b ≡ number)) → q ≡ r
+      by (inl x) (inl y) = one_rested heads bases records own q r b x y
+      by (inl x) (inr y) = absurd (omega (arith, x.within, y.1))
+      by (inr x) (inl y) = absurd (omega (arith, y.within, x.1))
+      by (inr x) (inr y) = x.0 ∙ sym y.0
+
+  pub page_there : slot_at (slots_of heads_longer bases_with records) (length heads) ≡ plain page
+  page_there =
+      slot_here (slot_of_word bases_with records) heads_longer (length heads) number (get_last heads number)
+      ∙ on_base bases_with records number ends_alone (no_record records number few)
+      ∙ ap based (get_last bases (Some page))
+
+  pub page_others : (q : ℕ) → (q ≡ length heads → ⊥) → slot_at (slots_of heads_longer bases_with records) q ≡ slot_at (slots_of heads bases records) q
+  page_others q other = same_slot (slot_of_word bases records) (slot_of_word bases_with records) heads heads_longer q (not_last heads number q other) (λ w at_q. (kept_before q w at_q).state)
