@@ -2,7 +2,9 @@
 use Rattle.std.specs.Prelude.{◌≡◌, ℕ, ◌<◌, if◌then◌else◌, nat_eq, List, [], ◌∷◌, Some, length, take, drop, slice_set}
 use Rattle.bw_key.specs.Order.{KeyBytes}
 use Rattle.bw_page.specs.Pages.{first_key}
-use Rattle.bw_chain.specs.Slots.{Slot, PageState, Body, Pairs, Children, Free, Live, slot_at}
+use Rattle.bw_page.specs.declared.pages.Page.{Page}
+use Rattle.bw_chain.specs.Chains.{plain}
+use Rattle.bw_chain.specs.Slots.{Slot, PageState, Body, Pairs, Children, Free, Gone, Live, slot_at}
 use Rattle.bw_chain.specs.Levels.{row}
 use Rattle.bw_chain.specs.Reading.{body_writes}
 
@@ -62,3 +64,23 @@ put_behind p q (x ∷ xs) = let rest = put_behind p q xs in x ∷ (if nat_eq x p
 -- the same of a level
 abbrev pub level_parted : List (List ℕ) → ℕ → ℕ → ℕ → List (List ℕ)
 level_parted levels level p q = slice_set levels level (put_behind p q (row levels level))
+
+-- how many entries a page has; the key at which those from a place on begin; and the page that has them
+abbrev pub slot_entries : Slot → ℕ
+slot_entries (Live s) = entry_count s.body
+slot_entries (Gone l) = 0
+slot_entries Free = 0
+
+abbrev pub slot_separator : ℕ → Slot → KeyBytes
+slot_separator keep (Live s) = separator keep s.body
+slot_separator keep (Gone l) = []
+slot_separator keep Free = []
+
+abbrev pub slot_right : ℕ → Slot → Slot
+slot_right keep (Live s) = Live (right_part keep s)
+slot_right keep (Gone l) = Gone l
+slot_right keep Free = Free
+
+-- a key with a base page that begins there: the upper half of a page
+abbrev pub IsUpperHalf : Slot → ℕ → KeyBytes × Page → Type 0
+IsUpperHalf slot keep half = (half.0 ≡ slot_separator keep slot) × (plain half.1 ≡ slot_right keep slot)

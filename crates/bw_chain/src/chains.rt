@@ -22,7 +22,7 @@ pub const FLOOR: u64 = 1 << 32;
 #[derive(Debug, Drop)]
 pub struct Chains {
     pub(crate) bases: Vec<Option<Page>, Alloc>,
-    arena: Arena,
+    pub(crate) arena: Arena,
 }
 
 impl Model for Chains {

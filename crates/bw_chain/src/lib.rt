@@ -4,6 +4,7 @@
 //! A mapping word below 2^32 names a base page, and one from there on a delta record.
 #![tactic(auto)]
 
+mod additions;
 mod bases;
 mod chains;
 mod ends;
@@ -20,7 +21,7 @@ pub use chains::{Chains, FLOOR};
 pub use ends::{lower_end, reaches};
 pub use laws::{
     contents_are_kept, home_is_one, home_is_there, levels_are_alike, levels_are_found,
-    levels_are_kept, page_is_kept, way_is_one,
+    levels_are_kept, page_is_kept, parts_are_kept, way_is_one,
 };
 pub use leaf_chain::LeafChain;
 pub use target::Target;

@@ -73,8 +73,8 @@ fn append_op(alloc: Alloc, arena: &mut Arena, op: &Op, stamp: u64) -> Result<(),
     Ok(())
 }
 
-// Makes room for one more record, where there may be one.
-fn make_room(arena: &mut Arena) -> Result<(), Memory>
+/// Makes room for one more record, where there may be one.
+pub(crate) fn make_room(arena: &mut Arena) -> Result<(), Memory>
     ensures records { arena.new.records ≡ arena.old.records }
     ensures ok { OnOk result ((0 < arena.new.room) × (length arena.new.records < 2 ^ 32)) }
 {
