@@ -28,12 +28,12 @@ only (zero, lt, is) = is
 only (suc i, lt, is) = absurd (omega arith)
 
 -- what was there is where it was once more follows
-get_front : {X : Type 0} (xs ys : List X) (i : ℕ) → i < length xs → slice_get (xs ++ ys) i ≡ slice_get xs i
+pub get_front : {X : Type 0} (xs ys : List X) (i : ℕ) → i < length xs → slice_get (xs ++ ys) i ≡ slice_get xs i
 get_front [] ys i lt = absurd (omega arith)
 get_front (x ∷ xs) ys zero lt = refl
 get_front (x ∷ xs) ys (suc i) lt = get_front xs ys i (omega arith)
 
-get_last : {X : Type 0} (xs : List X) (x : X) → slice_get (xs ++ x ∷ []) (length xs) ≡ Some x
+pub get_last : {X : Type 0} (xs : List X) (x : X) → slice_get (xs ++ x ∷ []) (length xs) ≡ Some x
 get_last [] x = refl
 get_last (y ∷ xs) x = get_last xs x
 
@@ -48,7 +48,7 @@ from_front (z ∷ xs) x y (suc i) e = by (from_front xs x y i e)
     by (inl there) = inl there
     by (inr last) = inr (ap suc last.0, last.1)
 
-not_last : {X : Type 0} (xs : List X) (x : X) (i : ℕ) → (i ≡ length xs → ⊥) → slice_get (xs ++ x ∷ []) i ≡ slice_get xs i
+pub not_last : {X : Type 0} (xs : List X) (x : X) (i : ℕ) → (i ≡ length xs → ⊥) → slice_get (xs ++ x ∷ []) i ≡ slice_get xs i
 not_last [] x zero other = absurd (other refl)
 not_last [] x (suc i) other = refl
 not_last (y ∷ xs) x zero other = refl

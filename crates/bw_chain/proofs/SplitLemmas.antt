@@ -17,6 +17,7 @@ use Rattle.bw_page.proofs.Truths.{holds, true_holds, holds_not, not_holds, left_
 use Rattle.bw_delta.specs.Batches.{writes_to}
 use Rattle.bw_delta.specs.History.{HasDistinctStamps, history, action_at}
 use Rattle.bw_delta.specs.Writes.{WriteView}
+use Rattle.bw_chain.specs.Chains.{body_below}
 use Rattle.bw_chain.specs.Laws.{KeepsAllParted, PartsAreKept}
 use Rattle.bw_chain.specs.Levels.{AreLevels, BeginsWith, FirstChild, IsHome, LeadsBelow, SideBySide, Stands, StartsWith, row}
 use Rattle.bw_chain.specs.Reading.{body_pairs, body_writes, contents_in, row_writes, value_in, writes_over}
@@ -24,7 +25,7 @@ use Rattle.bw_chain.specs.Slots.{Slot, PageState, Body, Pairs, Children, Free, G
 use Rattle.bw_chain.specs.Splits.{IsParted, entry_count, first_entries, left_part, level_parted, other_entries, put_behind, right_part, separator}
 use Rattle.bw_chain.specs.Steps.{IsTerm, KeepsLevels, WasTerm}
 use Rattle.bw_chain.specs.Walk.{Leads}
-use Rattle.bw_chain.proofs.CutLemmas.{find_first, find_other, lower_inner, lower_page}
+use Rattle.bw_chain.proofs.CutLemmas.{below_first, find_first, find_other, lower_inner, lower_page}
 use Rattle.bw_chain.proofs.HomeLemmas.{one_home}
 use Rattle.bw_chain.proofs.LeafRowLemmas.{wide_of}
 use Rattle.bw_chain.proofs.RowLemmas.{InRow, in_row, first_stands}
@@ -116,6 +117,11 @@ starts_first keep (Pairs pairs writes) k c some starts = starts
 starts_first zero (Children level children) k c some starts = absurd (omega arith)
 starts_first (suc keep) (Children level []) k c some starts = starts
 starts_first (suc keep) (Children level (x ∷ children)) k c some starts = starts
+
+-- what a split record leaves of a page
+pub below_is : (low : KeyBytes) (high : Option KeyBytes) (side : Option ℕ) (keep : ℕ) (b : Body) → IsSoundBody low high side b → keep < entry_count b → body_below (separator keep b) b ≡ first_entries keep b
+below_is low high side keep (Pairs pairs writes) sound fewer = ap (λ (es : List (KeyBytes × ValueBytes)). Pairs es writes) (below_first keep pairs sound.page.sorted fewer)
+below_is low high side keep (Children level children) sound fewer = ap (Children level) (below_first keep children sound.page.sorted fewer)
 
 -- pages with a new one behind another
 begins_still : (p q r : ℕ) (ps : List ℕ) → BeginsWith ps r → BeginsWith (put_behind p q ps) r

@@ -17,6 +17,7 @@ mod consolidation;
 mod folding;
 mod reading;
 mod search;
+mod splits;
 
 /// Pages, named by identifiers, whose present states are chains of delta records over base pages.
 ///

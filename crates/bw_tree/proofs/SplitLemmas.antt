@@ -1,0 +1,254 @@
+-- A split of a page leaves a tree that holds the same.
+use Rattle.std.proofs.Common.{set, get_or, ◌≡◌, ℕ, zero, suc, ◌+◌, ◌-◌, ◌<◌, ◌≤◌, ◌^◌, List, [], ◌∷◌, ◌++◌, length, Option, Some, None, refl, sym, ap, ◌∙◌, subst, arith, length-append}
+use Rattle.std.proofs.lemmas.Option.{slice_get-get_or}
+use Rattle.std.proofs.lemmas.List.{get_or_default, length-map, length-set}
+use Rattle.std.specs.List.{AllByRecursion, Contains}
+use Rattle.std.specs.Option.{unwrap_or}
+use Rattle.std.specs.Prelude.{slice_get, slice_index}
+use Rattle.bw_key.specs.Order.{KeyBytes}
+use Rattle.bw_page.specs.declared.pages.Page.{Page}
+use Rattle.bw_delta.specs.History.{HasDistinctStamps}
+use Rattle.bw_delta.specs.Writes.{WriteView}
+use Rattle.bw_delta.specs.declared.deltas.Delta.{Delta}
+use Rattle.bw_delta.specs.declared.deltas.Delta.TheVariants.{Split}
+use Rattle.bw_chain.specs.Chains.{AllEnd, Bases, Ends, Records, change, slot_of_word, slots_of}
+use Rattle.bw_chain.specs.Slots.{Slot, PageState, Body, Free, Live, slot_at}
+use Rattle.bw_chain.specs.Laws.{KeepsAllParted}
+use Rattle.bw_chain.specs.Levels.{AreLevels, row, levels_under}
+use Rattle.bw_chain.specs.Reading.{body_writes, contents_in, row_writes, writes_over}
+use Rattle.bw_chain.specs.Splits.{IsParted, IsUpperHalf, entry_count, left_part, level_parted, right_part, separator, slot_entries, slot_right, slot_separator}
+use Rattle.bw_chain.specs.Supports.{OwnBases}
+use Rattle.bw_chain.proofs.AdditionLemmas.{get_last, not_last, page_all_end, page_others, page_own, page_there, record_all_end, record_here, record_others, record_own}
+use Rattle.bw_chain.proofs.BaseLemmas.{get_set_other, get_set_same}
+use Rattle.bw_chain.proofs.ChainLemmas.{no_record, on_base}
+use Rattle.bw_chain.proofs.LevelLemmas.{levels_now}
+use Rattle.bw_chain.proofs.ReadingLemmas.{no_writes_on_base, slot_of_head}
+use Rattle.bw_chain.proofs.RouteLemmas.{held}
+use Rattle.bw_chain.proofs.RowLemmas.{InRow, in_row}
+use Rattle.bw_chain.proofs.SplitLemmas.{below_is, parts_kept}
+use Rattle.bw_tree.specs.Splits.{IsSplit, IsSplittable}
+use Rattle.bw_tree.specs.Trees.{IsStanding, IsTree, StageWords, view_of}
+use Rattle.bw_tree.specs.View.{StageView, TreeView, contents_at}
+use Rattle.bw_tree.proofs.AdoptLemmas.{slot_past}
+
+not_free : {s : PageState} → Free ≡ Live s → ⊥
+not_free e = cc
+
+-- the number at a place is that of the entry there
+pub index_is : (xs : List ℕ) (i : ℕ) → slice_index xs i ≡ unwrap_or (slice_get xs i) 0
+index_is [] i = refl
+index_is (x ∷ xs) zero = refl
+index_is (x ∷ xs) (suc i) = index_is xs i
+
+module _ (heads : List ℕ) (bases : Bases) (records : Records) (root next : ℕ) (t : IsStanding heads bases records root next) (p keep : ℕ) (ok : IsSplittable (view_of heads bases records root next None) p keep) (key : KeyBytes) (right : Page) (half : IsUpperHalf (slot_at (slots_of heads bases records) p) keep (key, right)) (few_pages : length heads < 2 ^ 32) (few_records : length records < 2 ^ 32) (few_bases : length bases < 2 ^ 32 - 1) where
+  abbrev old : TreeView
+  old = view_of heads bases records root next None
+
+  abbrev q : ℕ
+  q = length heads
+
+  abbrev word : ℕ
+  word = slice_index heads p
+
+  at : InRow old.slots ok.level (row old.levels ok.level) ok.in_level.0 p
+  at = in_row old.slots ok.level [] (row old.levels ok.level) ok.in_level.0 p (t.lawful.rows ok.level ok.within) ok.in_level.1 ok.in_level.2
+
+  abbrev was : PageState
+  was = at.stands.state
+
+  within : p < length heads
+  within = omega (arith, held old.slots p (λ free. not_free (sym free ∙ at.stands.is)), length-map heads (slot_of_word bases records))
+
+  at_p : slice_get heads p ≡ Some word
+  at_p = slice_get-get_or heads p 0 within
+
+  abbrev delta : Delta
+  delta = Split key q
+
+  abbrev records' : Records
+  records' = records ++ (delta, word) ∷ []
+
+  abbrev new_word : ℕ
+  new_word = 2 ^ 32 + length records
+
+  abbrev heads1 : List ℕ
+  heads1 = set heads p new_word
+
+  abbrev heads' : List ℕ
+  heads' = heads1 ++ length bases ∷ []
+
+  abbrev bases' : Bases
+  bases' = bases ++ Some right ∷ []
+
+  abbrev new : TreeView
+  new = view_of heads' bases' records' root next None
+
+  pages1 : length heads1 ≡ length heads
+  pages1 = length-set heads p new_word
+
+  few : length bases < 2 ^ 32
+  few = omega (arith, few_bases)
+
+  ends1 : AllEnd bases records' heads1
+  ends1 = record_all_end heads bases records t.ends t.own p word at_p ok.plain delta refl
+
+  own1 : OwnBases heads1 bases records'
+  own1 = record_own heads bases records t.ends t.own p word at_p ok.plain delta refl
+
+  fewer : keep < entry_count was.body
+  fewer = subst (λ (o : Slot). keep < slot_entries o) at.stands.is ok.fewer
+
+  bare : body_writes was.body ≡ []
+  bare =
+      ap writes_over (sym at.stands.is)
+      ∙ ap writes_over (slot_of_head bases records heads p 0 within ∙ on_base bases records word (t.ends p word at_p) (no_record records word ok.plain))
+      ∙ no_writes_on_base (slice_get bases word)
+
+  left_now : slot_at new.slots p ≡ Live (left_part keep q was)
+  left_now =
+      page_others heads1 bases records' ends1 own1 few right p (λ e. omega (arith, within, pages1, e))
+      ∙ record_here heads bases records t.ends t.own p word at_p ok.plain delta refl
+      ∙ ap (change bases delta) at.stands.is
+      ∙ ap (λ (k : KeyBytes). change bases (Split k q) (Live was)) (half.0 ∙ ap (slot_separator keep) at.stands.is)
+      ∙ ap (λ (b : Body). Live (record { low = was.low; high = Some (separator keep was.body); side = Some q; body = b })) (below_is was.low was.high was.side keep was.body at.stands.sound fewer)
+
+  right_now : slot_at new.slots q ≡ Live (right_part keep was)
+  right_now =
+      ap (slot_at new.slots) (sym pages1)
+      ∙ page_there heads1 bases records' ends1 own1 few right
+      ∙ half.1 ∙ ap (slot_right keep) at.stands.is
+
+  parted : IsParted old.slots new.slots p q keep
+  parted = record {
+    was = was;
+    is = at.stands.is;
+    bare = bare;
+    free = slot_past (slot_of_word bases records) heads q (omega arith);
+    some = ok.some;
+    fewer = fewer;
+    left = left_now;
+    right = right_now;
+    others = λ r other old_one.
+        page_others heads1 bases records' ends1 own1 few right r (λ e. old_one (e ∙ pages1))
+        ∙ record_others heads bases records t.ends t.own p word at_p ok.plain delta refl r other;
+  }
+
+  kept : (level : ℕ) → level < length old.levels → Contains (row old.levels level) p → KeepsAllParted old.slots new.slots root old.levels (level_parted old.levels level p q)
+  kept level lt has = parts_kept old.slots new.slots root old.levels level p q keep t.lawful lt has parted
+
+  same_levels : (level : ℕ) → level < length old.levels → Contains (row old.levels level) p → new.levels ≡ level_parted old.levels level p q
+  same_levels level lt has = levels_now new.slots root (level_parted old.levels level p q) (kept level lt has).lawful
+
+  abbrev IsPast : WriteView → Type 0
+  IsPast w = w.stamp < next
+
+  pub standing_new : IsStanding heads' bases' records' root next
+  standing_new =
+      let k = kept ok.level ok.within ok.in_level in
+      let same = same_levels ok.level ok.within ok.in_level in
+      record {
+        ends = page_all_end heads1 bases records' ends1 own1 few right;
+        own = page_own heads1 bases records' ends1 own1 few right;
+        lawful = subst (AreLevels new.slots root) (sym same) k.lawful;
+        distinct = subst (λ (l : List (List ℕ)). HasDistinctStamps (row_writes new.slots (row l 0))) (sym same) (subst HasDistinctStamps (sym k.writes) t.distinct);
+        past = subst (λ (l : List (List ℕ)). AllByRecursion IsPast (row_writes new.slots (row l 0))) (sym same) (subst (AllByRecursion IsPast) (sym k.writes) t.past);
+        fits = t.fits;
+        few_records = omega (arith, few_records, length-append records ((delta, word) ∷ []));
+        few_pages = omega (arith, few_pages, pages1, length-append heads1 (length bases ∷ []));
+        few_bases = omega (arith, few_bases, length-append bases (Some right ∷ []));
+      }
+
+  word_at : (r : ℕ) (o : Option ℕ) → slice_get heads' r ≡ o → slice_index heads' r ≡ unwrap_or o 0
+  word_at r o e = index_is heads' r ∙ ap (λ (x : Option ℕ). unwrap_or x 0) e
+
+  get_p : slice_get heads' p ≡ Some new_word
+  get_p = not_last heads1 (length bases) p (λ e. omega (arith, within, pages1, e)) ∙ get_set_same heads p new_word within
+
+  get_q : slice_get heads' q ≡ Some (length bases)
+  get_q = ap (slice_get heads') (sym pages1) ∙ get_last heads1 (length bases)
+
+  pub split_new : IsSplit old new p keep q
+  split_new = record {
+    parted = parted;
+    levels = same_levels;
+    contents = λ stamp.
+        ap (λ (l : List (List ℕ)). contents_in new.slots l stamp) (same_levels ok.level ok.within ok.in_level)
+        ∙ (kept ok.level ok.within ok.in_level).contents t.distinct stamp;
+    page = refl;
+    pages = omega (arith, pages1, length-append heads1 (length bases ∷ []));
+    heads = λ r other old_one.
+        word_at r (slice_get heads r) (not_last heads1 (length bases) r (λ e. old_one (e ∙ pages1)) ∙ get_set_other heads p r new_word other)
+        ∙ sym (index_is heads r);
+    changed = omega (arith, word_at p (Some new_word) get_p);
+    plain = omega (arith, few, word_at q (Some (length bases)) get_q);
+    root = refl;
+    records = omega (arith, length-append records ((delta, word) ∷ []));
+    next = refl;
+    staged = refl;
+  }
+
+-- what is known of the word of a page that may be split
+pub record WordAt (heads : List ℕ) (bases : Bases) (records : Records) (tree : TreeView) (p word : ℕ) : Type 0 where
+  pub word_is : word ≡ slice_index heads p
+  pub within : p < length heads
+  pub ends : Ends bases records word
+  pub slot : slot_of_word bases records word ≡ slot_at tree.slots p
+
+-- so is a tree whose page was given the record, and that has the new page
+module _ (heads : List ℕ) (bases : Bases) (records : Records) (root next : ℕ) (tree : TreeView) (is : view_of heads bases records root next None ≡ tree) (t : IsTree heads bases records root next None) (p keep : ℕ) (ok : IsSplittable tree p keep) where
+  ok_here : IsSplittable (view_of heads bases records root next None) p keep
+  ok_here = subst (λ (v : TreeView). IsSplittable v p keep) (sym is) ok
+
+  page_word : (word : ℕ) → word ≡ get_or heads p word → WordAt heads bases records tree p word
+  page_word word read =
+      let slots = slots_of heads bases records in
+      let at = in_row slots ok_here.level [] (row (levels_under slots root) ok_here.level) ok_here.in_level.0 p (t.now.lawful.rows ok_here.level ok_here.within) ok_here.in_level.1 ok_here.in_level.2 in
+      let within : p < length heads = omega (arith, held slots p (λ free. not_free (sym free ∙ at.stands.is)), length-map heads (slot_of_word bases records)) in
+      let same : word ≡ slice_index heads p = read ∙ get_or_default heads p word 0 within in
+      record {
+        word_is = same;
+        within = within;
+        ends = subst (Ends bases records) (sym same) (t.now.ends p (slice_index heads p) (slice_get-get_or heads p 0 within));
+        slot = ap (slot_of_word bases records) same ∙ sym (slot_of_head bases records heads p 0 within) ∙ ap (λ (v : TreeView). slot_at v.slots p) is;
+      }
+
+  abbrev IsMade : List ℕ → Bases → Records → ℕ → Type 0
+  IsMade h b r q = IsTree h b r root next None × IsSplit tree (view_of h b r root next None) p keep q
+
+  made_here : (key : KeyBytes) (right : Page) → IsUpperHalf (slot_at tree.slots p) keep (key, right) → length heads < 2 ^ 32 → length records < 2 ^ 32 → length bases < 2 ^ 32 - 1 →
+      IsMade (set heads p (2 ^ 32 + length records) ++ length bases ∷ []) (bases ++ Some right ∷ []) (records ++ (Split key (length heads), slice_index heads p) ∷ []) (length heads)
+  made_here key right half few_pages few_records few_bases =
+      let half_here : IsUpperHalf (slot_at (slots_of heads bases records) p) keep (key, right) = subst (λ (v : TreeView). IsUpperHalf (slot_at v.slots p) keep (key, right)) (sym is) half in (
+        record { now = standing_new heads bases records root next t.now p keep ok_here key right half_here few_pages few_records few_bases; stage = tt },
+        subst (λ (v : TreeView). IsSplit v (view_of (set heads p (2 ^ 32 + length records) ++ length bases ∷ []) (bases ++ Some right ∷ []) (records ++ (Split key (length heads), slice_index heads p) ∷ []) root next None) p keep (length heads)) is
+        (split_new heads bases records root next t.now p keep ok_here key right half_here few_pages few_records few_bases),
+      )
+
+  made_on : (key : KeyBytes) (right : Page) → IsUpperHalf (slot_at tree.slots p) keep (key, right) → length heads < 2 ^ 32 → length records < 2 ^ 32 → length bases < 2 ^ 32 - 1 →
+      (hs : List ℕ) (bs : Bases) (rs : Records) (q w number under : ℕ) → q ≡ length heads → w ≡ 2 ^ 32 + length records → number ≡ length bases → under ≡ slice_index heads p →
+      hs ≡ set heads p w ++ number ∷ [] → bs ≡ bases ++ Some right ∷ [] → rs ≡ records ++ (Split key q, under) ∷ [] → IsMade hs bs rs q
+  made_on key right half few_pages few_records few_bases hs bs rs q w number under q_is word_is number_is under_is heads_are bases_are records_are =
+      subst (λ (r : Records). IsMade hs bs r q) (sym records_are)
+      (subst (λ (b : Bases). IsMade hs b (records ++ (Split key q, under) ∷ []) q) (sym bases_are)
+      (subst (λ (h : List ℕ). IsMade h (bases ++ Some right ∷ []) (records ++ (Split key q, under) ∷ []) q) (sym heads_are)
+      (subst (λ x. IsMade (set heads p x ++ number ∷ []) (bases ++ Some right ∷ []) (records ++ (Split key q, under) ∷ []) q) (sym word_is)
+      (subst (λ n. IsMade (set heads p (2 ^ 32 + length records) ++ n ∷ []) (bases ++ Some right ∷ []) (records ++ (Split key q, under) ∷ []) q) (sym number_is)
+      (subst (λ e. IsMade (set heads p (2 ^ 32 + length records) ++ length bases ∷ []) (bases ++ Some right ∷ []) (records ++ (Split key q, e) ∷ []) q) (sym under_is)
+      (subst (λ n. IsMade (set heads p (2 ^ 32 + length records) ++ length bases ∷ []) (bases ++ Some right ∷ []) (records ++ (Split key n, slice_index heads p) ∷ []) n) (sym q_is)
+      (made_here key right half few_pages few_records few_bases)))))))
+
+unstaged : {s : StageView} → Some s ≡ None → ⊥
+unstaged e = cc
+
+pub word_of : (heads : List ℕ) (bases : Bases) (records : Records) (root next : ℕ) (staged : Option StageWords) (tree : TreeView) → view_of heads bases records root next staged ≡ tree → tree.staged ≡ None → IsTree heads bases records root next staged → (p keep : ℕ) → IsSplittable tree p keep →
+    (word : ℕ) → word ≡ get_or heads p word → WordAt heads bases records tree p word
+word_of heads bases records root next None tree is none t p keep ok = page_word heads bases records root next tree is t p keep ok
+word_of heads bases records root next (Some stage) tree is none t p keep ok = absurd (unstaged (ap (λ (v : TreeView). v.staged) is ∙ none))
+
+pub split_on : (heads : List ℕ) (bases : Bases) (records : Records) (root next : ℕ) (staged : Option StageWords) (tree : TreeView) → view_of heads bases records root next staged ≡ tree → tree.staged ≡ None → IsTree heads bases records root next staged → (p keep : ℕ) → IsSplittable tree p keep →
+    (key : KeyBytes) (right : Page) → IsUpperHalf (slot_at tree.slots p) keep (key, right) → length heads < 2 ^ 32 → length records < 2 ^ 32 → length bases < 2 ^ 32 - 1 →
+    (heads' : List ℕ) (bases' : Bases) (records' : Records) (q word number under : ℕ) → q ≡ length heads → word ≡ 2 ^ 32 + length records → number ≡ length bases → under ≡ slice_index heads p →
+    heads' ≡ set heads p word ++ number ∷ [] → bases' ≡ bases ++ Some right ∷ [] → records' ≡ records ++ (Split key q, under) ∷ [] →
+    IsTree heads' bases' records' root next staged × IsSplit tree (view_of heads' bases' records' root next staged) p keep q
+split_on heads bases records root next None tree is none t p keep ok = made_on heads bases records root next tree is t p keep ok
+split_on heads bases records root next (Some stage) tree is none t p keep ok = absurd (unstaged (ap (λ (v : TreeView). v.staged) is ∙ none))

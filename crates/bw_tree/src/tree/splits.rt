@@ -1,0 +1,39 @@
+// Pages that part in two.
+ghost use Rattle.std.specs.Prelude.{◌≡◌, None, IfOk, OnErr};
+
+use super::Tree;
+use bw_chain::FLOOR;
+use bw_delta::Delta;
+use bw_key::Memory;
+use bw_page::PageId;
+
+impl Tree {
+    ghost use Rattle.bw_tree.specs.Splits.{IsSplit, IsSplittable};
+
+    /// Splits a leaf or an inner page: its entries from place `keep` on go to a new page right of it, whose identifier is
+    /// answered. The page gets a delta record with the key at which it ends now and its new neighbour (ICDE 2013). No batch
+    /// is staged.
+    ///
+    /// No page above names the new one yet: searches and scans come to it by the side link, as in a B-link tree. The base
+    /// page keeps all entries until the page is consolidated. It copies the entries that go. `Memory` is answered where a
+    /// copy or a list finds none, and where no identifier is free; the tree is as before.
+    pub fn set_split(&mut self, page: PageId, keep: usize) -> Result<PageId, Memory>
+        requires none { self.old.staged ≡ None }
+        requires page { IsSplittable self.old page keep }
+        ensures ok { IfOk result (IsSplit self.old self.new page keep) }
+        ensures err { OnErr result (self.new ≡ self.old) }
+    {
+        let head = self.heads[page.0 as usize];
+        let (sep, right) = self.chains.upper_half(head, keep)?;
+        let count = self.heads.len() as u64;
+        if count >= FLOOR - 1 {
+            return Err(Memory);
+        }
+        self.heads.reserve(1)?;
+        let to = PageId(count as u32);
+        let (word, number) = self.chains.add_split(Delta::Split { sep, to }, head, right)?;
+        self.heads[page.0 as usize] = word;
+        self.heads.push(number).unwrap();
+        Ok(to)
+    }
+}
