@@ -1,26 +1,22 @@
 -- Where a search goes on from a page.
 use Rattle.std.proofs.Common.{◌≡◌, ℕ, Bool, true, false, not, List, Option, Some, None, MatchOption, refl, sym, ap, ◌∙◌, subst}
 use Rattle.std.specs.List.{Contains}
-use Rattle.std.specs.FinMap.{put}
 use Rattle.std.specs.Ordering.{is_lt}
 use Rattle.bw_key.specs.Order.{KeyBytes, key_cmp}
 use Rattle.bw_model.specs.Contents.{is_below_end}
-use Rattle.bw_page.specs.Inners.{InnerView, IsLastUpto}
-use Rattle.bw_page.specs.declared.pages.Page.{Page}
-use Rattle.bw_page.specs.declared.pages.Page.TheVariants.{Leaf as LeafPage, Inner as InnerPage, Gone as GonePage}
+use Rattle.bw_page.specs.Inners.{IsLastUpto}
 use Rattle.bw_page.proofs.Truths.{holds}
 use Rattle.bw_page.proofs.KeyLemmas.{below_upto, upto_below}
 use Rattle.bw_delta.proofs.Filters.{kept, was_there}
-use Rattle.bw_delta.specs.declared.deltas.Delta.{Delta}
-use Rattle.bw_delta.specs.declared.deltas.Delta.TheVariants.{Put, Split, Absorb, Removed, AddChild, DropChild}
+use Rattle.bw_delta.specs.declared.deltas.Delta.TheVariants.{Split, AddChild}
 use Rattle.bw_chain.specs.declared.turn.Turn.{Turn}
 use Rattle.bw_chain.specs.declared.turn.Turn.TheVariants.{Here, Right, Down, Left}
 use Rattle.bw_chain.specs.declared.target.Target.{Target}
 use Rattle.bw_chain.specs.Slots.{Slot, PageState, Body, Pairs, Children, Free, Gone, Live, level_of, children_of, side_of_slot}
-use Rattle.bw_chain.specs.Chains.{Bases, change, body_below, below, plain}
+use Rattle.bw_chain.specs.Chains.{Bases, change, body_below, below}
 use Rattle.bw_chain.specs.Scans.{high_of}
 use Rattle.bw_chain.specs.Turns.{IsTurn, IsWithin, slot_without_writes, body_without_writes}
-use Rattle.bw_chain.specs.Targets.{IsChildFor, IsLinked, IsTurnFor, IsWithinFor, SeparatorsAgree, StandsFor, StandsOn, is_upto, lies_from, lies_past}
+use Rattle.bw_chain.specs.Targets.{IsLinked, IsTurnFor, IsWithinFor, SeparatorsAgree, StandsFor, StandsOn, is_upto, lies_from, lies_past}
 use Rattle.bw_chain.proofs.TargetLemmas.{holds_not, lies_no_more}
 
 different : false ≡ true → ⊥
@@ -163,46 +159,6 @@ stays_split target bases (Live s) sep to t inside within = λ key stands.
 pub passes_split : (target : Target) (bases : Bases) (slot : Slot) (s : PageState) (sep : KeyBytes) (to q : ℕ) → slot ≡ Live s → lies_from target sep ≡ true → Some to ≡ Some q → IsTurnFor target (change bases (Split sep to) slot) (Right q)
 passes_split target bases slot s sep to q is past side =
     subst (λ (o : Slot). IsTurnFor target (change bases (Split sep to) o) (Right q)) (sym is) (λ key stands. (holds_not _ (sym stands.end ∙ past), side))
-
--- a child changes no leaf and no removed page
-pub same_without_children : (bases : Bases) (sep : KeyBytes) (child : ℕ) (page : Page) → ((inner : InnerView) → page ≡ InnerPage inner → ⊥) → change bases (AddChild sep child) (plain page) ≡ plain page
-same_without_children bases sep child (LeafPage leaf) other = refl
-same_without_children bases sep child (InnerPage inner) other = absurd (other inner refl)
-same_without_children bases sep child (GonePage left) other = refl
-
--- an inner page with a further child: what is sought lies past it or at a child
-pub passes_with_child : (target : Target) (bases : Bases) (page : Page) (inner : InnerView) (sep : KeyBytes) (child q : ℕ) → page ≡ InnerPage inner → lies_past target inner.high ≡ true → inner.side ≡ Some q → IsTurnFor target (change bases (AddChild sep child) (plain page)) (Right q)
-passes_with_child target bases page inner sep child q is past side =
-    subst (λ (p : Page). IsTurnFor target (change bases (AddChild sep child) (plain p)) (Right q)) (sym is) (passes target (change bases (AddChild sep child) (plain (InnerPage inner))) q past side)
-
-pub stays_with_child : (target : Target) (bases : Bases) (page : Page) (inner : InnerView) (sep : KeyBytes) (child c : ℕ) → page ≡ InnerPage inner → lies_past target inner.high ≡ false → IsChildFor target (put key_cmp sep child inner.children) c → IsTurnFor target (change bases (AddChild sep child) (plain page)) (Down c)
-stays_with_child target bases page inner sep child c is inside child_for =
-    subst (λ (p : Page). IsTurnFor target (change bases (AddChild sep child) (plain p)) (Down c)) (sym is) (stays target (change bases (AddChild sep child) (plain (InnerPage inner))) (Down c) inside child_for)
-
--- a changed page has a right neighbour where its range ends, whatever the base pages are
-pub linked_anywhere : (bases others : Bases) (d : Delta) (slot : Slot) → IsLinked (change bases d slot) → IsLinked (change others d slot)
-linked_anywhere bases others (Put w) slot h = h
-linked_anywhere bases others (Split k to) slot h = h
-linked_anywhere bases others (Absorb k base high side) Free h = h
-linked_anywhere bases others (Absorb k base high side) (Gone l) h = h
-linked_anywhere bases others (Absorb k base high side) (Live s) h = h
-linked_anywhere bases others (Removed left) slot h = h
-linked_anywhere bases others (AddChild k child) slot h = h
-linked_anywhere bases others (DropChild k) slot h = h
-
--- and it depends on what lies under the writes
-linked_bare : (slot : Slot) → IsLinked slot → IsLinked (slot_without_writes slot)
-linked_bare Free h = h
-linked_bare (Gone l) h = h
-linked_bare (Live s) h = h
-
-bare_linked : (slot : Slot) → IsLinked (slot_without_writes slot) → IsLinked slot
-bare_linked Free h = h
-bare_linked (Gone l) h = h
-bare_linked (Live s) h = h
-
-pub linked_alike : (slot other : Slot) → slot_without_writes slot ≡ slot_without_writes other → IsLinked slot → IsLinked other
-linked_alike slot other same h = bare_linked other (subst IsLinked same (linked_bare slot h))
 
 -- a page that was given a child is linked as it was
 pub linked_before : (bases : Bases) (sep : KeyBytes) (child : ℕ) (slot : Slot) → IsLinked (change bases (AddChild sep child) slot) → IsLinked slot

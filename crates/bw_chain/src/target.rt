@@ -47,7 +47,7 @@ impl Target<'_> {
         requires { T (lies_from self inner.now.low) }
         ensures { IsChildFor self.entry inner.now.children result }
     {
-        self.entry(inner).1
+        self.last_entry(inner).1
     }
 
     /// The same where an inner page has a further child at a separator, in place of one that stands there. It takes two key
@@ -56,18 +56,15 @@ impl Target<'_> {
         requires { T (lies_from self inner.now.low) }
         ensures { IsChildFor self.entry (put key_cmp sep.now child inner.now.children) result }
     {
-        let last = self.entry(inner);
-        if !self.lies_from(sep) {
-            return last.1;
-        }
-        if *sep < last.0 {
+        let last = self.last_entry(inner);
+        if !self.lies_from(sep) || *sep < last.0 {
             return last.1;
         }
         child
     }
 
     // The last separator that this isn't before, with its child.
-    fn entry<'i>(self, inner: &'i Inner) -> &'i (Key, PageId)
+    fn last_entry<'i>(self, inner: &'i Inner) -> &'i (Key, PageId)
         requires { T (lies_from self inner.now.low) }
         ensures { IsEntryFor self.entry inner.now.children result.now }
     {

@@ -2,7 +2,7 @@ use Rattle.std.proofs.Common.{ℕ, ◌≤◌, ◌-◌, length, List, get_or, sub
 use Rattle.bw_key.specs.Order.{KeyBytes}
 use Rattle.bw_chain.specs.Targets.{IsEntryFor, PartsChildren}
 use Rattle.bw_chain.proofs.TargetLemmas.{entry_there, some_there}
-use Rattle.bw_chain.proofs.target.Target.entry.Goals as goal
+use Rattle.bw_chain.proofs.target.Target.last_entry.Goals as goal
 
 pub overflow_sub-result : goal.overflow_sub-result
 overflow_sub-result c =
