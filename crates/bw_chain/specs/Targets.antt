@@ -90,7 +90,7 @@ pub record IsLastEntry (key : KeyBytes) (entries : List (KeyBytes × ℕ)) (entr
   pub not_above : IsUpto entry.0 key
   pub greatest : (e : KeyBytes × ℕ) → Contains entries e → IsUpto e.0 key → IsUpto e.0 entry.0
 
--- that child with its separator
+-- the same child, with its separator
 abbrev pub IsEntryFor : Target → List (KeyBytes × ℕ) → KeyBytes × ℕ → Type 0
 IsEntryFor target children entry =
     (key : KeyBytes) → SeparatorsAgree target key children → IsLastEntry key children entry

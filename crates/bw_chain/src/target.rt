@@ -50,8 +50,8 @@ impl Target<'_> {
         self.last_entry(inner).1
     }
 
-    /// The same where an inner page has a further child at a separator, in place of one that stands there. It takes two key
-    /// comparisons more.
+    /// The same where an inner page has a further child at a separator, in place of one that stands there. It takes at
+    /// most two key comparisons more.
     pub(crate) fn child_with(self, inner: &Inner, sep: &Key, child: PageId) -> PageId
         requires { T (lies_from self inner.now.low) }
         ensures { IsChildFor self.entry (put key_cmp sep.now child inner.now.children) result }
