@@ -37,14 +37,17 @@ base_low bases records word ends = by ends.0 ends.1.0 ends.1.1
     by : (ws : List ℕ) (e : ℕ) → EndsAt bases records word ws e → base_under records word < 2 ^ 32
     by ws e h = subst (λ n. n < 2 ^ 32) (sym (ended_is (link_of records) (length records) word ws e h.way h.short)) h.limit
 
+base_alone : (ds : List Delta) (e : ℕ) → ds ≡ [] → Contains (supports_of ds e) e
+base_alone ds e none = subst (λ (l : List Delta). Contains (supports_of l e) e) (sym none) (0, omega arith, refl)
+
 -- a page rests on the base page under its chain
 rests_on_base : (ds : List Delta) (e : ℕ) → IsShaped ds → Contains (supports_of ds e) e
 rests_on_base [] e shaped = (0, omega arith, refl)
 rests_on_base (Put w ∷ ds) e shaped = rests_on_base ds e shaped
-rests_on_base (Split k to ∷ ds) e shaped = subst (λ (l : List Delta). Contains (supports_of l e) e) (sym shaped) (0, omega arith, refl)
+rests_on_base (Split k to ∷ ds) e shaped = base_alone ds e shaped
 rests_on_base (Absorb k base high side ∷ ds) e shaped = absurd shaped
 rests_on_base (Removed left ∷ ds) e shaped = absurd shaped
-rests_on_base (AddChild k child ∷ ds) e shaped = absurd shaped
+rests_on_base (AddChild k child ∷ ds) e shaped = base_alone ds e shaped
 rests_on_base (DropChild k ∷ ds) e shaped = absurd shaped
 
 pub rests : (bases : Bases) (records : Records) (word : ℕ) → Ends bases records word → Contains (supports_at records word) (base_under records word)

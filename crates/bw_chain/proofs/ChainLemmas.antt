@@ -75,7 +75,7 @@ Below bases records (Put w) q = Ends bases records q
 Below bases records (Split k to) q = slot_of_word bases records q ≡ based (slice_get bases q)
 Below bases records (Absorb k base high side) q = ⊥
 Below bases records (Removed left) q = ⊥
-Below bases records (AddChild k child) q = ⊥
+Below bases records (AddChild k child) q = slot_of_word bases records q ≡ based (slice_get bases q)
 Below bases records (DropChild k) q = ⊥
 
 -- What a record changes lies under it, and there is less of a chain under it.
@@ -84,14 +84,18 @@ pub record Under (bases : Bases) (records : Records) (word : ℕ) (r : Delta × 
   pub ends : Below bases records r.0 r.1
   pub less : length (walked (link_of records) (length records) r.1) < length (walked (link_of records) (length records) word)
 
+-- where no record is left on the way, a base page lies there
+base_there : (bases : Bases) (records : Records) (q : ℕ) (ws : List ℕ) (e : ℕ) → Leads (link_of records) q ws e → deltas_at records ws ≡ [] → slot_of_word bases records q ≡ based (slice_get bases q)
+base_there bases records q ws e way none =
+    let ended_there : Leads (link_of records) q [] e = subst (λ (l : List ℕ). Leads (link_of records) q l e) (none_on records q ws e way none) way in
+    slot_of_way bases records q [] e ended_there (omega arith) ∙ ap (λ m. based (slice_get bases m)) (sym ended_there.0)
+
 below_it : (bases : Bases) (records : Records) (q : ℕ) (d : Delta) (ws : List ℕ) (e : ℕ) → Leads (link_of records) q ws e → length ws ≤ length records → e < length bases → e < 4294967296 → IsShaped (d ∷ deltas_at records ws) → Below bases records d q
 below_it bases records q (Put w) ws e way short within limit shaped = (ws, (e, record { way = way; short = short; within = within; limit = limit; shaped = shaped }))
-below_it bases records q (Split k to) ws e way short within limit shaped =
-    let ended_there : Leads (link_of records) q [] e = subst (λ (l : List ℕ). Leads (link_of records) q l e) (none_on records q ws e way shaped) way in
-    slot_of_way bases records q [] e ended_there (omega arith) ∙ ap (λ m. based (slice_get bases m)) (sym ended_there.0)
+below_it bases records q (Split k to) ws e way short within limit shaped = base_there bases records q ws e way shaped
 below_it bases records q (Absorb k base high side) ws e way short within limit shaped = absurd shaped
 below_it bases records q (Removed left) ws e way short within limit shaped = absurd shaped
-below_it bases records q (AddChild k child) ws e way short within limit shaped = absurd shaped
+below_it bases records q (AddChild k child) ws e way short within limit shaped = base_there bases records q ws e way shaped
 below_it bases records q (DropChild k) ws e way short within limit shaped = absurd shaped
 
 under_way : (bases : Bases) (records : Records) (word : ℕ) (r : Delta × ℕ) → record_at records word ≡ Some r →
@@ -156,7 +160,7 @@ write_over (Put w) ds shaped more = (w, refl)
 write_over (Split k to) ds shaped more = absurd (more shaped)
 write_over (Absorb k base high side) ds shaped more = absurd shaped
 write_over (Removed left) ds shaped more = absurd shaped
-write_over (AddChild k child) ds shaped more = absurd shaped
+write_over (AddChild k child) ds shaped more = absurd (more shaped)
 write_over (DropChild k) ds shaped more = absurd shaped
 
 -- so under a record that lies over another one is the rest of the chain
@@ -185,5 +189,5 @@ under_other bases records word under_it d ends at not_put =
     by (Split k to) state below not_put = (state ∙ ap (change bases (Split k to)) below, tt)
     by (Absorb k base high side) state below not_put = absurd below
     by (Removed left) state below not_put = absurd below
-    by (AddChild k child) state below not_put = absurd below
+    by (AddChild k child) state below not_put = (state ∙ ap (change bases (AddChild k child)) below, tt)
     by (DropChild k) state below not_put = absurd below

@@ -7,6 +7,7 @@ pub mod InnerLemmas
 pub mod RecordLemmas
 pub mod GrowthLemmas
 pub mod TargetLemmas
+pub mod ChildLemmas
 pub mod GallopLemmas
 pub mod TurnLemmas
 pub mod ReadingLemmas

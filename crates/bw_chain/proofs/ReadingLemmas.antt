@@ -18,7 +18,7 @@ use Rattle.bw_delta.specs.declared.deltas.Delta.{Delta}
 use Rattle.bw_delta.specs.declared.deltas.Delta.TheVariants.{Put, Split, Absorb, Removed, AddChild, DropChild}
 use Rattle.bw_chain.specs.Slots.{Slot, slot_at, Body, Pairs, Children, Free, Gone, Live, is_leaf, body_is_leaf}
 use Rattle.bw_chain.specs.Walk.{walked}
-use Rattle.bw_chain.specs.Chains.{Bases, Records, Ends, record_at, link_of, change, body_written, body_below, based, slot_of_word}
+use Rattle.bw_chain.specs.Chains.{Bases, Records, Ends, record_at, link_of, change, body_written, body_below, body_with_child, based, slot_of_word}
 use Rattle.bw_chain.specs.Turns.{slot_without_writes, body_without_writes, over, plain_at, IsNoWrite, IsOther}
 use Rattle.bw_chain.specs.Reading.{EndsAbove, HasPairsUnder, base_of, body_pairs, writes_over, body_writes}
 use Rattle.bw_chain.proofs.ChainLemmas.{Below, under, under_other, on_base}
@@ -64,7 +64,13 @@ other_writes bases (Split k to) (Live s) other none = by s.body none
     by (Children level children) none = refl
 other_writes bases (Absorb k base high side) slot other none = absurd other
 other_writes bases (Removed left) slot other none = absurd other
-other_writes bases (AddChild k child) slot other none = absurd other
+other_writes bases (AddChild k child) Free other none = refl
+other_writes bases (AddChild k child) (Gone l) other none = refl
+other_writes bases (AddChild k child) (Live s) other none = by s.body none
+  where
+    by : (b : Body) → body_writes b ≡ [] → body_writes (body_with_child k child b) ≡ []
+    by (Pairs pairs writes) none = none
+    by (Children level children) none = refl
 other_writes bases (DropChild k) slot other none = absurd other
 
 -- What a loop that collects the writes to a key has when it has passed a write.
@@ -119,6 +125,16 @@ base_split bases (Live s) k key to above = by s.body
     by (Pairs pairs writes) =
         find-where_key key_cmp (λ x. is_lt (key_cmp x k)) key (λ x tie. ap (λ (z : KeyBytes). is_lt (key_cmp z k)) (sym (keys_tie key x tie))) pairs
         ∙ ap (λ b. cond b (find key_cmp key pairs) None) lower
+    by (Children level children) = refl
+
+-- nor is one by an added child
+base_added : (bases : Bases) (slot : Slot) (k key : KeyBytes) (child : ℕ) → base_of (change bases (AddChild k child) slot) key ≡ base_of slot key
+base_added bases Free k key child = refl
+base_added bases (Gone l) k key child = refl
+base_added bases (Live s) k key child = by s.body
+  where
+    by : (b : Body) → find key_cmp key (body_pairs (body_with_child k child b)) ≡ find key_cmp key (body_pairs b)
+    by (Pairs pairs writes) = refl
     by (Children level children) = refl
 
 pointed_push : (found : List (Bor WriteView)) (b : Bor WriteView) (rest : List WriteView) → pointed_to (found ++ b ∷ []) ++ rest ≡ pointed_to found ++ (b.now ∷ rest)
@@ -182,7 +198,7 @@ base_through bases slot o page key same other above =
         at (Split k to) other h = base_split bases (plain_at page) k key to h
         at (Absorb k base high side) other h = absurd other
         at (Removed left) other h = absurd other
-        at (AddChild k child) other h = absurd other
+        at (AddChild k child) other h = base_added bases (plain_at page) k key child
         at (DropChild k) other h = absurd other
 
 -- the page of an identifier is what its mapping word leads to

@@ -18,7 +18,7 @@ use Rattle.bw_chain.specs.Turns.{IsTurn, StartsUpto}
 use Rattle.bw_chain.specs.Searches.{IsInLevels, IsPlaceFor, IsSearching, Sought, plain_inner}
 use Rattle.bw_chain.proofs.RowLemmas.{in_row}
 use Rattle.bw_chain.proofs.RouteLemmas.{Next, rank, go_down, root_sought, stands_on, sought_held, sought_upto, turned_right, turned_down, turned_left, turned_here}
-use Rattle.bw_chain.proofs.TargetLemmas.{lies_before, child_there}
+use Rattle.bw_chain.proofs.TargetLemmas.{lies_before, entry_child, entry_there}
 use Rattle.bw_chain.proofs.MarkLemmas.{mark, mark_from, mark_stands}
 
 different : false ≡ true → ⊥
@@ -58,7 +58,7 @@ module _ (slots : List Slot) (root : ℕ) (levels : List (List ℕ)) (lawful : A
       let upto : is_upto low key ≡ true = first_upto low children rules.begins key from stands_there.separators in
       let child : IsLastUpto key children (get_or children place d).1 =
       subst (λ n. IsLastUpto key children (get_or children n d).1) (omega arith)
-      (child_there target inner.level low inner.high inner.side children (place + 1) d rules (true_holds _ from) there.1 (omega (arith, there.0)) key stands_there.separators) in
+      (entry_child target children _ (entry_there target inner.level low inner.high inner.side children (place + 1) d rules (true_holds _ from) there.1 (omega (arith, there.0))) key stands_there.separators) in
       let sought : Sought slots levels key p = record {
         level = on.level;
         removed = [];

@@ -17,7 +17,7 @@ use Rattle.bw_page.proofs.KeyLemmas.{below_back, below_self, upto_below, upto_tr
 use Rattle.bw_page.proofs.Search.{rises}
 use Rattle.bw_chain.specs.declared.target.Target.{Target}
 use Rattle.bw_chain.specs.declared.target.Target.TheVariants.{Home, Before}
-use Rattle.bw_chain.specs.Targets.{PartsChildren, SeparatorsAgree, IsChildFor, lies_from}
+use Rattle.bw_chain.specs.Targets.{PartsChildren, SeparatorsAgree, IsChildFor, IsEntryFor, lies_from}
 
 pub holds_not : (a : Bool) → not a ≡ true → a ≡ false
 holds_not true h = absurd (different h)
@@ -71,15 +71,14 @@ some_there target low (e ∷ es) n begins from parts within = elim (cases_lt 0 n
 ]
 
 -- the last separator that what is sought isn't before is the last one that isn't above a key which stands for it
-pub child_there : (target : Target) (level : ℕ) (low : KeyBytes) (high : Option KeyBytes) (side : Option ℕ) (children : List (KeyBytes × ℕ)) (n : ℕ) (d : KeyBytes × ℕ) → IsInner level low high side children → T (lies_from target low) →
-    PartsChildren target children n → n ≤ length children → IsChildFor target children (get_or children (n - 1) d).1
-child_there target level low high side children n d rules from parts within = λ key agree.
+pub entry_there : (target : Target) (level : ℕ) (low : KeyBytes) (high : Option KeyBytes) (side : Option ℕ) (children : List (KeyBytes × ℕ)) (n : ℕ) (d : KeyBytes × ℕ) → IsInner level low high side children → T (lies_from target low) →
+    PartsChildren target children n → n ≤ length children → IsEntryFor target children (get_or children (n - 1) d)
+entry_there target level low high side children n d rules from parts within = λ key agree.
     let x = get_or children (n - 1) d in
     let some = some_there target low children n rules.begins from parts within in
     let at : n - 1 < length children = omega arith in
     let named : Contains children x = (n - 1, at, get_or_default children (n - 1) x d at) in
     record {
-      separator = x.0;
       named = named;
       not_above = true_holds _ (sym (agree x named) ∙ parts.0 (n - 1) d (omega arith) (omega arith));
       greatest = λ e has upto. greatest key agree e has.0 has.1 has.2 upto;
@@ -96,3 +95,8 @@ child_there target level low high side children n d rules from parts within = λ
       ]
       | inr behind ↦ absurd (different (sym (agree e (i, lt, is) ∙ holds _ upto) ∙ (sym (ap (λ (y : KeyBytes × ℕ). lies_from target y.0) is) ∙ parts.1 i e behind lt)))
     ]
+
+pub entry_child : (target : Target) (children : List (KeyBytes × ℕ)) (e : KeyBytes × ℕ) → IsEntryFor target children e → IsChildFor target children e.1
+entry_child target children e entry = λ key agree.
+    let last = entry key agree in
+    record { separator = e.0; named = last.named; not_above = last.not_above; greatest = last.greatest }

@@ -8,7 +8,7 @@ use Rattle.bw_page.specs.Inners.{IsLastUpto}
 use Rattle.bw_page.proofs.Truths.{holds}
 use Rattle.bw_page.proofs.KeyLemmas.{below_upto, upto_below}
 use Rattle.bw_delta.proofs.Filters.{kept, was_there}
-use Rattle.bw_delta.specs.declared.deltas.Delta.TheVariants.{Split}
+use Rattle.bw_delta.specs.declared.deltas.Delta.TheVariants.{Split, AddChild}
 use Rattle.bw_chain.specs.declared.turn.Turn.{Turn}
 use Rattle.bw_chain.specs.declared.turn.Turn.TheVariants.{Here, Right, Down, Left}
 use Rattle.bw_chain.specs.declared.target.Target.{Target}
@@ -16,7 +16,7 @@ use Rattle.bw_chain.specs.Slots.{Slot, PageState, Body, Pairs, Children, Free, G
 use Rattle.bw_chain.specs.Chains.{Bases, change, body_below, below}
 use Rattle.bw_chain.specs.Scans.{high_of}
 use Rattle.bw_chain.specs.Turns.{IsTurn, IsWithin, slot_without_writes, body_without_writes}
-use Rattle.bw_chain.specs.Targets.{IsTurnFor, IsWithinFor, SeparatorsAgree, StandsFor, StandsOn, is_upto, lies_from, lies_past}
+use Rattle.bw_chain.specs.Targets.{IsLinked, IsTurnFor, IsWithinFor, SeparatorsAgree, StandsFor, StandsOn, is_upto, lies_from, lies_past}
 use Rattle.bw_chain.proofs.TargetLemmas.{holds_not, lies_no_more}
 
 different : false ≡ true → ⊥
@@ -159,6 +159,12 @@ stays_split target bases (Live s) sep to t inside within = λ key stands.
 pub passes_split : (target : Target) (bases : Bases) (slot : Slot) (s : PageState) (sep : KeyBytes) (to q : ℕ) → slot ≡ Live s → lies_from target sep ≡ true → Some to ≡ Some q → IsTurnFor target (change bases (Split sep to) slot) (Right q)
 passes_split target bases slot s sep to q is past side =
     subst (λ (o : Slot). IsTurnFor target (change bases (Split sep to) o) (Right q)) (sym is) (λ key stands. (holds_not _ (sym stands.end ∙ past), side))
+
+-- a page that was given a child is linked as it was
+pub linked_before : (bases : Bases) (sep : KeyBytes) (child : ℕ) (slot : Slot) → IsLinked (change bases (AddChild sep child) slot) → IsLinked slot
+linked_before bases sep child Free h = h
+linked_before bases sep child (Gone l) h = h
+linked_before bases sep child (Live s) h = h
 
 -- what is known where there is no right neighbour to go on at, or one
 pub none_there : {X : Type 0} (P : Type 0) (Q : X → Type 0) (o m : Option X) → m ≡ None → m ≡ o → MatchOption o P Q → P

@@ -124,14 +124,14 @@ slot_of_word bases records word =
     changed bases (deltas_at records way) (based (slice_get bases base))
 
 -- A chain is some writes, then at most one other change, then a base page. No call makes another change than a write
--- yet; a split is read already.
+-- yet; a split and an added child are read already.
 abbrev pub IsShaped : List Delta → Type 0
 IsShaped [] = Unit {0}
 IsShaped (Put w ∷ ds) = IsShaped ds
 IsShaped (Split k to ∷ ds) = ds ≡ []
 IsShaped (Absorb k base high side ∷ ds) = ⊥
 IsShaped (Removed left ∷ ds) = ⊥
-IsShaped (AddChild k child ∷ ds) = ⊥
+IsShaped (AddChild k child ∷ ds) = ds ≡ []
 IsShaped (DropChild k ∷ ds) = ⊥
 
 -- a word leads by links to a base page

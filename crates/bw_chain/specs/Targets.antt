@@ -6,7 +6,7 @@ use Rattle.std.specs.Option.{option_copied}
 use Rattle.std.specs.Ordering.{is_lt}
 use Rattle.bw_key.specs.Order.{KeyBytes, key_cmp}
 use Rattle.bw_model.specs.Contents.{is_below_end}
-use Rattle.bw_page.specs.Inners.{IsLastUpto}
+use Rattle.bw_page.specs.Inners.{IsLastUpto, IsUpto}
 use Rattle.bw_chain.specs.declared.target.Target.{Target}
 use Rattle.bw_chain.specs.declared.target.Target.TheVariants.{Home, Before}
 use Rattle.bw_chain.specs.declared.turn.Turn.{Turn}
@@ -83,6 +83,17 @@ IsPast target high side next =
 abbrev pub IsChildFor : Target → List (KeyBytes × ℕ) → ℕ → Type 0
 IsChildFor target children child =
     (key : KeyBytes) → SeparatorsAgree target key children → IsLastUpto key children child
+
+-- of the entries whose keys aren't above the given one, this one has the greatest
+pub record IsLastEntry (key : KeyBytes) (entries : List (KeyBytes × ℕ)) (entry : KeyBytes × ℕ) : Type 0 where
+  pub named : Contains entries entry
+  pub not_above : IsUpto entry.0 key
+  pub greatest : (e : KeyBytes × ℕ) → Contains entries e → IsUpto e.0 key → IsUpto e.0 entry.0
+
+-- the same child, with its separator
+abbrev pub IsEntryFor : Target → List (KeyBytes × ℕ) → KeyBytes × ℕ → Type 0
+IsEntryFor target children entry =
+    (key : KeyBytes) → SeparatorsAgree target key children → IsLastEntry key children entry
 
 -- below this place what is sought lies at each separator or behind it, and from there on before each
 abbrev pub PartsChildren : Target → List (KeyBytes × ℕ) → ℕ → Type 0

@@ -64,7 +64,7 @@ IsOther (Put w) = ⊥
 IsOther (Split k to) = Unit {0}
 IsOther (Absorb k base high side) = ⊥
 IsOther (Removed left) = ⊥
-IsOther (AddChild k child) = ⊥
+IsOther (AddChild k child) = Unit {0}
 IsOther (DropChild k) = ⊥
 
 abbrev pub IsNoWrite : Option (Bor Delta) → Type 0

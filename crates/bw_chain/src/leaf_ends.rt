@@ -49,6 +49,7 @@ fn leaf_end_over<'a>(
             }
             Some(Some(sep))
         }
+        Delta::AddChild { .. } => leaf_end_plain(base, target),
         _ => unreachable!(),
     }
 }

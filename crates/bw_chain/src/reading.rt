@@ -103,9 +103,9 @@ impl Chains {
         ensures side { result.1 ≡ side_of_slot (page_at self.now head) }
     {
         match self.under_writes(head) {
-            (Some(delta), _) => end_over(delta),
+            (Some(delta), Some(Page::Leaf(leaf))) => end_over(delta, leaf),
             (None, Some(Page::Leaf(leaf))) => (leaf.high(), leaf.side()),
-            (None, _) => unreachable!(),
+            (_, _) => unreachable!(),
         }
     }
 
@@ -127,12 +127,13 @@ impl Chains {
 }
 
 // Where the range of a changed leaf ends, and its right neighbour.
-fn end_over(delta: &Delta) -> (Option<&Key>, Option<PageId>)
+fn end_over<'a>(delta: &'a Delta, leaf: &'a Leaf) -> (Option<&'a Key>, Option<PageId>)
     requires { IsOther delta.now }
-    ensures { EndsLeaf delta.now (option_copied result.0) result.1 }
+    ensures { EndsLeaf delta.now leaf.now (option_copied result.0) result.1 }
 {
     match delta {
         Delta::Split { sep, to } => (Some(sep), Some(*to)),
+        Delta::AddChild { .. } => (leaf.high(), leaf.side()),
         _ => unreachable!(),
     }
 }

@@ -1,10 +1,10 @@
 // What a search is for.
 ghost use Rattle.std.specs.Prelude.{◌≡◌, ◌<◌, ◌≤◌, T, length, is_some};
 ghost use Rattle.std.specs.Option.{option_copied};
-ghost use Rattle.std.specs.FinMap.{is_sorted};
+ghost use Rattle.std.specs.FinMap.{is_sorted, put};
 ghost use Rattle.bw_key.specs.Order.{key_cmp};
 ghost use Rattle.bw_chain.specs.Searches.{IsFromPlace, IsPlaceFor, IsStretch};
-ghost use Rattle.bw_chain.specs.Targets.{IsChildFor, IsPast, PartsChildren, lies_from};
+ghost use Rattle.bw_chain.specs.Targets.{IsChildFor, IsEntryFor, IsPast, PartsChildren, lies_from};
 
 use bw_key::Key;
 use bw_model::is_below;
@@ -47,8 +47,29 @@ impl Target<'_> {
         requires { T (lies_from self inner.now.low) }
         ensures { IsChildFor self.entry inner.now.children result }
     {
+        self.last_entry(inner).1
+    }
+
+    /// The same where an inner page has a further child at a separator, in place of one that stands there. It takes at
+    /// most two key comparisons more.
+    pub(crate) fn child_with(self, inner: &Inner, sep: &Key, child: PageId) -> PageId
+        requires { T (lies_from self inner.now.low) }
+        ensures { IsChildFor self.entry (put key_cmp sep.now child inner.now.children) result }
+    {
+        let last = self.last_entry(inner);
+        if !self.lies_from(sep) || *sep < last.0 {
+            return last.1;
+        }
+        child
+    }
+
+    // The last separator that this isn't before, with its child.
+    fn last_entry<'i>(self, inner: &'i Inner) -> &'i (Key, PageId)
+        requires { T (lies_from self inner.now.low) }
+        ensures { IsEntryFor self.entry inner.now.children result.now }
+    {
         let children = inner.children();
-        children[self.count(children) - 1].1
+        &children[self.count(children) - 1]
     }
 
     /// The place of the child with the last separator that this isn't before, if there is one. The search goes on from a

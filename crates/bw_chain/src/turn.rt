@@ -2,10 +2,12 @@
 ghost use Rattle.bw_chain.specs.Chains.{Bases, IsChain, change, page_at, plain};
 ghost use Rattle.bw_chain.specs.Targets.{IsLinked, IsTurnFor, IsWithinFor, StartsFrom};
 ghost use Rattle.bw_chain.specs.Turns.{IsOther};
+ghost use Rattle.bw_delta.specs.declared.deltas.Delta.TheVariants.{AddChild, Split};
 
 use crate::chains::Chains;
 use crate::target::Target;
 use bw_delta::Delta;
+use bw_key::Key;
 use bw_page::{Page, PageId};
 
 /// Where a search goes on from a page.
@@ -41,20 +43,43 @@ impl Chains {
 // Where it goes on from a changed page.
 fn turn_over(delta: &Delta, base: &Page, target: Target<'_>) -> Turn
     requires starts { StartsFrom (plain base.now) target }
+    requires linked { (bases : Bases) → IsLinked (change bases delta.now (plain base.now)) }
     requires other { IsOther delta.now }
     ensures { (bases : Bases) → IsTurnFor target.entry (change bases delta.now (plain base.now)) result }
 {
     match delta {
-        Delta::Split { sep, to } => {
-            if !target.lies_from(sep) {
-                return turn_within(base, target);
-            }
-            match base {
-                Page::Gone(left) => Turn::Left(*left),
-                _ => Turn::Right(*to),
-            }
-        }
+        Delta::Split { sep, to } => turn_split(sep, *to, base, target),
+        Delta::AddChild { sep, child } => turn_with_child(sep, *child, base, target),
         _ => unreachable!(),
+    }
+}
+
+// Where it goes on from a page that was split.
+fn turn_split(sep: &Key, to: PageId, base: &Page, target: Target<'_>) -> Turn
+    requires { StartsFrom (plain base.now) target }
+    ensures { (bases : Bases) → IsTurnFor target.entry (change bases (Split sep.now to) (plain base.now)) result }
+{
+    if !target.lies_from(sep) {
+        return turn_within(base, target);
+    }
+    match base {
+        Page::Gone(left) => Turn::Left(*left),
+        _ => Turn::Right(to),
+    }
+}
+
+// Where it goes on from a page that was given a child, which changes an inner page alone.
+fn turn_with_child(sep: &Key, child: PageId, base: &Page, target: Target<'_>) -> Turn
+    requires starts { StartsFrom (plain base.now) target }
+    requires linked { IsLinked (plain base.now) }
+    ensures { (bases : Bases) → IsTurnFor target.entry (change bases (AddChild sep.now child) (plain base.now)) result }
+{
+    let Page::Inner(inner) = base else {
+        return turn_plain(base, target);
+    };
+    match target.past(inner.high(), inner.side()) {
+        Some(next) => Turn::Right(next),
+        None => Turn::Down(target.child_with(inner, sep, child)),
     }
 }
 

@@ -1,11 +1,18 @@
-use Rattle.std.proofs.Common.{sym, subst}
+use Rattle.std.proofs.Common.{[], sym, subst}
 use Rattle.bw_delta.specs.declared.deltas.Delta.{Delta}
 use Rattle.bw_chain.specs.Chains.{change, plain}
-use Rattle.bw_chain.specs.Targets.{IsTurnFor}
-use Rattle.bw_chain.proofs.TurnLemmas.{stays_split}
+use Rattle.bw_chain.specs.Targets.{IsLinked, IsTurnFor}
+use Rattle.bw_chain.proofs.TurnLemmas.{linked_before}
 use Rattle.bw_chain.proofs.turn.turn_over.Goals as goal
 
-pub returns-then-not-lies_from : goal.returns-then-not-lies_from
-returns-then-not-lies_from c = λ bases.
-    subst (λ (d : Delta). IsTurnFor c.args.target (change bases d (plain c.args.base.now)) c.turn_within.result) (sym c.in-Split.is)
-    (stays_split c.args.target bases (plain c.args.base.now) c.in-Split.sep c.in-Split.to c.turn_within.result (sym c.if-not-lies_from.ensures) c.turn_within.ensures)
+pub turn_with_child-requires-clause-linked : goal.turn_with_child-requires-clause-linked
+turn_with_child-requires-clause-linked c =
+    linked_before [] c.in-AddChild.sep c.in-AddChild.child (plain c.args.base.now) (subst (λ (d : Delta). IsLinked (change [] d (plain c.args.base.now))) c.in-AddChild.is (c.requires.linked []))
+
+pub returns-in-Split : goal.returns-in-Split
+returns-in-Split c = λ bases.
+    subst (λ (d : Delta). IsTurnFor c.args.target (change bases d (plain c.args.base.now)) c.turn_split.result) (sym c.in-Split.is) (c.turn_split.ensures bases)
+
+pub returns-in-AddChild : goal.returns-in-AddChild
+returns-in-AddChild c = λ bases.
+    subst (λ (d : Delta). IsTurnFor c.args.target (change bases d (plain c.args.base.now)) c.turn_with_child.result) (sym c.in-AddChild.is) (c.turn_with_child.ensures bases)

@@ -1,21 +1,5 @@
-use Rattle.std.proofs.Common.{ℕ, ◌≤◌, ◌-◌, length, List, get_or, subst, sym}
-use Rattle.bw_key.specs.Order.{KeyBytes}
-use Rattle.bw_chain.specs.Targets.{IsChildFor, PartsChildren}
-use Rattle.bw_chain.proofs.TargetLemmas.{child_there, some_there}
+use Rattle.bw_chain.proofs.TargetLemmas.{entry_child}
 use Rattle.bw_chain.proofs.target.Target.child.Goals as goal
 
-pub overflow_sub-result : goal.overflow_sub-result
-overflow_sub-result c =
-    let same = c.children-children.ensures.value in
-    some_there c.args.self c.args.inner.now.low c.args.inner.now.children c.count.result c.children-children.ensures.rules.begins c.requires
-    (subst (λ (l : List (KeyBytes × ℕ)). PartsChildren c.args.self l c.count.result) same c.count.ensures.parts)
-    (subst (λ (l : List (KeyBytes × ℕ)). c.count.result ≤ length l) same c.count.ensures.bound)
-
 pub returns : goal.returns
-returns c =
-    let inner = c.args.inner.now in
-    let same = c.children-children.ensures.value in
-    subst (λ (l : List (KeyBytes × ℕ)). IsChildFor c.args.self inner.children (get_or l (c.count.result - 1) c.index-children-count.result).1) (sym same)
-    (child_there c.args.self inner.level inner.low inner.high inner.side inner.children c.count.result c.index-children-count.result c.children-children.ensures.rules c.requires
-    (subst (λ (l : List (KeyBytes × ℕ)). PartsChildren c.args.self l c.count.result) same c.count.ensures.parts)
-    (subst (λ (l : List (KeyBytes × ℕ)). c.count.result ≤ length l) same c.count.ensures.bound))
+returns c = entry_child c.args.self c.args.inner.now.children c.last_entry.result.now c.last_entry.ensures
