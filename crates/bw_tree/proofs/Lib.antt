@@ -19,3 +19,4 @@ pub mod StagedLemmas
 pub mod FoldLemmas
 pub mod RoutingLemmas
 pub mod ConsolidationLemmas
+pub mod RestartLemmas

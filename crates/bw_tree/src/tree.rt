@@ -16,6 +16,7 @@ mod batch;
 mod consolidation;
 mod folding;
 mod reading;
+mod restart;
 mod search;
 
 /// Pages, named by identifiers, whose present states are chains of delta records over base pages.
