@@ -20,3 +20,4 @@ pub mod FoldLemmas
 pub mod RoutingLemmas
 pub mod ConsolidationLemmas
 pub mod RestartLemmas
+pub mod RebaseLemmas
