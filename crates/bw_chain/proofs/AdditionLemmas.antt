@@ -86,7 +86,7 @@ only_base (Put w ∷ ds) e b shaped has = only_base ds e b shaped has
 only_base (Split k to ∷ ds) e b shaped has = sym (only (subst (λ (l : List Delta). Contains (supports_of l e) b) shaped has))
 only_base (Absorb k base high side ∷ ds) e b shaped has = absurd shaped
 only_base (Removed left ∷ ds) e b shaped has = absurd shaped
-only_base (AddChild k child ∷ ds) e b shaped has = absurd shaped
+only_base (AddChild k child ∷ ds) e b shaped has = sym (only (subst (λ (l : List Delta). Contains (supports_of l e) b) shaped has))
 only_base (DropChild k ∷ ds) e b shaped has = absurd shaped
 
 rests_within : (bases : Bases) (records : Records) (word b : ℕ) → Ends bases records word → Contains (supports_at records word) b → b < length bases

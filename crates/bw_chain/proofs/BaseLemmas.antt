@@ -1,15 +1,17 @@
 -- One base page takes the place of another.
-use Rattle.std.proofs.Common.{inl, inr, ◌⊎◌, set, ◌≡◌, ℕ, zero, suc, ◌<◌, ◌^◌, List, [], ◌∷◌, length, Some, None, refl, sym, ap, ◌∙◌, subst, arith}
+use Rattle.std.proofs.Common.{inl, inr, ◌⊎◌, set, ◌≡◌, ℕ, zero, suc, ◌<◌, ◌^◌, List, [], ◌∷◌, length, map, Some, None, refl, sym, ap, ◌∙◌, subst, arith}
 use Rattle.std.proofs.lemmas.Bool.{cases_eq}
 use Rattle.std.specs.List.{Contains}
 use Rattle.std.specs.Prelude.{slice_get}
 use Rattle.bw_page.specs.declared.pages.Page.{Page}
 use Rattle.bw_delta.specs.declared.deltas.Delta.{Delta}
 use Rattle.bw_delta.specs.declared.deltas.Delta.TheVariants.{Put, Split, Absorb, Removed, AddChild, DropChild}
-use Rattle.bw_chain.specs.Chains.{AllEnd, Bases, Records, Ends, EndsAt, IsShaped, based, deltas_at, link_of, plain, slot_of_word}
+use Rattle.bw_chain.specs.Chains.{AllEnd, Bases, Records, Ends, EndsAt, IsShaped, based, deltas_at, link_of, plain, slot_of_word, slots_of}
+use Rattle.bw_chain.specs.Slots.{Slot}
 use Rattle.bw_chain.specs.Supports.{OwnBases, base_under, supports_at, supports_of}
 use Rattle.bw_chain.specs.Walk.{Leads}
 use Rattle.bw_chain.proofs.ChainLemmas.{no_link, no_record, on_base}
+use Rattle.bw_chain.proofs.GrowthLemmas.{same_map}
 use Rattle.bw_chain.proofs.SupportLemmas.{base_within, page_kept, supports_of_way}
 use Rattle.bw_chain.proofs.WalkLemmas.{ended_is}
 
@@ -139,3 +141,24 @@ module _ (heads : List ℕ) (bases : Bases) (records : Records) (ends : AllEnd b
       let x = rested q v b at_q has_q in
       let y = rested r w b at_r has_r in
       own q r x.0 y.0 b x.1 y.1 (omega (arith, lt, set_length bases number (Some page))) x.2 y.2
+
+-- a list mapped in one way, and with one element changed in another way
+mapped_set : (f g : ℕ → Slot) (xs : List ℕ) (i n : ℕ) → ((j x : ℕ) → slice_get xs j ≡ Some x → (j ≡ i → ⊥) → g x ≡ f x) → ((x : ℕ) → slice_get xs i ≡ Some x → g n ≡ f x) → map g (set xs i n) ≡ map f xs
+mapped_set f g [] i n others here = refl
+mapped_set f g (x ∷ xs) zero n others here =
+    ap (λ (s : Slot). s ∷ map g xs) (here x refl)
+    ∙ ap (λ (l : List Slot). f x ∷ l) (same_map f g xs (λ j y at. others (suc j) y at (λ e. omega (arith, e))))
+mapped_set f g (x ∷ xs) (suc i) n others here =
+    ap (λ (s : Slot). s ∷ map g (set xs i n)) (others 0 x refl (λ e. omega (arith, e)))
+    ∙ ap (λ (l : List Slot). f x ∷ l) (mapped_set f g xs i n (λ j y at other. others (suc j) y at (λ e. other (omega (arith, e)))) here)
+
+-- where the chain makes the same of its page, all pages stay as they are
+pub same_slots : (heads : List ℕ) (bases : Bases) (records : Records) → AllEnd bases records heads → OwnBases heads bases records → (p word : ℕ) → slice_get heads p ≡ Some word → (page : Page) → slot_of_word bases records word ≡ plain page →
+    slots_of (set heads p (base_under records word)) (set bases (base_under records word) (Some page)) records ≡ slots_of heads bases records
+same_slots heads bases records ends own p word at page made =
+    mapped_set (slot_of_word bases records) (slot_of_word (set bases (base_under records word) (Some page)) records) heads p (base_under records word)
+    (others_kept heads bases records ends own p word at page)
+    (λ x at_p. put_there heads bases records ends own p word at page ∙ sym made ∙ ap (slot_of_word bases records) (one (sym at ∙ at_p)))
+  where
+    one : {x y : ℕ} → Some x ≡ Some y → x ≡ y
+    one e = cc

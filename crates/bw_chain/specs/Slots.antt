@@ -1,5 +1,5 @@
 -- The present state of each page: what its chain makes of its base page.
-use Rattle.std.specs.Prelude.{ℕ, Bool, true, false, T, List, [], Option, Some, None, slice_index_or}
+use Rattle.std.specs.Prelude.{◌≡◌, ℕ, Bool, true, false, T, List, [], Option, Some, None, slice_index_or}
 use Rattle.std.specs.List.{list_all}
 use Rattle.bw_key.specs.Order.{KeyBytes}
 use Rattle.bw_model.specs.Contents.{is_in_range}
@@ -86,3 +86,9 @@ IsSoundBody low high side (Children level children) = IsInner level low high sid
 
 abbrev pub IsSoundPage : PageState → Type 0
 IsSoundPage s = IsSoundBody s.low s.high s.side s.body
+
+-- an inner page that is sound
+abbrev pub IsSoundInner : Slot → Type 0
+IsSoundInner (Live s) = (body_is_leaf s.body ≡ false) × IsSoundPage s
+IsSoundInner (Gone l) = ⊥
+IsSoundInner Free = ⊥

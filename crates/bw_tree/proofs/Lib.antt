@@ -20,3 +20,5 @@ pub mod FoldLemmas
 pub mod RoutingLemmas
 pub mod ConsolidationLemmas
 pub mod SplitLemmas
+pub mod RestartLemmas
+pub mod RebaseLemmas

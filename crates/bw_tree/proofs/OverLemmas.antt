@@ -72,7 +72,7 @@ over_tree stamp bases levels small lawful none few =
     }
 
 -- without writes the map is the same as of every stamp
-unwritten : (start : Contents ValueBytes) (as_of : ℕ) → contents_as_of start [] as_of ≡ start
+pub unwritten : (start : Contents ValueBytes) (as_of : ℕ) → contents_as_of start [] as_of ≡ start
 unfolding contents_as_of
 unwritten start zero = refl
 unwritten start (suc as_of) = unwritten start as_of

@@ -37,7 +37,7 @@ pub record PageAt (tree : TreeView) (heads : List ℕ) (bases : Bases) (records 
   pub slot : slot_at tree.slots p ≡ slot_of_word bases records head
   pub ends : Ends bases records head
 
-at_head : (heads : List ℕ) (bases : Bases) (records : Records) (root next bound : ℕ) (staged : Option StageWords) (tree : TreeView) (p head : ℕ) → view_of heads bases records root next staged ≡ tree → IsStanding heads bases records root bound → p < length heads → head ≡ get_or heads p head → PageAt tree heads bases records p head
+pub at_head : (heads : List ℕ) (bases : Bases) (records : Records) (root next bound : ℕ) (staged : Option StageWords) (tree : TreeView) (p head : ℕ) → view_of heads bases records root next staged ≡ tree → IsStanding heads bases records root bound → p < length heads → head ≡ get_or heads p head → PageAt tree heads bases records p head
 at_head heads bases records root next bound staged tree p head is t there read = record {
   there = there;
   slot = ap (λ (v : TreeView). slot_at v.slots p) (sym is) ∙ slot_of_head bases records heads p head there ∙ ap (slot_of_word bases records) (sym read);

@@ -16,6 +16,7 @@ mod batch;
 mod consolidation;
 mod folding;
 mod reading;
+mod restart;
 mod search;
 mod splits;
 

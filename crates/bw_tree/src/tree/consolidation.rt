@@ -1,5 +1,5 @@
-// Consolidation of one leaf in its place.
-ghost use Rattle.std.specs.Prelude.{◌≡◌, None, OnOk, OnErr};
+// Consolidation of one page in its place.
+ghost use Rattle.std.specs.Prelude.{◌≡◌, ◌<◌, None, length, OnOk, OnErr};
 ghost use Rattle.std.specs.List.{Contains};
 
 use super::Tree;
@@ -8,8 +8,9 @@ use bw_page::{Leaf, Page, PageId};
 
 impl Tree {
     ghost use Rattle.bw_chain.specs.Levels.{row};
-    ghost use Rattle.bw_chain.specs.Slots.{side_of};
-    ghost use Rattle.bw_tree.specs.Consolidation.{IsConsolidated};
+    ghost use Rattle.bw_chain.specs.Chains.{plain};
+    ghost use Rattle.bw_chain.specs.Slots.{side_of, slot_at};
+    ghost use Rattle.bw_tree.specs.Consolidation.{IsConsolidated, IsInnerPage, IsRebased};
     ghost use Rattle.bw_tree.specs.Folding.{folded_leaf};
 
     /// Consolidates a leaf: what its writes make of its base page, as of the next stamp, takes the place of that page (ICDE
@@ -38,5 +39,30 @@ impl Tree {
     {
         let head = self.heads[page.0 as usize];
         self.heads[page.0 as usize] = self.chains.replace_base(head, Page::Leaf(leaf));
+    }
+    /// Consolidates an inner page: what its chain makes of its base page takes the place of that page, so that the page has
+    /// no record any more. No batch is staged.
+    ///
+    /// It costs a walk along the chain and a copy of the page's children. After `Memory` the tree is as before.
+    pub fn consolidate_inner(&mut self, page: PageId) -> Result<(), Memory>
+        requires none { self.old.staged ≡ None }
+        requires inner { IsInnerPage self.old page }
+        ensures ok { OnOk result (IsRebased self.old self.new page) }
+        ensures err { OnErr result (self.new ≡ self.old) }
+    {
+        let inner = self.chains.inner_page(self.heads[page.0 as usize])?;
+        self.rebase(page, Page::Inner(inner));
+        Ok(())
+    }
+
+    // Puts a page that is what a chain makes in the place of the chain.
+    fn rebase(&mut self, page: PageId, state: Page)
+        requires none { self.old.staged ≡ None }
+        requires there { page < length self.old.heads }
+        requires same { slot_at self.old.slots page ≡ plain state }
+        ensures { IsRebased self.old self.new page }
+    {
+        let number = self.chains.replace_base(self.heads[page.0 as usize], state);
+        self.heads[page.0 as usize] = number;
     }
 }

@@ -1,0 +1,114 @@
+-- A page takes the place of the chain that makes the same.
+use Rattle.std.proofs.Common.{set, ◌≡◌, ℕ, ◌<◌, ◌^◌, false, List, length, get_or, Option, Some, None, refl, sym, ap, ◌∙◌, subst, arith}
+use Rattle.std.proofs.lemmas.Option.{slice_get-get_or}
+use Rattle.std.proofs.lemmas.List.{get_or-set_same, length-set}
+use Rattle.std.specs.List.{AllByRecursion}
+use Rattle.std.specs.Prelude.{slice_get, slice_index}
+use Rattle.bw_page.specs.declared.pages.Page.{Page}
+use Rattle.bw_delta.specs.History.{HasDistinctStamps}
+use Rattle.bw_chain.specs.Chains.{Bases, Records, Ends, plain, slot_of_word, slots_of}
+use Rattle.bw_chain.specs.Levels.{AreLevels, row, levels_under}
+use Rattle.bw_chain.specs.Slots.{Slot, Body, Pairs, Children, IsSoundInner, body_is_leaf, level_of, slot_at}
+use Rattle.bw_chain.specs.Supports.{base_under}
+use Rattle.bw_chain.proofs.BaseLemmas.{all_end, low, own_after, same_slots}
+use Rattle.bw_chain.proofs.ReadingLemmas.{slot_of_head}
+use Rattle.bw_chain.proofs.RowLemmas.{in_row}
+use Rattle.bw_tree.specs.Consolidation.{IsInnerPage, IsRebased}
+use Rattle.bw_tree.specs.Trees.{IsStanding, IsTree, StageWords, leaf_writes, view_of}
+use Rattle.bw_tree.specs.View.{StageView, TreeView}
+use Rattle.bw_tree.proofs.RoutingLemmas.{at_head, page_at_head}
+
+-- an inner page of a tree is sound
+pub inner_sound : (tree : TreeView) (root p : ℕ) → AreLevels tree.slots root tree.levels → IsInnerPage tree p → IsSoundInner (slot_at tree.slots p)
+inner_sound tree root p lawful inner =
+    let on = inner.in_levels in
+    let st = (in_row tree.slots on.level _ (row tree.levels on.level) on.in_level.0 p (lawful.rows on.level on.within) on.in_level.1 on.in_level.2).stands in
+    subst IsSoundInner (sym st.is) (above st.state.body st.at_level, st.sound)
+  where
+    above : (b : Body) → level_of b ≡ inner.in_levels.level → body_is_leaf b ≡ false
+    above (Pairs pairs writes) level = absurd (omega (arith, level, inner.raised))
+    above (Children n children) level = refl
+
+-- so is what its mapping word leads to
+pub sound_there : (heads : List ℕ) (bases : Bases) (records : Records) (root next bound : ℕ) (staged : Option StageWords) (tree : TreeView) (p head : ℕ) → view_of heads bases records root next staged ≡ tree → IsStanding heads bases records root bound → IsInnerPage tree p → head ≡ get_or heads p head → IsSoundInner (slot_of_word bases records head)
+sound_there heads bases records root next bound staged tree p head is t inner read =
+    let lawful : AreLevels tree.slots root tree.levels = subst (λ (v : TreeView). AreLevels v.slots root v.levels) is t.lawful in
+    subst IsSoundInner (page_at_head heads bases records root next bound staged tree p head is t inner.in_levels read).slot (inner_sound tree root p lawful inner)
+
+module _ (heads : List ℕ) (bases : Bases) (records : Records) (root next : ℕ) (t : IsStanding heads bases records root next) (p : ℕ) (within : p < length heads) (page : Page) (made : slot_at (slots_of heads bases records) p ≡ plain page) where
+  abbrev word : ℕ
+  word = slice_index heads p
+
+  at_p : slice_get heads p ≡ Some word
+  at_p = slice_get-get_or heads p 0 within
+
+  abbrev base : ℕ
+  base = base_under records word
+
+  abbrev heads' : List ℕ
+  heads' = set heads p base
+
+  abbrev bases' : Bases
+  bases' = set bases base (Some page)
+
+  kept : slots_of heads' bases' records ≡ slots_of heads bases records
+  kept = same_slots heads bases records t.ends t.own p word at_p page (sym (slot_of_head bases records heads p 0 within) ∙ made)
+
+  standing : IsStanding heads' bases' records root next
+  standing = record {
+    ends = all_end heads bases records t.ends t.own p word at_p page;
+    own = own_after heads bases records t.ends t.own p word at_p page;
+    lawful = subst (λ (s : List Slot). AreLevels s root (levels_under s root)) (sym kept) t.lawful;
+    distinct = subst (λ (s : List Slot). HasDistinctStamps (leaf_writes s root)) (sym kept) t.distinct;
+    past = subst (λ (s : List Slot). AllByRecursion (λ w. w.stamp < next) (leaf_writes s root)) (sym kept) t.past;
+    fits = t.fits;
+    few_records = t.few_records;
+    few_pages = omega (arith, t.few_pages, length-set heads p base);
+    few_bases = omega (arith, t.few_bases, length-set bases base (Some page));
+  }
+
+  abbrev viewed : List Slot → List ℕ → TreeView
+  viewed slots words = record { slots = slots; root = root; levels = levels_under slots root; heads = words; records = length records; next = next; staged = None }
+
+  placed : slice_index heads' p ≡ base
+  placed = get_or-set_same heads p base 0 within
+
+  rebased : IsRebased (view_of heads bases records root next None) (view_of heads' bases' records root next None) p
+  rebased = record {
+    view = ap (λ (s : List Slot). viewed s heads') kept ∙ ap (λ n. viewed (slots_of heads bases records) (set heads p n)) (sym placed);
+    plain = subst (λ n. n < 2 ^ 32) (sym placed) (low heads bases records t.ends t.own p word at_p page);
+  }
+
+-- a page has a mapping word
+pub heads_there : (heads : List ℕ) (bases : Bases) (records : Records) (root next : ℕ) (staged : Option StageWords) (tree : TreeView) (p : ℕ) → view_of heads bases records root next staged ≡ tree → p < length tree.heads → p < length heads
+heads_there heads bases records root next staged tree p is there = subst (λ (v : TreeView). p < length v.heads) (sym is) there
+
+pub ends_there : (heads : List ℕ) (bases : Bases) (records : Records) (root next bound : ℕ) (staged : Option StageWords) (tree : TreeView) (p head : ℕ) → view_of heads bases records root next staged ≡ tree → IsStanding heads bases records root bound → p < length tree.heads → head ≡ get_or heads p head → Ends bases records head
+ends_there heads bases records root next bound staged tree p head is t there read =
+    (at_head heads bases records root next bound staged tree p head is t (heads_there heads bases records root next staged tree p is there) read).ends
+
+-- so does a tree that was given the page in the place of the base page
+pub rebased_on : (heads : List ℕ) (bases : Bases) (records : Records) (root next : ℕ) (staged : Option StageWords) (tree : TreeView) (p : ℕ) (page : Page) → IsTree heads bases records root next staged → view_of heads bases records root next staged ≡ tree → tree.staged ≡ None → p < length tree.heads → slot_at tree.slots p ≡ plain page →
+    (heads' : List ℕ) (bases' : Bases) (records' : Records) (base : ℕ) → base ≡ base_under records (slice_index heads p) → heads' ≡ set heads p base → bases' ≡ set bases base (Some page) → records' ≡ records →
+    IsTree heads' bases' records' root next staged × IsRebased tree (view_of heads' bases' records' root next staged) p
+rebased_on heads bases records root next None tree p page t is none within made heads' bases' records' base based placed put same =
+    let here : p < length heads = subst (λ (v : TreeView). p < length v.heads) (sym is) within in
+    let made_here : slot_at (slots_of heads bases records) p ≡ plain page = ap (λ (v : TreeView). slot_at v.slots p) is ∙ made in
+    subst (λ (r : Records). IsMade heads' bases' r) (sym same)
+    (subst (λ (b : Bases). IsMade heads' b records) (sym put)
+    (subst (λ (h : List ℕ). IsMade h (set bases base (Some page)) records) (sym placed)
+    (subst (λ n. IsMade (set heads p n) (set bases n (Some page)) records) (sym based)
+    ((
+      record { now = standing heads bases records root next t.now p here page made_here; stage = tt },
+      subst (λ (v : TreeView). IsRebased v (view_of (set heads p under) (set bases under (Some page)) records root next None) p) is (rebased heads bases records root next t.now p here page made_here),
+    )))))
+  where
+    under : ℕ
+    under = base_under records (slice_index heads p)
+
+    IsMade : List ℕ → Bases → Records → Type 0
+    IsMade h b r = IsTree h b r root next None × IsRebased tree (view_of h b r root next None) p
+rebased_on heads bases records root next (Some stage) tree p page t is none within made heads' bases' records' base based placed put same = absurd (unstaged (ap (λ (v : TreeView). v.staged) is ∙ none))
+  where
+    unstaged : {s : StageView} → Some s ≡ None → ⊥
+    unstaged e = cc
