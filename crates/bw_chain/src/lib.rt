@@ -12,6 +12,7 @@ mod inners;
 mod laws;
 mod leaf_chain;
 mod leaf_ends;
+mod levels;
 mod reading;
 mod records;
 mod target;
