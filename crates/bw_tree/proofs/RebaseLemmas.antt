@@ -13,7 +13,8 @@ use Rattle.bw_chain.specs.Supports.{base_under}
 use Rattle.bw_chain.proofs.BaseLemmas.{all_end, low, own_after, same_slots}
 use Rattle.bw_chain.proofs.ReadingLemmas.{slot_of_head}
 use Rattle.bw_chain.proofs.RowLemmas.{in_row}
-use Rattle.bw_tree.specs.Consolidation.{IsInnerPage, IsRebased}
+use Rattle.bw_tree.specs.Consolidation.{IsRebased}
+use Rattle.bw_tree.specs.Routing.{IsInnerPage}
 use Rattle.bw_tree.specs.Trees.{IsStanding, IsTree, StageWords, leaf_writes, view_of}
 use Rattle.bw_tree.specs.View.{StageView, TreeView}
 use Rattle.bw_tree.proofs.RoutingLemmas.{at_head, page_at_head}
