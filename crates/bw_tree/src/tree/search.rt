@@ -7,7 +7,7 @@ ghost use Rattle.bw_chain.specs.Levels.{IsHome};
 ghost use Rattle.bw_chain.specs.Before.{IsBefore};
 ghost use Rattle.bw_chain.specs.Searches.{IsInLevels, IsSearching, plain_inner};
 ghost use Rattle.bw_chain.specs.Targets.{AreAtHome, IsLinked, IsTurnFor, StartsFrom, lies_from};
-ghost use Rattle.bw_tree.specs.Routing.{IsFoundEnd};
+ghost use Rattle.bw_tree.specs.Routing.{IsFoundEnd, IsInnerPage};
 
 use super::Tree;
 use bw_chain::{Target, Turn};
@@ -46,6 +46,14 @@ impl Tree {
         self.search(Target::Before(end))
     }
 
+    /// The inner page from which a search for a key goes down to the key's leaf, or none where the root is a leaf. It takes
+    /// no memory.
+    pub fn above(&self, key: &Key) -> Option<PageId>
+        ensures { IfSome result (IsInnerPage self.now) }
+    {
+        self.search_from(None, Target::Home(key)).above
+    }
+
     // The leaf that a search is for.
     fn search(&self, target: Target<'_>) -> PageId
         requires { T (lies_from target []) }
@@ -61,7 +69,7 @@ impl Tree {
         requires begins { IfSome start (IsSearching self.now.slots self.now.levels target) }
         ensures homes { AreAtHome self.now.slots self.now.levels target.entry result.leaf }
         ensures there { result.leaf < length self.now.heads }
-        ensures above { IfSome result.above (IsInLevels self.now.levels) }
+        ensures above { IfSome result.above (IsInnerPage self.now) }
     {
         let mut page = start.unwrap_or(self.root);
         let mut above = None;
