@@ -1,15 +1,18 @@
 -- The levels that a search passes.
-use Rattle.std.proofs.Common.{◌≡◌, ℕ, zero, suc, ◌-◌, ◌≤◌, true, false, T, List, [], length, Option, Some, None, refl, sym, ap, ◌∙◌, subst, arith}
+use Rattle.std.proofs.Common.{◌≡◌, ℕ, zero, suc, ◌-◌, ◌≤◌, true, false, T, List, [], length, Option, Some, None, is_some, refl, sym, ap, ◌∙◌, subst, arith}
 use Rattle.std.specs.List.{Contains}
 use Rattle.bw_key.specs.Order.{KeyBytes}
 use Rattle.bw_model.specs.Contents.{is_below_end}
 use Rattle.bw_chain.specs.Levels.{AreLevels, IsHomeAt, IsReached, LeadsBelow, row}
 use Rattle.bw_chain.specs.Searches.{Sought, level_at}
 use Rattle.bw_chain.specs.Slots.{Slot, PageState, Body, Pairs, Children, Free, Gone, Live, IsSoundBody, IsSoundPage, children_of, left_of, left_of_slot, level_of, slot_at, slot_level}
-use Rattle.bw_chain.specs.Turns.{IsTurn}
+use Rattle.bw_chain.specs.Targets.{IsLinked, StartsFrom, is_upto, lies_from}
+use Rattle.bw_chain.specs.Turns.{IsTurn, StartsUpto}
+use Rattle.bw_chain.specs.declared.target.Target.{Target}
 use Rattle.bw_chain.specs.Walk.{Leads}
 use Rattle.bw_chain.specs.declared.turn.Turn.TheVariants.{Here, Right, Down, Left}
-use Rattle.bw_chain.proofs.RouteLemmas.{level_there, left_bounded, no_left, reached_at, row_first, stands_on, way_step}
+use Rattle.bw_chain.proofs.RouteLemmas.{level_there, left_bounded, no_left, reached_at, row_first, sought_upto, stands_on, way_step}
+use Rattle.bw_chain.proofs.SearchLemmas.{linked_of}
 use Rattle.bw_chain.proofs.RowLemmas.{InRow, in_row}
 use Rattle.bw_chain.proofs.WalkLemmas.{ended_is, way_short}
 
@@ -149,3 +152,24 @@ module _ (slots : List Slot) (root : ℕ) (levels : List (List ℕ)) (lawful : A
       by Free is t = absurd t
       by (Gone l) is t = absurd t
       by (Live s) is t = live_level slots p s is
+
+  -- a page from which a search goes on has a right neighbour exactly where it has an end
+  pub sought_linked : (p : ℕ) → Sought slots levels key p → IsLinked (slot_at slots p)
+  sought_linked p h = by (slot_at slots p) refl
+    where
+      by : (o : Slot) → slot_at slots p ≡ o → IsLinked o
+      by Free is = tt
+      by (Gone l) is = tt
+      by (Live s) is =
+          let r = stands_on slots root levels lawful key p h s is in
+          let at = reached_at slots root levels lawful key h.level p r in
+          subst (λ (t : PageState). is_some t.side ≡ is_some t.high) (one_state (sym at.stands.is ∙ is)) (linked_of _ _ _ at.stands.state.body at.stands.sound)
+
+  -- and doesn't begin behind what is sought, if that is the key
+  pub sought_starts : (target : Target) → ((k : KeyBytes) → lies_from target k ≡ is_upto k key) → (p : ℕ) → Sought slots levels key p → StartsFrom (slot_at slots p) target
+  sought_starts target is p h = by (slot_at slots p) (sought_upto slots root levels lawful key p h)
+    where
+      by : (o : Slot) → StartsUpto o key → StartsFrom o target
+      by Free starts = starts
+      by (Gone l) starts = tt
+      by (Live s) starts = subst T (sym (is s.low)) starts
