@@ -7,4 +7,5 @@ mod pages;
 mod refused;
 mod routes;
 mod scans;
+mod splits;
 mod trees;
