@@ -1,5 +1,5 @@
 -- A page that parts in two leaves a lawful tree that holds the same.
-use Rattle.std.proofs.Common.{inl, inr, ◌⊎◌, set, ◌≡◌, ℕ, zero, suc, ◌<◌, Bool, true, false, cond, not, nat_eq, T, List, [], ◌∷◌, ◌++◌, length, take, drop, get_or, Option, Some, None, refl, sym, ap, ◌∙◌, subst, arith}
+use Rattle.std.proofs.Common.{inl, inr, ◌⊎◌, ◌≡◌, ℕ, zero, suc, ◌<◌, Bool, true, false, cond, not, nat_eq, T, List, [], ◌∷◌, ◌++◌, length, take, drop, Option, Some, None, refl, sym, ap, ◌∙◌, subst, arith}
 use Rattle.std.proofs.lemmas.Bool.{cases_eq}
 use Rattle.std.proofs.lemmas.Bool.Decides.{nat_tests}
 use Rattle.std.proofs.lemmas.List.{get_or-set_same, get_or-set_other, length-set}
@@ -18,12 +18,12 @@ use Rattle.bw_delta.specs.Batches.{writes_to}
 use Rattle.bw_delta.specs.History.{HasDistinctStamps, history, action_at}
 use Rattle.bw_delta.specs.Writes.{WriteView}
 use Rattle.bw_chain.specs.Chains.{body_below}
-use Rattle.bw_chain.specs.Laws.{KeepsAllParted, PartsAreKept}
+use Rattle.bw_chain.specs.Laws.{PartsAreKept}
 use Rattle.bw_chain.specs.Levels.{AreLevels, BeginsWith, FirstChild, IsHome, LeadsBelow, SideBySide, Stands, StartsWith, row}
 use Rattle.bw_chain.specs.Reading.{body_pairs, body_writes, contents_in, row_writes, value_in, writes_over}
-use Rattle.bw_chain.specs.Slots.{Slot, PageState, Body, Pairs, Children, Free, Gone, Live, IsSoundBody, IsSoundPage, children_of, left_of, left_of_slot, level_of, slot_at}
+use Rattle.bw_chain.specs.Slots.{Slot, PageState, Body, Pairs, Children, Free, Live, IsSoundBody, IsSoundPage, children_of, left_of, left_of_slot, level_of, slot_at}
 use Rattle.bw_chain.specs.Splits.{IsParted, entry_count, first_entries, left_part, level_parted, other_entries, put_behind, right_part, separator}
-use Rattle.bw_chain.specs.Steps.{IsTerm, KeepsLevels, WasTerm}
+use Rattle.bw_chain.specs.Steps.{IsTerm, KeepsLevels}
 use Rattle.bw_chain.specs.Walk.{Leads}
 use Rattle.bw_chain.proofs.CutLemmas.{below_first, find_first, find_other, lower_inner, lower_page}
 use Rattle.bw_chain.proofs.HomeLemmas.{one_home}
@@ -155,7 +155,7 @@ had p q r (x ∷ ps) has = by (nat_eq x p) refl has (had p q r ps)
     by false test (suc i, lt, is) more = later (more (i, omega arith, is))
 
 -- a way along a step that another one agrees with
-way_on : (f g : ℕ → Option ℕ) → ((p : ℕ) → g p ≡ f p) → (p : ℕ) (xs : List ℕ) (e : ℕ) → Leads f p xs e → Leads g p xs e
+pub way_on : (f g : ℕ → Option ℕ) → ((p : ℕ) → g p ≡ f p) → (p : ℕ) (xs : List ℕ) (e : ℕ) → Leads f p xs e → Leads g p xs e
 way_on f g same p [] e h = (h.0, same p ∙ h.1)
 way_on f g same p (x ∷ xs) e h = (h.0, (h.1.0, same p ∙ h.1.1, way_on f g same h.1.0 xs e h.1.2))
 
