@@ -27,3 +27,4 @@ pub mod AdditionLemmas
 pub mod CutLemmas
 pub mod SplitLemmas
 pub mod AboveLemmas
+pub mod RootLemmas

@@ -155,7 +155,7 @@ had p q r (x ∷ ps) has = by (nat_eq x p) refl has (had p q r ps)
     by false test (suc i, lt, is) more = later (more (i, omega arith, is))
 
 -- a way along a step that another one agrees with
-way_on : (f g : ℕ → Option ℕ) → ((p : ℕ) → g p ≡ f p) → (p : ℕ) (xs : List ℕ) (e : ℕ) → Leads f p xs e → Leads g p xs e
+pub way_on : (f g : ℕ → Option ℕ) → ((p : ℕ) → g p ≡ f p) → (p : ℕ) (xs : List ℕ) (e : ℕ) → Leads f p xs e → Leads g p xs e
 way_on f g same p [] e h = (h.0, same p ∙ h.1)
 way_on f g same p (x ∷ xs) e h = (h.0, (h.1.0, same p ∙ h.1.1, way_on f g same h.1.0 xs e h.1.2))
 

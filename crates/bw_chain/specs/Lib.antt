@@ -15,3 +15,4 @@ pub mod Supports
 pub mod Steps
 pub mod Laws
 pub mod Splits
+pub mod Roots

@@ -20,5 +20,6 @@ pub mod FoldLemmas
 pub mod RoutingLemmas
 pub mod ConsolidationLemmas
 pub mod SplitLemmas
+pub mod RootLemmas
 pub mod RestartLemmas
 pub mod RebaseLemmas

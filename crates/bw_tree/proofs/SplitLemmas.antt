@@ -1,5 +1,5 @@
 -- A split of a page leaves a tree that holds the same.
-use Rattle.std.proofs.Common.{set, get_or, ◌≡◌, ℕ, zero, suc, ◌+◌, ◌-◌, ◌<◌, ◌≤◌, ◌^◌, List, [], ◌∷◌, ◌++◌, length, Option, Some, None, refl, sym, ap, ◌∙◌, subst, arith, length-append}
+use Rattle.std.proofs.Common.{set, get_or, ◌≡◌, ℕ, zero, suc, ◌+◌, ◌-◌, ◌<◌, ◌^◌, List, [], ◌∷◌, ◌++◌, length, Option, Some, None, refl, sym, ap, ◌∙◌, subst, arith, length-append}
 use Rattle.std.proofs.lemmas.Option.{slice_get-get_or}
 use Rattle.std.proofs.lemmas.List.{get_or_default, length-map, length-set}
 use Rattle.std.specs.List.{AllByRecursion, Contains}
@@ -13,7 +13,7 @@ use Rattle.bw_delta.specs.declared.deltas.Delta.{Delta}
 use Rattle.bw_delta.specs.declared.deltas.Delta.TheVariants.{Split}
 use Rattle.bw_chain.specs.Chains.{AllEnd, Bases, Ends, Records, change, slot_of_word, slots_of}
 use Rattle.bw_chain.specs.Slots.{Slot, PageState, Body, Free, Live, slot_at}
-use Rattle.bw_chain.specs.Laws.{KeepsAllParted}
+use Rattle.bw_chain.specs.Laws.{KeepsAll}
 use Rattle.bw_chain.specs.Levels.{AreLevels, row, levels_under}
 use Rattle.bw_chain.specs.Reading.{body_writes, contents_in, row_writes, writes_over}
 use Rattle.bw_chain.specs.Splits.{IsParted, IsUpperHalf, entry_count, left_part, level_parted, right_part, separator, slot_entries, slot_right, slot_separator}
@@ -28,7 +28,7 @@ use Rattle.bw_chain.proofs.RowLemmas.{InRow, in_row}
 use Rattle.bw_chain.proofs.SplitLemmas.{below_is, parts_kept}
 use Rattle.bw_tree.specs.Splits.{IsSplit, IsSplittable}
 use Rattle.bw_tree.specs.Trees.{IsStanding, IsTree, StageWords, view_of}
-use Rattle.bw_tree.specs.View.{StageView, TreeView, contents_at}
+use Rattle.bw_tree.specs.View.{StageView, TreeView}
 use Rattle.bw_tree.proofs.AdoptLemmas.{slot_past}
 
 not_free : {s : PageState} → Free ≡ Live s → ⊥
@@ -133,7 +133,7 @@ module _ (heads : List ℕ) (bases : Bases) (records : Records) (root next : ℕ
         ∙ record_others heads bases records t.ends t.own p word at_p ok.plain delta refl r other;
   }
 
-  kept : (level : ℕ) → level < length old.levels → Contains (row old.levels level) p → KeepsAllParted old.slots new.slots root old.levels (level_parted old.levels level p q)
+  kept : (level : ℕ) → level < length old.levels → Contains (row old.levels level) p → KeepsAll old.slots new.slots root old.levels (level_parted old.levels level p q)
   kept level lt has = parts_kept old.slots new.slots root old.levels level p q keep t.lawful lt has parted
 
   same_levels : (level : ℕ) → level < length old.levels → Contains (row old.levels level) p → new.levels ≡ level_parted old.levels level p q
@@ -221,7 +221,7 @@ module _ (heads : List ℕ) (bases : Bases) (records : Records) (root next : ℕ
       let half_here : IsUpperHalf (slot_at (slots_of heads bases records) p) keep (key, right) = subst (λ (v : TreeView). IsUpperHalf (slot_at v.slots p) keep (key, right)) (sym is) half in (
         record { now = standing_new heads bases records root next t.now p keep ok_here key right half_here few_pages few_records few_bases; stage = tt },
         subst (λ (v : TreeView). IsSplit v (view_of (set heads p (2 ^ 32 + length records) ++ length bases ∷ []) (bases ++ Some right ∷ []) (records ++ (Split key (length heads), slice_index heads p) ∷ []) root next None) p keep (length heads)) is
-        (split_new heads bases records root next t.now p keep ok_here key right half_here few_pages few_records few_bases),
+            (split_new heads bases records root next t.now p keep ok_here key right half_here few_pages few_records few_bases),
       )
 
   made_on : (key : KeyBytes) (right : Page) → IsUpperHalf (slot_at tree.slots p) keep (key, right) → length heads < 2 ^ 32 → length records < 2 ^ 32 → length bases < 2 ^ 32 - 1 →

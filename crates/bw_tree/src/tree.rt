@@ -17,6 +17,7 @@ mod consolidation;
 mod folding;
 mod reading;
 mod restart;
+mod roots;
 mod search;
 mod splits;
 

@@ -33,7 +33,9 @@ impl Tree {
         }
         self.heads.reserve(1)?;
         let to = PageId(count as u32);
-        let (word, number) = self.chains.add_split(Delta::Split { sep, to }, head, right)?;
+        let (word, number) = self
+            .chains
+            .add_split(Delta::Split { sep, to }, head, right)?;
         self.heads[page.0 as usize] = word;
         self.heads.push(number).unwrap();
         Ok(to)

@@ -1,4 +1,4 @@
-use Rattle.std.proofs.Common.{◌≡◌, set, [], ◌∷◌, ◌++◌, List, length, ℕ, sym, ap, ◌∙◌, subst, get_or, arith}
+use Rattle.std.proofs.Common.{◌≡◌, set, [], ◌∷◌, ◌++◌, List, length, ℕ, ap, ◌∙◌, subst, get_or, arith}
 use Rattle.bw_chain.specs.Slots.{Slot}
 use Rattle.bw_chain.specs.Splits.{IsUpperHalf}
 use Rattle.bw_tree.specs.Splits.{IsSplit}
