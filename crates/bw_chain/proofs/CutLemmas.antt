@@ -10,7 +10,7 @@ use Rattle.bw_key.specs.Order.{KeyBytes, key_cmp}
 use Rattle.bw_model.specs.Contents.{is_below_end, is_pair_in_range}
 use Rattle.bw_page.specs.Inners.{IsInner}
 use Rattle.bw_page.specs.Pages.{IsPage, BeginsAt, first_key}
-use Rattle.bw_page.proofs.KeyLemmas.{below_back, below_self, below_upto, keys_tie, upto_below}
+use Rattle.bw_page.proofs.KeyLemmas.{below_back, below_self, keys_tie, upto_below}
 use Rattle.bw_page.proofs.Truths.{holds, true_holds, holds_not, left_of, right_of, both_of}
 use Rattle.bw_chain.specs.Chains.{below}
 

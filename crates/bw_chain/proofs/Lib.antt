@@ -26,3 +26,4 @@ pub mod BaseLemmas
 pub mod AdditionLemmas
 pub mod CutLemmas
 pub mod SplitLemmas
+pub mod EntryLemmas

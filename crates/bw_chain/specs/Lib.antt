@@ -13,5 +13,6 @@ pub mod Searches
 pub mod LeafEnds
 pub mod Supports
 pub mod Steps
+pub mod Children
 pub mod Laws
 pub mod Splits

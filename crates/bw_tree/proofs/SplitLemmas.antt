@@ -13,7 +13,7 @@ use Rattle.bw_delta.specs.declared.deltas.Delta.{Delta}
 use Rattle.bw_delta.specs.declared.deltas.Delta.TheVariants.{Split}
 use Rattle.bw_chain.specs.Chains.{AllEnd, Bases, Ends, Records, change, slot_of_word, slots_of}
 use Rattle.bw_chain.specs.Slots.{Slot, PageState, Body, Free, Live, slot_at}
-use Rattle.bw_chain.specs.Laws.{KeepsAllParted}
+use Rattle.bw_chain.specs.Laws.{KeepsAll}
 use Rattle.bw_chain.specs.Levels.{AreLevels, row, levels_under}
 use Rattle.bw_chain.specs.Reading.{body_writes, contents_in, row_writes, writes_over}
 use Rattle.bw_chain.specs.Splits.{IsParted, IsUpperHalf, entry_count, left_part, level_parted, right_part, separator, slot_entries, slot_right, slot_separator}
@@ -133,7 +133,7 @@ module _ (heads : List ℕ) (bases : Bases) (records : Records) (root next : ℕ
         ∙ record_others heads bases records t.ends t.own p word at_p ok.plain delta refl r other;
   }
 
-  kept : (level : ℕ) → level < length old.levels → Contains (row old.levels level) p → KeepsAllParted old.slots new.slots root old.levels (level_parted old.levels level p q)
+  kept : (level : ℕ) → level < length old.levels → Contains (row old.levels level) p → KeepsAll old.slots new.slots root old.levels (level_parted old.levels level p q)
   kept level lt has = parts_kept old.slots new.slots root old.levels level p q keep t.lawful lt has parted
 
   same_levels : (level : ℕ) → level < length old.levels → Contains (row old.levels level) p → new.levels ≡ level_parted old.levels level p q

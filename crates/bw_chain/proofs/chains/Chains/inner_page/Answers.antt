@@ -1,6 +1,4 @@
-use Rattle.std.proofs.Common.{Option, sym, ap, ◌∙◌, subst}
-use Rattle.std.specs.Borrow.{Bor}
-use Rattle.bw_page.specs.declared.pages.Page.{Page}
+use Rattle.std.proofs.Common.{ap, ◌∙◌, subst}
 use Rattle.bw_chain.specs.Chains.{page_at, plain}
 use Rattle.bw_chain.specs.Searches.{plain_inner}
 use Rattle.bw_chain.specs.Slots.{IsSoundInner, Slot}
