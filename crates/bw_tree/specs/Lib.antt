@@ -22,3 +22,4 @@ pub use Rattle.bw_chain.specs.LeafEnds
 pub use Rattle.bw_chain.specs.Targets
 pub use Rattle.bw_chain.specs.Laws
 pub mod Splits
+pub mod Children
