@@ -1,13 +1,14 @@
 -- Trees whose pages are alike have the same levels.
-use Rattle.std.proofs.Common.{◌≡◌, ℕ, List, [], ◌∷◌, Option, Some, None, refl, sym, ap, ◌∙◌, subst}
+use Rattle.std.proofs.Common.{◌≡◌, ℕ, List, [], Option, refl, sym, ap, ◌∙◌, subst}
 use Rattle.std.specs.List.{Contains}
 use Rattle.bw_key.specs.Order.{KeyBytes}
 use Rattle.bw_page.specs.Inners.{IsUpto}
-use Rattle.bw_chain.specs.Walk.{Leads}
 use Rattle.bw_chain.specs.Slots.{Slot, PageState, Free, Gone, Live, slot_at, left_of, left_of_slot, children_of}
-use Rattle.bw_chain.specs.Levels.{Stands, SideBySide, AreLevels, StartsWith, LeadsBelow, row}
+use Rattle.bw_chain.specs.Levels.{Stands, AreLevels, StartsWith, LeadsBelow, row}
 use Rattle.bw_chain.specs.Laws.{LevelsAreAlike}
 use Rattle.bw_chain.specs.Steps.{AreAlike, IsAlike}
+use Rattle.bw_chain.proofs.RowLemmas.{row_on}
+use Rattle.bw_chain.proofs.WalkLemmas.{way_on}
 
 one_state : {s t : PageState} → Live s ≡ Live t → s ≡ t
 one_state e = cc
@@ -38,28 +39,19 @@ module _ (old new : List Slot) (over : (p : ℕ) → AreAlike (slot_at old p) (s
       let a = page p s.state s.is in
       record { state = a.state; is = a.is; sound = a.sound s.sound; at_level = a.level ∙ s.at_level; from_low = a.low ∙ s.from_low; to_high = a.high ∙ s.to_high; linked = a.side ∙ s.linked }
 
-  row_alike : (level : ℕ) (low : KeyBytes) (ps : List ℕ) → SideBySide old level low ps → SideBySide new level low ps
-  row_alike level low [] h = h
-  row_alike level low (p ∷ []) h = stands level low None None p h
-  row_alike level low (p ∷ q ∷ ps) h = (h.0, stands level low (Some h.0) (Some q) p h.1, row_alike level h.0 (q ∷ ps) h.2)
-
   left_alike : (p : ℕ) → left_of new p ≡ left_of old p
   left_alike p = left_same (slot_at old p) (slot_at new p) (over p)
-
-  way_alike : (p : ℕ) (xs : List ℕ) (e : ℕ) → Leads (left_of old) p xs e → Leads (left_of new) p xs e
-  way_alike p [] e h = (h.0, left_alike p ∙ h.1)
-  way_alike p (x ∷ xs) e h = (h.0, (h.1.0, left_alike p ∙ h.1.1, way_alike h.1.0 xs e h.1.2))
 
   below_alike : (below : List ℕ) (k : KeyBytes) (c : ℕ) → LeadsBelow old below k c → LeadsBelow new below k c
   below_alike below k c h =
       let a = page h.page h.state h.is in
-      record { removed = h.removed; page = h.page; way = way_alike c h.removed h.page h.way; in_level = h.in_level; state = a.state; is = a.is; from_low = subst (λ (z : KeyBytes). IsUpto z k) (sym a.low) h.from_low }
+      record { removed = h.removed; page = h.page; way = way_on (left_of old) (left_of new) left_alike c h.removed h.page h.way; in_level = h.in_level; state = a.state; is = a.is; from_low = subst (λ (z : KeyBytes). IsUpto z k) (sym a.low) h.from_low }
 
   levels_over : (root : ℕ) (levels : List (List ℕ)) → AreLevels old root levels → AreLevels new root levels
   levels_over root levels h = record {
     some = h.some;
     top = h.top;
-    rows = λ n within. row_alike n [] (row levels n) (h.rows n within);
+    rows = λ n within. row_on old new n (stands n) [] (row levels n) (h.rows n within);
     firsts = λ n p c within begins first.
         let a = was_live (slot_at old p) (slot_at new p) first.0 (over p) first.1 in
         h.firsts n p c within begins (a.0, a.1, (first.2.0, subst (λ cs. StartsWith cs first.2.0 c) a.2 first.2.1));

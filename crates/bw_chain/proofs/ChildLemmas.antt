@@ -49,7 +49,7 @@ put_keeps k v (e ∷ es) x (suc i, lt, at) = by (key_cmp k e.0) (i, omega (arith
     by Greater has rest = later rest
 
 -- and there are no others
-put_was : (k : KeyBytes) (v : ℕ) (es : List (KeyBytes × ℕ)) (x : KeyBytes × ℕ) → Contains (put key_cmp k v es) x → Contains es x ⊎ (x ≡ (k, v))
+pub put_was : (k : KeyBytes) (v : ℕ) (es : List (KeyBytes × ℕ)) (x : KeyBytes × ℕ) → Contains (put key_cmp k v es) x → Contains es x ⊎ (x ≡ (k, v))
 put_was k v [] x (zero, lt, at) = inr (sym at)
 put_was k v [] x (suc i, lt, at) = absurd (omega (arith, lt))
 put_was k v (e ∷ es) x has = by (key_cmp k e.0) refl has (put_was k v es x)

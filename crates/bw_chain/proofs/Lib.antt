@@ -28,3 +28,4 @@ pub mod CutLemmas
 pub mod SplitLemmas
 pub mod AboveLemmas
 pub mod RootLemmas
+pub mod EntryLemmas

@@ -19,7 +19,7 @@ use Rattle.bw_chain.specs.Slots.{Slot, PageState, Free, Live, children_of, left_
 use Rattle.bw_chain.proofs.LeafRowLemmas.{low_below}
 use Rattle.bw_chain.proofs.RouteLemmas.{row_first}
 use Rattle.bw_chain.proofs.RowLemmas.{first_stands, in_row}
-use Rattle.bw_chain.proofs.SplitLemmas.{way_on}
+use Rattle.bw_chain.proofs.WalkLemmas.{way_on}
 
 one_state : {s t : PageState} → Live s ≡ Live t → s ≡ t
 one_state e = cc

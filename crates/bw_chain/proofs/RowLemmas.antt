@@ -1,5 +1,6 @@
 -- Pages side by side.
 use Rattle.std.proofs.Common.{◌≡◌, ℕ, zero, suc, ◌<◌, List, [], ◌∷◌, ◌++◌, length, get_or, Option, Some, None, refl, ap, ◌∙◌, subst, arith}
+use Rattle.std.specs.Prelude.{flat_map}
 use Rattle.bw_key.specs.Order.{KeyBytes}
 use Rattle.bw_chain.specs.Walk.{Leads}
 use Rattle.bw_chain.specs.Slots.{Slot, side_of, side_of_slot}
@@ -30,6 +31,17 @@ no_side e = cc
 
 side_is : (slots : List Slot) (level : ℕ) (low : KeyBytes) (high : Option KeyBytes) (side : Option ℕ) (p : ℕ) → Stands slots level low high side p → side_of slots p ≡ side
 side_is slots level low high side p s = ap side_of_slot s.is ∙ s.linked
+
+-- pages that stand as they stood are side by side as they were
+pub row_on : (old new : List Slot) (level : ℕ) → ((low : KeyBytes) (high : Option KeyBytes) (side : Option ℕ) (p : ℕ) → Stands old level low high side p → Stands new level low high side p) → (low : KeyBytes) (ps : List ℕ) → SideBySide old level low ps → SideBySide new level low ps
+row_on old new level stands low [] h = h
+row_on old new level stands low (p ∷ []) h = stands low None None p h
+row_on old new level stands low (p ∷ q ∷ ps) h = (h.0, stands low (Some h.0) (Some q) p h.1, row_on old new level stands h.0 (q ∷ ps) h.2)
+
+-- what pages of a row have, where each has the same
+pub same_each : {X : Type 0} (f g : ℕ → List X) → ((p : ℕ) → g p ≡ f p) → (ps : List ℕ) → flat_map g ps ≡ flat_map f ps
+same_each f g same [] = refl
+same_each {X = X} f g same (p ∷ ps) = ap (λ (l : List X). l ++ flat_map g ps) (same p) ∙ ap (λ (l : List X). f p ++ l) (same_each f g same ps)
 
 -- a row is a way along side links
 pub row_way : (slots : List Slot) (level : ℕ) (low : KeyBytes) (p : ℕ) (ps : List ℕ) → SideBySide slots level low (p ∷ ps) → (xs : List ℕ) × ((e : ℕ) × Leads (side_of slots) p xs e × (p ∷ ps ≡ xs ++ e ∷ []))

@@ -24,12 +24,12 @@ use Rattle.bw_chain.specs.Reading.{body_pairs, body_writes, contents_in, row_wri
 use Rattle.bw_chain.specs.Slots.{Slot, PageState, Body, Pairs, Children, Free, Live, IsSoundBody, IsSoundPage, children_of, left_of, left_of_slot, level_of, slot_at}
 use Rattle.bw_chain.specs.Splits.{IsParted, entry_count, first_entries, left_part, level_parted, other_entries, put_behind, right_part, separator}
 use Rattle.bw_chain.specs.Steps.{IsTerm, KeepsLevels}
-use Rattle.bw_chain.specs.Walk.{Leads}
 use Rattle.bw_chain.proofs.CutLemmas.{below_first, find_first, find_other, lower_inner, lower_page}
 use Rattle.bw_chain.proofs.HomeLemmas.{one_home}
 use Rattle.bw_chain.proofs.LeafRowLemmas.{wide_of}
-use Rattle.bw_chain.proofs.RowLemmas.{InRow, in_row, first_stands}
+use Rattle.bw_chain.proofs.RowLemmas.{InRow, in_row, first_stands, row_on, same_each}
 use Rattle.bw_chain.proofs.StepLemmas.{contents_kept, levels_kept}
+use Rattle.bw_chain.proofs.WalkLemmas.{way_on}
 
 one_state : {s t : PageState} → Live s ≡ Live t → s ≡ t
 one_state e = cc
@@ -154,11 +154,6 @@ had p q r (x ∷ ps) has = by (nat_eq x p) refl has (had p q r ps)
     by true test (suc (suc i), lt, is) more = later (more (i, omega arith, is))
     by false test (suc i, lt, is) more = later (more (i, omega arith, is))
 
--- a way along a step that another one agrees with
-pub way_on : (f g : ℕ → Option ℕ) → ((p : ℕ) → g p ≡ f p) → (p : ℕ) (xs : List ℕ) (e : ℕ) → Leads f p xs e → Leads g p xs e
-way_on f g same p [] e h = (h.0, same p ∙ h.1)
-way_on f g same p (x ∷ xs) e h = (h.0, (h.1.0, same p ∙ h.1.1, way_on f g same h.1.0 xs e h.1.2))
-
 module _ (old new : List Slot) (root : ℕ) (levels : List (List ℕ)) (level p q keep : ℕ) (lawful : AreLevels old root levels) (within : level < length levels) (has : Contains (row levels level) p) (parted : IsParted old new p q keep) where
   abbrev was : PageState
   was = parted.was
@@ -236,9 +231,7 @@ module _ (old new : List Slot) (root : ℕ) (levels : List (List ℕ)) (level p 
       differs (sym s.at_level ∙ ap (λ (t : PageState). level_of t.body) (one_state (sym s.is ∙ ap (slot_at old) same ∙ parted.is)) ∙ at_level)
 
   row_stays : (n : ℕ) (low : KeyBytes) (ps : List ℕ) → (n ≡ level → ⊥) → SideBySide old n low ps → SideBySide new n low ps
-  row_stays n low [] differs h = absurd h
-  row_stays n low (x ∷ []) differs h = elsewhere n low None None x (not_it n low None None x differs h) h
-  row_stays n low (x ∷ y ∷ ys) differs h = (h.0, elsewhere n low (Some h.0) (Some y) x (not_it n low (Some h.0) (Some y) x differs h.1) h.1, row_stays n h.0 (y ∷ ys) differs h.2)
+  row_stays n low ps differs h = row_on old new n (λ l high side x s. elsewhere n l high side x (not_it n l high side x differs s) s) low ps h
 
   row_here : row after level ≡ put_behind p q (row levels level)
   row_here = get_or-set_same levels level (put_behind p q (row levels level)) [] within
@@ -359,8 +352,7 @@ module _ (old new : List Slot) (root : ℕ) (levels : List (List ℕ)) (level p 
   none_new = ap writes_over parted.right ∙ other_writes keep was.body ∙ parted.bare
 
   row_same : (ps : List ℕ) → row_writes new ps ≡ row_writes old ps
-  row_same [] = refl
-  row_same (x ∷ ps) = ap (λ (l : List WriteView). l ++ row_writes new ps) (writes_same x) ∙ ap (λ (l : List WriteView). writes_over (slot_at old x) ++ l) (row_same ps)
+  row_same ps = same_each (λ x. writes_over (slot_at old x)) (λ x. writes_over (slot_at new x)) writes_same ps
 
   behind_same : (ps : List ℕ) → row_writes new (put_behind p q ps) ≡ row_writes new ps
   behind_same [] = refl

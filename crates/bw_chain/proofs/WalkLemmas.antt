@@ -138,3 +138,8 @@ module _ (next : ℕ → Option ℕ) where
 
 pub one_way_one_end : (next : ℕ → Option ℕ) (p : ℕ) (xs ys : List ℕ) (e f : ℕ) → Leads next p xs e → Leads next p ys f → (xs ≡ ys) × (e ≡ f)
 one_way_one_end next p xs ys e f h k = (one_way next p xs ys e f h k, one_end next p xs ys e f h k)
+
+-- a way along a step that another one agrees with
+pub way_on : (f g : ℕ → Option ℕ) → ((p : ℕ) → g p ≡ f p) → (p : ℕ) (xs : List ℕ) (e : ℕ) → Leads f p xs e → Leads g p xs e
+way_on f g same p [] e h = (h.0, same p ∙ h.1)
+way_on f g same p (x ∷ xs) e h = (h.0, (h.1.0, same p ∙ h.1.1, way_on f g same h.1.0 xs e h.1.2))

@@ -1,5 +1,5 @@
 // What holds of the definitions.
-ghost use Rattle.bw_chain.specs.Laws.{ContentsAreKept, HomeIsOne, HomeIsThere, LevelsAreFound, LevelsAreAlike, LevelsAreGrown, LevelsAreKept, PageIsKept, PartsAreKept, WayIsOne};
+ghost use Rattle.bw_chain.specs.Laws.{ChildIsKept, ContentsAreKept, HomeIsOne, HomeIsThere, LevelsAreFound, LevelsAreAlike, LevelsAreGrown, LevelsAreKept, PageIsKept, PartsAreKept, WayIsOne};
 
 /// The law that each walk along links, side links or left links rests on: from a place there is one way only, and one
 /// place where it ends. It does nothing: its contract is the law.
@@ -59,4 +59,10 @@ pub fn parts_are_kept()
 /// new root's level above them, and hold what they held. It does nothing: its contract is the law.
 pub fn levels_are_grown()
     ensures { LevelsAreGrown }
+{}
+
+/// The law of an index entry: where a page names one more page of the level below, at the key at which that one begins,
+/// the levels stay, and hold what they held. It does nothing: its contract is the law.
+pub fn child_is_kept()
+    ensures { ChildIsKept }
 {}

@@ -1,9 +1,8 @@
 -- Trees whose pages differ in writes alone have the same levels.
-use Rattle.std.proofs.Common.{◌≡◌, ℕ, T, List, [], ◌∷◌, ◌++◌, Option, refl, sym, ap, ◌∙◌, subst}
+use Rattle.std.proofs.Common.{◌≡◌, ℕ, T, List, [], ◌∷◌, Option, refl, sym, ap, ◌∙◌, subst}
 use Rattle.std.specs.List.{AllByRecursion, list_all}
 use Rattle.bw_key.specs.Order.{KeyBytes}
 use Rattle.bw_model.specs.Contents.{is_in_range}
-use Rattle.bw_model.specs.Values.{ValueBytes}
 use Rattle.bw_page.proofs.Truths.{both_of}
 use Rattle.bw_delta.specs.Writes.{WriteView}
 use Rattle.bw_delta.specs.declared.deltas.Delta.TheVariants.{Put}
@@ -13,6 +12,7 @@ use Rattle.bw_chain.specs.Chains.{Bases, body_written, change}
 use Rattle.bw_chain.specs.Reading.{body_pairs, pairs_under, row_pairs}
 use Rattle.bw_chain.specs.Turns.{slot_without_writes}
 use Rattle.bw_chain.specs.Steps.{AreAlike, IsAlike}
+use Rattle.bw_chain.proofs.RowLemmas.{same_each}
 use Rattle.bw_chain.proofs.AlikeLemmas.{levels_alike}
 use Rattle.bw_chain.proofs.ChainLemmas.{bare_put}
 use Rattle.bw_tree.proofs.PostedLemmas.{put_over}
@@ -97,10 +97,7 @@ module _ (bases : Bases) (old new : List Slot) (over : (p : ℕ) → IsPutOver b
 
   -- and the same pairs under the writes
   pub pairs_alike : (ps : List ℕ) → row_pairs new ps ≡ row_pairs old ps
-  pairs_alike [] = refl
-  pairs_alike (p ∷ ps) =
-      let o = over p in
-      ap (λ (l : List (KeyBytes × ValueBytes)). l ++ row_pairs new ps) (ap pairs_under o.is ∙ put_pairs o.writes (slot_at old p)) ∙ ap (λ (l : List (KeyBytes × ValueBytes)). pairs_under (slot_at old p) ++ l) (pairs_alike ps)
+  pairs_alike ps = same_each (λ p. pairs_under (slot_at old p)) (λ p. pairs_under (slot_at new p)) (λ p. let o = over p in ap pairs_under o.is ∙ put_pairs o.writes (slot_at old p)) ps
 
 -- a page without the writes over it
 pub put_bare : (bases : Bases) (ws : List WriteView) (slot : Slot) → slot_without_writes (put_over bases ws slot) ≡ slot_without_writes slot

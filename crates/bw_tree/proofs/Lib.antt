@@ -19,7 +19,9 @@ pub mod StagedLemmas
 pub mod FoldLemmas
 pub mod RoutingLemmas
 pub mod ConsolidationLemmas
+pub mod StandingLemmas
 pub mod SplitLemmas
 pub mod RootLemmas
+pub mod EntryLemmas
 pub mod RestartLemmas
 pub mod RebaseLemmas

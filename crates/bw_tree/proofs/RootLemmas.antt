@@ -30,7 +30,7 @@ use Rattle.bw_tree.specs.Roots.{HasNewRoot, IsOverRoot}
 use Rattle.bw_tree.specs.Trees.{IsStanding, IsTree, StageWords, view_of}
 use Rattle.bw_tree.specs.View.{StageView, TreeView}
 use Rattle.bw_tree.proofs.AdoptLemmas.{slot_past}
-use Rattle.bw_tree.proofs.SplitLemmas.{WordAt, index_is}
+use Rattle.bw_tree.proofs.SplitLemmas.{index_is}
 
 not_free : {s : PageState} → Free ≡ Live s → ⊥
 not_free e = cc
@@ -184,6 +184,12 @@ root_on heads bases records root next None tree is none t = made_on heads bases 
 root_on heads bases records root next (Some stage) tree is none t = absurd (unstaged (ap (λ (v : TreeView). v.staged) is ∙ none))
 
 -- what is known of the word of the root
+pub record WordAt (heads : List ℕ) (bases : Bases) (records : Records) (tree : TreeView) (p word : ℕ) : Type 0 where
+  pub word_is : word ≡ slice_index heads p
+  pub within : p < length heads
+  pub ends : Ends bases records word
+  pub slot : slot_of_word bases records word ≡ slot_at tree.slots p
+
 pub root_word : (heads : List ℕ) (bases : Bases) (records : Records) (root next : ℕ) (staged : Option StageWords) (tree : TreeView) → view_of heads bases records root next staged ≡ tree → IsTree heads bases records root next staged →
     (word : ℕ) → word ≡ get_or heads root word → WordAt heads bases records tree root word
 root_word heads bases records root next staged tree is t word read =

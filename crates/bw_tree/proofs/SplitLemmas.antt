@@ -1,27 +1,25 @@
 -- A split of a page leaves a tree that holds the same.
-use Rattle.std.proofs.Common.{set, get_or, ◌≡◌, ℕ, zero, suc, ◌+◌, ◌-◌, ◌<◌, ◌^◌, List, [], ◌∷◌, ◌++◌, length, Option, Some, None, refl, sym, ap, ◌∙◌, subst, arith, length-append}
+use Rattle.std.proofs.Common.{set, ◌≡◌, ℕ, zero, suc, ◌+◌, ◌-◌, ◌<◌, ◌^◌, List, [], ◌∷◌, ◌++◌, length, Option, Some, None, refl, sym, ap, ◌∙◌, subst, arith, length-append}
 use Rattle.std.proofs.lemmas.Option.{slice_get-get_or}
-use Rattle.std.proofs.lemmas.List.{get_or_default, length-map, length-set}
-use Rattle.std.specs.List.{AllByRecursion, Contains}
+use Rattle.std.proofs.lemmas.List.{length-map, length-set}
+use Rattle.std.specs.List.{Contains}
 use Rattle.std.specs.Option.{unwrap_or}
 use Rattle.std.specs.Prelude.{slice_get, slice_index}
 use Rattle.bw_key.specs.Order.{KeyBytes}
 use Rattle.bw_page.specs.declared.pages.Page.{Page}
-use Rattle.bw_delta.specs.History.{HasDistinctStamps}
-use Rattle.bw_delta.specs.Writes.{WriteView}
 use Rattle.bw_delta.specs.declared.deltas.Delta.{Delta}
 use Rattle.bw_delta.specs.declared.deltas.Delta.TheVariants.{Split}
-use Rattle.bw_chain.specs.Chains.{AllEnd, Bases, Ends, Records, change, slot_of_word, slots_of}
+use Rattle.bw_chain.specs.Chains.{AllEnd, Bases, Records, change, slot_of_word, slots_of}
 use Rattle.bw_chain.specs.Slots.{Slot, PageState, Body, Free, Live, slot_at}
 use Rattle.bw_chain.specs.Laws.{KeepsAll}
-use Rattle.bw_chain.specs.Levels.{AreLevels, row, levels_under}
-use Rattle.bw_chain.specs.Reading.{body_writes, contents_in, row_writes, writes_over}
+use Rattle.bw_chain.specs.Levels.{row}
+use Rattle.bw_chain.specs.Reading.{body_writes, writes_over}
+use Rattle.bw_chain.specs.Searches.{IsInLevels}
 use Rattle.bw_chain.specs.Splits.{IsParted, IsUpperHalf, entry_count, left_part, level_parted, right_part, separator, slot_entries, slot_right, slot_separator}
 use Rattle.bw_chain.specs.Supports.{OwnBases}
 use Rattle.bw_chain.proofs.AdditionLemmas.{get_last, not_last, page_all_end, page_others, page_own, page_there, record_all_end, record_here, record_others, record_own}
 use Rattle.bw_chain.proofs.BaseLemmas.{get_set_other, get_set_same}
 use Rattle.bw_chain.proofs.ChainLemmas.{no_record, on_base}
-use Rattle.bw_chain.proofs.LevelLemmas.{levels_now}
 use Rattle.bw_chain.proofs.ReadingLemmas.{no_writes_on_base, slot_of_head}
 use Rattle.bw_chain.proofs.RouteLemmas.{held}
 use Rattle.bw_chain.proofs.RowLemmas.{InRow, in_row}
@@ -30,6 +28,7 @@ use Rattle.bw_tree.specs.Splits.{IsSplit, IsSplittable}
 use Rattle.bw_tree.specs.Trees.{IsStanding, IsTree, StageWords, view_of}
 use Rattle.bw_tree.specs.View.{StageView, TreeView}
 use Rattle.bw_tree.proofs.AdoptLemmas.{slot_past}
+use Rattle.bw_tree.proofs.StandingLemmas.{contents_same, same_levels as levels_same, standing_kept}
 
 not_free : {s : PageState} → Free ≡ Live s → ⊥
 not_free e = cc
@@ -137,26 +136,15 @@ module _ (heads : List ℕ) (bases : Bases) (records : Records) (root next : ℕ
   kept level lt has = parts_kept old.slots new.slots root old.levels level p q keep t.lawful lt has parted
 
   same_levels : (level : ℕ) → level < length old.levels → Contains (row old.levels level) p → new.levels ≡ level_parted old.levels level p q
-  same_levels level lt has = levels_now new.slots root (level_parted old.levels level p q) (kept level lt has).lawful
-
-  abbrev IsPast : WriteView → Type 0
-  IsPast w = w.stamp < next
+  same_levels level lt has = levels_same heads bases records root next t heads' bases' records' (level_parted old.levels level p q) (kept level lt has)
 
   pub standing_new : IsStanding heads' bases' records' root next
-  standing_new =
-      let k = kept ok.level ok.within ok.in_level in
-      let same = same_levels ok.level ok.within ok.in_level in
-      record {
-        ends = page_all_end heads1 bases records' ends1 own1 few right;
-        own = page_own heads1 bases records' ends1 own1 few right;
-        lawful = subst (AreLevels new.slots root) (sym same) k.lawful;
-        distinct = subst (λ (l : List (List ℕ)). HasDistinctStamps (row_writes new.slots (row l 0))) (sym same) (subst HasDistinctStamps (sym k.writes) t.distinct);
-        past = subst (λ (l : List (List ℕ)). AllByRecursion IsPast (row_writes new.slots (row l 0))) (sym same) (subst (AllByRecursion IsPast) (sym k.writes) t.past);
-        fits = t.fits;
-        few_records = omega (arith, few_records, length-append records ((delta, word) ∷ []));
-        few_pages = omega (arith, few_pages, pages1, length-append heads1 (length bases ∷ []));
-        few_bases = omega (arith, few_bases, length-append bases (Some right ∷ []));
-      }
+  standing_new = standing_kept heads bases records root next t heads' bases' records' (level_parted old.levels ok.level p q) (kept ok.level ok.within ok.in_level)
+      (page_all_end heads1 bases records' ends1 own1 few right)
+      (page_own heads1 bases records' ends1 own1 few right)
+      (omega (arith, few_records, length-append records ((delta, word) ∷ [])))
+      (omega (arith, few_pages, pages1, length-append heads1 (length bases ∷ [])))
+      (omega (arith, few_bases, length-append bases (Some right ∷ [])))
 
   word_at : (r : ℕ) (o : Option ℕ) → slice_get heads' r ≡ o → slice_index heads' r ≡ unwrap_or o 0
   word_at r o e = index_is heads' r ∙ ap (λ (x : Option ℕ). unwrap_or x 0) e
@@ -171,9 +159,7 @@ module _ (heads : List ℕ) (bases : Bases) (records : Records) (root next : ℕ
   split_new = record {
     parted = parted;
     levels = same_levels;
-    contents = λ stamp.
-        ap (λ (l : List (List ℕ)). contents_in new.slots l stamp) (same_levels ok.level ok.within ok.in_level)
-        ∙ (kept ok.level ok.within ok.in_level).contents t.distinct stamp;
+    contents = contents_same heads bases records root next t heads' bases' records' (level_parted old.levels ok.level p q) (kept ok.level ok.within ok.in_level);
     page = refl;
     pages = omega (arith, pages1, length-append heads1 (length bases ∷ []));
     heads = λ r other old_one.
@@ -187,30 +173,14 @@ module _ (heads : List ℕ) (bases : Bases) (records : Records) (root next : ℕ
     staged = refl;
   }
 
--- what is known of the word of a page that may be split
-pub record WordAt (heads : List ℕ) (bases : Bases) (records : Records) (tree : TreeView) (p word : ℕ) : Type 0 where
-  pub word_is : word ≡ slice_index heads p
-  pub within : p < length heads
-  pub ends : Ends bases records word
-  pub slot : slot_of_word bases records word ≡ slot_at tree.slots p
+-- a page that may be split is one of a level
+pub in_levels : (tree : TreeView) (p keep : ℕ) → IsSplittable tree p keep → IsInLevels tree.levels p
+in_levels tree p keep ok = record { level = ok.level; within = ok.within; in_level = ok.in_level }
 
 -- so is a tree whose page was given the record, and that has the new page
 module _ (heads : List ℕ) (bases : Bases) (records : Records) (root next : ℕ) (tree : TreeView) (is : view_of heads bases records root next None ≡ tree) (t : IsTree heads bases records root next None) (p keep : ℕ) (ok : IsSplittable tree p keep) where
   ok_here : IsSplittable (view_of heads bases records root next None) p keep
   ok_here = subst (λ (v : TreeView). IsSplittable v p keep) (sym is) ok
-
-  page_word : (word : ℕ) → word ≡ get_or heads p word → WordAt heads bases records tree p word
-  page_word word read =
-      let slots = slots_of heads bases records in
-      let at = in_row slots ok_here.level [] (row (levels_under slots root) ok_here.level) ok_here.in_level.0 p (t.now.lawful.rows ok_here.level ok_here.within) ok_here.in_level.1 ok_here.in_level.2 in
-      let within : p < length heads = omega (arith, held slots p (λ free. not_free (sym free ∙ at.stands.is)), length-map heads (slot_of_word bases records)) in
-      let same : word ≡ slice_index heads p = read ∙ get_or_default heads p word 0 within in
-      record {
-        word_is = same;
-        within = within;
-        ends = subst (Ends bases records) (sym same) (t.now.ends p (slice_index heads p) (slice_get-get_or heads p 0 within));
-        slot = ap (slot_of_word bases records) same ∙ sym (slot_of_head bases records heads p 0 within) ∙ ap (λ (v : TreeView). slot_at v.slots p) is;
-      }
 
   abbrev IsMade : List ℕ → Bases → Records → ℕ → Type 0
   IsMade h b r q = IsTree h b r root next None × IsSplit tree (view_of h b r root next None) p keep q
@@ -239,11 +209,6 @@ module _ (heads : List ℕ) (bases : Bases) (records : Records) (root next : ℕ
 
 unstaged : {s : StageView} → Some s ≡ None → ⊥
 unstaged e = cc
-
-pub word_of : (heads : List ℕ) (bases : Bases) (records : Records) (root next : ℕ) (staged : Option StageWords) (tree : TreeView) → view_of heads bases records root next staged ≡ tree → tree.staged ≡ None → IsTree heads bases records root next staged → (p keep : ℕ) → IsSplittable tree p keep →
-    (word : ℕ) → word ≡ get_or heads p word → WordAt heads bases records tree p word
-word_of heads bases records root next None tree is none t p keep ok = page_word heads bases records root next tree is t p keep ok
-word_of heads bases records root next (Some stage) tree is none t p keep ok = absurd (unstaged (ap (λ (v : TreeView). v.staged) is ∙ none))
 
 pub split_on : (heads : List ℕ) (bases : Bases) (records : Records) (root next : ℕ) (staged : Option StageWords) (tree : TreeView) → view_of heads bases records root next staged ≡ tree → tree.staged ≡ None → IsTree heads bases records root next staged → (p keep : ℕ) → IsSplittable tree p keep →
     (key : KeyBytes) (right : Page) → IsUpperHalf (slot_at tree.slots p) keep (key, right) → length heads < 2 ^ 32 → length records < 2 ^ 32 → length bases < 2 ^ 32 - 1 →

@@ -13,6 +13,7 @@ use bw_page::{Inner, Leaf, Page, PageId};
 use std::marker::Model;
 
 mod batch;
+mod children;
 mod consolidation;
 mod folding;
 mod reading;
