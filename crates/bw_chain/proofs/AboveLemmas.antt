@@ -1,5 +1,5 @@
 -- The levels that a search passes.
-use Rattle.std.proofs.Common.{◌≡◌, ℕ, zero, suc, ◌-◌, ◌≤◌, true, false, T, List, [], length, Option, Some, None, is_some, refl, sym, ap, ◌∙◌, subst, arith}
+use Rattle.std.proofs.Common.{◌≡◌, ℕ, zero, suc, ◌-◌, ◌<◌, ◌≤◌, true, false, T, List, [], length, Option, Some, None, is_some, refl, sym, ap, ◌∙◌, subst, arith}
 use Rattle.std.specs.List.{Contains}
 use Rattle.bw_key.specs.Order.{KeyBytes}
 use Rattle.bw_model.specs.Contents.{is_below_end}
@@ -11,6 +11,7 @@ use Rattle.bw_chain.specs.Turns.{IsTurn, StartsUpto}
 use Rattle.bw_chain.specs.declared.target.Target.{Target}
 use Rattle.bw_chain.specs.Walk.{Leads}
 use Rattle.bw_chain.specs.declared.turn.Turn.TheVariants.{Here, Right, Down, Left}
+use Rattle.bw_chain.proofs.LeafRowLemmas.{one_has, wide_of}
 use Rattle.bw_chain.proofs.RouteLemmas.{level_there, left_bounded, no_left, reached_at, row_first, sought_upto, stands_on, way_step}
 use Rattle.bw_chain.proofs.SearchLemmas.{linked_of}
 use Rattle.bw_chain.proofs.RowLemmas.{InRow, in_row}
@@ -173,3 +174,32 @@ module _ (slots : List Slot) (root : ℕ) (levels : List (List ℕ)) (lawful : A
       by Free starts = starts
       by (Gone l) starts = tt
       by (Live s) starts = subst T (sym (is s.low)) starts
+
+-- a page of a level is the home of its low key there, and no other level has it
+module _ (slots : List Slot) (root : ℕ) (levels : List (List ℕ)) (lawful : AreLevels slots root levels) (p n : ℕ) (within : n < length levels) (has : Contains (row levels n) p) where
+  here : InRow slots n (row levels n) has.0 p
+  here = in_row slots n [] (row levels n) has.0 p (lawful.rows n within) has.1 has.2
+
+  pub own_level : slot_level (slot_at slots p) ≡ n
+  own_level = ap slot_level here.stands.is ∙ here.stands.at_level
+
+  pub own_low : low_at (slot_at slots p) ≡ Some here.stands.state.low
+  own_low = ap low_at here.stands.is
+
+  pub own_page : (key : KeyBytes) (q : ℕ) → low_at (slot_at slots p) ≡ Some key → IsHomeAt slots levels key n q → q ≡ p
+  own_page key q low home =
+      let s = here.stands.state in
+      let same : s.low ≡ key = one_some (sym own_low ∙ low) in
+      let r = home.reached in
+      one_has slots n [] (row levels n) key q p (lawful.rows n within)
+      (record { in_row = r.in_level; state = r.state; is = r.is; from_low = r.from_low; ends_above = home.ends_above })
+      (record {
+        in_row = has;
+        state = s;
+        is = here.stands.is;
+        from_low = subst (λ (k : KeyBytes). IsUpto k key) (sym same) (not_holds _ (below_self key));
+        ends_above = subst (λ (k : KeyBytes). T (is_below_end s.high k)) same (wide_of s.low s.high s.side s.body here.stands.sound);
+      })
+    where
+      one_some : {x y : KeyBytes} → Some x ≡ Some y → x ≡ y
+      one_some e = cc

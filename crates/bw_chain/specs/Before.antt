@@ -1,5 +1,5 @@
 -- The leaf before an end of keys: the one whose range has the keys right below it.
-use Rattle.std.specs.Prelude.{◌≡◌, ℕ, T, List, [], Option}
+use Rattle.std.specs.Prelude.{◌≡◌, ℕ, T, List, [], Option, Some, None}
 use Rattle.std.specs.List.{Contains}
 use Rattle.bw_key.specs.Order.{KeyBytes}
 use Rattle.bw_model.specs.Contents.{is_below_end}
@@ -20,3 +20,9 @@ pub record IsBefore (slots : List Slot) (levels : List (List ℕ)) (end : Option
   pub is : slot_at slots p ≡ Live state
   pub starts : T (is_below_end end state.low)
   pub reaches : Reaches state.high end
+
+-- the same, where there is a page
+abbrev pub low_at : Slot → Option KeyBytes
+low_at (Live s) = Some s.low
+low_at (Gone l) = None
+low_at Free = None

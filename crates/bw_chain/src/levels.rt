@@ -1,9 +1,12 @@
-// On which level a page is.
+// On which level a page is, and where it begins.
 ghost use Rattle.std.specs.Prelude.{◌≡◌};
+ghost use Rattle.std.specs.Option.{option_copied};
+ghost use Rattle.bw_chain.specs.Before.{low_at};
 ghost use Rattle.bw_chain.specs.Chains.{IsChain, page_at};
 ghost use Rattle.bw_chain.specs.Slots.{slot_level};
 
 use crate::chains::Chains;
+use bw_key::Key;
 use bw_page::Page;
 
 impl Chains {
@@ -16,6 +19,22 @@ impl Chains {
         match self.under_writes(head).1 {
             Some(Page::Inner(inner)) => inner.level(),
             _ => 0,
+        }
+    }
+
+    /// Where a page's range begins, or none for a page that was removed and where there is no page. It costs a walk along the
+    /// chain's links, and takes no memory.
+    pub fn low(&self, head: u64) -> Option<&Key>
+        requires { IsChain self.now head }
+        ensures { option_copied result ≡ low_at (page_at self.now head) }
+    {
+        let Some(base) = self.under_writes(head).1 else {
+            return None;
+        };
+        match base {
+            Page::Leaf(leaf) => Some(leaf.low()),
+            Page::Inner(inner) => Some(inner.low()),
+            Page::Gone(_) => None,
         }
     }
 }
