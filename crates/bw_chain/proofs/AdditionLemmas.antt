@@ -8,7 +8,7 @@ use Rattle.bw_page.specs.declared.pages.Page.{Page}
 use Rattle.bw_delta.specs.declared.deltas.Delta.{Delta}
 use Rattle.bw_delta.specs.declared.deltas.Delta.TheVariants.{Put, Split, Absorb, Removed, AddChild, DropChild}
 use Rattle.bw_chain.specs.Slots.{Slot, Free, slot_at}
-use Rattle.bw_chain.specs.Chains.{AllEnd, Bases, Records, Ends, EndsAt, IsShaped, based, change, changed, delta_in, deltas_at, link_of, linked_word, plain, record_at, slot_of_word, slots_of}
+use Rattle.bw_chain.specs.Chains.{AllEnd, Bases, ChainsView, IsChain, Records, Ends, EndsAt, IsShaped, floor_word, page_at, based, change, changed, delta_in, deltas_at, link_of, linked_word, plain, record_at, slot_of_word, slots_of}
 use Rattle.bw_chain.specs.Supports.{OwnBases, base_under, supports_at, supports_of}
 use Rattle.bw_chain.specs.Walk.{Leads}
 use Rattle.bw_chain.proofs.BaseLemmas.{get_set_other, get_set_same, rests}
@@ -78,6 +78,10 @@ same_slot f g heads heads' q same agree = slot_is g heads' q ∙ ap (slot_of_ent
 
 slot_here : (f : ℕ → Slot) (heads : List ℕ) (p w : ℕ) → slice_get heads p ≡ Some w → slot_at (map f heads) p ≡ f w
 slot_here f heads p w at = slot_is f heads p ∙ ap (slot_of_entry f) at
+
+-- a page without a record is its base page
+pub page_is : (chains : ChainsView) (word : ℕ) (s : Slot) → IsChain chains word → word < floor_word → s ≡ based (slice_get chains.bases word) → page_at chains word ≡ s
+page_is chains word s ends low is = on_base chains.bases chains.records word ends (no_record chains.records word low) ∙ sym is
 
 -- a page rests on its base page alone
 only_base : (ds : List Delta) (e b : ℕ) → IsShaped ds → Contains (supports_of ds e) b → b ≡ e

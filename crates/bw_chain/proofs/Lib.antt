@@ -27,3 +27,5 @@ pub mod AdditionLemmas
 pub mod CutLemmas
 pub mod SplitLemmas
 pub mod EntryLemmas
+pub mod AboveLemmas
+pub mod RootLemmas

@@ -88,16 +88,16 @@ pub row_first : (slots : List Slot) (level : ℕ) (low : KeyBytes) (ps : List �
 row_first slots level low [] p h b = absurd b
 row_first slots level low (x ∷ xs) p h b = subst (λ y. (other : Option KeyBytes) × ((next : Option ℕ) × Stands slots level low other next y)) b (first_stands slots level low x xs h)
 
-no_left : (slots : List Slot) (p : ℕ) (s : PageState) → slot_at slots p ≡ Live s → left_of slots p ≡ None
+pub no_left : (slots : List Slot) (p : ℕ) (s : PageState) → slot_at slots p ≡ Live s → left_of slots p ≡ None
 no_left slots p s is = ap left_of_slot is
 
 -- from a page that isn't removed no left link leads on
-live_way : (slots : List Slot) (p e : ℕ) (xs : List ℕ) (s : PageState) → slot_at slots p ≡ Live s → Leads (left_of slots) p xs e → (xs ≡ []) × (p ≡ e)
+pub live_way : (slots : List Slot) (p e : ℕ) (xs : List ℕ) (s : PageState) → slot_at slots p ≡ Live s → Leads (left_of slots) p xs e → (xs ≡ []) × (p ≡ e)
 live_way slots p e [] s is h = (refl, h.0)
 live_way slots p e (x ∷ xs) s is h = absurd (no_next (sym (no_left slots p s is) ∙ h.1.1))
 
 -- a step along a way
-way_step : (next : ℕ → Option ℕ) (p q e : ℕ) (xs : List ℕ) → Leads next p xs e → next p ≡ Some q → (ys : List ℕ) × Leads next q ys e × (length xs ≡ suc (length ys))
+pub way_step : (next : ℕ → Option ℕ) (p q e : ℕ) (xs : List ℕ) → Leads next p xs e → next p ≡ Some q → (ys : List ℕ) × Leads next q ys e × (length xs ≡ suc (length ys))
 way_step next p q e [] h step = absurd (no_next (sym h.1 ∙ step))
 way_step next p q e (x ∷ xs) h step = (xs, subst (λ z. Leads next z xs e) (same_next (sym h.1.1 ∙ step)) h.1.2, refl)
 
@@ -107,10 +107,10 @@ pub record Next (slots : List Slot) (levels : List (List ℕ)) (key : KeyBytes) 
   pub less : rank slots q < rank slots p
 
 module _ (slots : List Slot) (root : ℕ) (levels : List (List ℕ)) (lawful : AreLevels slots root levels) (key : KeyBytes) where
-  reached_at : (n p : ℕ) (r : IsReached slots levels key n p) → InRow slots n (row levels n) r.in_level.0 p
+  pub reached_at : (n p : ℕ) (r : IsReached slots levels key n p) → InRow slots n (row levels n) r.in_level.0 p
   reached_at n p r = in_row slots n [] (row levels n) r.in_level.0 p (lawful.rows n r.within) r.in_level.1 r.in_level.2
 
-  level_there : (n p : ℕ) (r : IsReached slots levels key n p) → slot_level (slot_at slots p) ≡ n
+  pub level_there : (n p : ℕ) (r : IsReached slots levels key n p) → slot_level (slot_at slots p) ≡ n
   level_there n p r = let at = reached_at n p r in ap slot_level at.stands.is ∙ at.stands.at_level
 
   -- a search begins at the root

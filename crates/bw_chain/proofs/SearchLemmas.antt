@@ -33,7 +33,7 @@ starts_there Free target key from starts = starts
 starts_there (Gone l) target key from starts = tt
 starts_there (Live s) target key from starts = true_holds _ (lies_before target s.low key from (holds_not _ starts))
 
-linked_of : (low : KeyBytes) (high : Option KeyBytes) (side : Option ℕ) (b : Body) → IsSoundBody low high side b → is_some side ≡ is_some high
+pub linked_of : (low : KeyBytes) (high : Option KeyBytes) (side : Option ℕ) (b : Body) → IsSoundBody low high side b → is_some side ≡ is_some high
 linked_of low high side (Pairs pairs writes) sound = sound.page.linked
 linked_of low high side (Children level children) sound = sound.page.linked
 

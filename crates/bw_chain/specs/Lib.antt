@@ -16,3 +16,4 @@ pub mod Steps
 pub mod Children
 pub mod Laws
 pub mod Splits
+pub mod Roots

@@ -5,8 +5,8 @@ use Rattle.bw_key.specs.Order.{KeyBytes}
 use Rattle.bw_page.specs.Inners.{InnerView}
 use Rattle.bw_page.specs.declared.pages.Page.TheVariants.{Inner as InnerPage}
 use Rattle.bw_chain.specs.declared.target.Target.{Target}
-use Rattle.bw_chain.specs.Walk.{Leads}
-use Rattle.bw_chain.specs.Slots.{Slot, left_of}
+use Rattle.bw_chain.specs.Walk.{Leads, ended}
+use Rattle.bw_chain.specs.Slots.{Slot, left_of, slot_at, slot_level}
 use Rattle.bw_chain.specs.Levels.{IsReached, row}
 use Rattle.bw_chain.specs.Chains.{plain}
 use Rattle.bw_chain.specs.Targets.{PartsChildren, StandsOnAll, lies_from}
@@ -51,3 +51,7 @@ pub record IsStretch (target : Target) (children : List (KeyBytes × ℕ)) (star
   pub behind : (i : ℕ) (d : KeyBytes × ℕ) → i < start → lies_from target (slice_index_or children i d).0 ≡ true
   pub before : (i : ℕ) (d : KeyBytes × ℕ) → end ≤ i → i < length children →
       lies_from target (slice_index_or children i d).0 ≡ false
+
+-- the level on which a search goes on from a page: that of the page to which its left links lead
+abbrev pub level_at : List Slot → ℕ → ℕ
+level_at slots p = slot_level (slot_at slots (ended (left_of slots) (length slots) p))

@@ -1,5 +1,5 @@
 // What holds of the definitions.
-ghost use Rattle.bw_chain.specs.Laws.{ChildIsKept, ContentsAreKept, HomeIsOne, HomeIsThere, LevelsAreFound, LevelsAreAlike, LevelsAreKept, PageIsKept, PartsAreKept, WayIsOne};
+ghost use Rattle.bw_chain.specs.Laws.{ChildIsKept, ContentsAreKept, HomeIsOne, HomeIsThere, LevelsAreFound, LevelsAreAlike, LevelsAreGrown, LevelsAreKept, PageIsKept, PartsAreKept, WayIsOne};
 
 /// The law that each walk along links, side links or left links rests on: from a place there is one way only, and one
 /// place where it ends. It does nothing: its contract is the law.
@@ -59,4 +59,10 @@ pub fn parts_are_kept()
 /// the levels stay, and hold what they held. It does nothing: its contract is the law.
 pub fn child_is_kept()
     ensures { ChildIsKept }
+{}
+
+/// The law of a root that grows: where a new page is over the root and its right neighbour, the levels are lawful with the
+/// new root's level above them, and hold what they held. It does nothing: its contract is the law.
+pub fn levels_are_grown()
+    ensures { LevelsAreGrown }
 {}

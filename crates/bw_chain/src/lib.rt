@@ -12,6 +12,8 @@ mod inners;
 mod laws;
 mod leaf_chain;
 mod leaf_ends;
+mod levels;
+mod neighbours;
 mod reading;
 mod records;
 mod target;
@@ -21,7 +23,7 @@ pub use chains::{Chains, FLOOR};
 pub use ends::{lower_end, reaches};
 pub use laws::{
     child_is_kept, contents_are_kept, home_is_one, home_is_there, levels_are_alike,
-    levels_are_found, levels_are_kept, page_is_kept, parts_are_kept, way_is_one,
+    levels_are_found, levels_are_grown, levels_are_kept, page_is_kept, parts_are_kept, way_is_one,
 };
 pub use leaf_chain::LeafChain;
 pub use target::Target;

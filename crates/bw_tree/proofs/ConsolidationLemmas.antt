@@ -26,7 +26,7 @@ use Rattle.bw_chain.specs.Scans.{high_of}
 use Rattle.bw_chain.specs.Steps.{AreAlike, IsAlike}
 use Rattle.bw_chain.specs.Supports.{base_under}
 use Rattle.bw_chain.proofs.AlikeLemmas.{levels_alike}
-use Rattle.bw_chain.proofs.BaseLemmas.{all_end, low, others_kept, own_after, put_there}
+use Rattle.bw_chain.proofs.BaseLemmas.{low, others_kept, put_there}
 use Rattle.bw_chain.proofs.HomeLemmas.{home_value, one_home}
 use Rattle.bw_chain.proofs.LevelLemmas.{levels_now}
 use Rattle.bw_chain.proofs.ReadingLemmas.{slot_of_head}
@@ -40,6 +40,7 @@ use Rattle.bw_tree.specs.Trees.{IsStanding, IsTree, StageWords, view_of}
 use Rattle.bw_tree.specs.View.{StageView, TreeView, contents_at}
 use Rattle.bw_tree.proofs.AdoptLemmas.{slot_past}
 use Rattle.bw_tree.proofs.FoldLemmas.{folded_rules}
+use Rattle.bw_tree.proofs.RebaseLemmas.{put_on, stands_with}
 use Rattle.bw_tree.proofs.ScanLemmas.{leaf_in_row}
 
 alike_same : (slot other : Slot) → other ≡ slot → AreAlike slot other
@@ -194,17 +195,10 @@ module _ (heads : List ℕ) (bases : Bases) (records : Records) (root next : ℕ
   past_new = row_without (AllByRecursion IsPast) (all_without IsPast) old.slots new.slots p none_new others_new [] (row old.levels 0) t.past
 
   standing_new : IsStanding heads' bases' records root next
-  standing_new = record {
-    ends = all_end heads bases records t.ends t.own p word at_p (LeafPage leaf);
-    own = own_after heads bases records t.ends t.own p word at_p (LeafPage leaf);
-    lawful = subst (AreLevels new.slots root) (sym same_levels) lawful_new;
-    distinct = subst (λ (l : List (List ℕ)). HasDistinctStamps (row_writes new.slots (row l 0))) (sym same_levels) distinct_new;
-    past = subst (λ (l : List (List ℕ)). AllByRecursion IsPast (row_writes new.slots (row l 0))) (sym same_levels) past_new;
-    fits = t.fits;
-    few_records = t.few_records;
-    few_pages = omega (arith, t.few_pages, length-set heads p base);
-    few_bases = omega (arith, t.few_bases, length-set bases base (Some (LeafPage leaf)));
-  }
+  standing_new = stands_with heads bases records root next t p word at_p (LeafPage leaf)
+      (subst (AreLevels new.slots root) (sym same_levels) lawful_new)
+      (subst (λ (l : List (List ℕ)). HasDistinctStamps (row_writes new.slots (row l 0))) (sym same_levels) distinct_new)
+      (subst (λ (l : List (List ℕ)). AllByRecursion IsPast (row_writes new.slots (row l 0))) (sym same_levels) past_new)
 
   home_was : (key : KeyBytes) (q : ℕ) → IsHome new.slots old.levels key q → IsHome old.slots old.levels key q
   home_was key q h =
@@ -291,12 +285,9 @@ module _ (heads : List ℕ) (bases : Bases) (records : Records) (root next : ℕ
       (heads' : List ℕ) (bases' : Bases) (records' : Records) (base : ℕ) → base ≡ under → heads' ≡ set heads p base → bases' ≡ set bases base (Some (LeafPage leaf)) → records' ≡ records → IsMade heads' bases' records'
   made_on leaf t is has folded heads' bases' records' base based placed put same =
       let folded_here : leaf ≡ made = subst (λ (v : TreeView). leaf ≡ folded_leaf v p (side_of v.slots p)) (sym is) folded in
-      subst (λ (r : Records). IsMade heads' bases' r) (sym same)
-      (subst (λ (b : Bases). IsMade heads' b records) (sym put)
-      (subst (λ (h : List ℕ). IsMade h (set bases base (Some (LeafPage leaf))) records) (sym placed)
-      (subst (λ n. IsMade (set heads p n) (set bases n (Some (LeafPage leaf))) records) (sym based)
-      (subst (λ (l : LeafView ValueBytes). IsMade (set heads p under) (set bases under (Some (LeafPage l))) records) (sym folded_here)
-      (made_here t is has)))))
+      put_on IsMade heads bases records p under (LeafPage leaf)
+      (subst (λ (l : LeafView ValueBytes). IsMade (set heads p under) (set bases under (Some (LeafPage l))) records) (sym folded_here) (made_here t is has))
+      heads' bases' records' base based placed put same
 
 -- so is a tree that was given the folded leaf in the place of the base page
 pub consolidated_on : (heads : List ℕ) (bases : Bases) (records : Records) (root next : ℕ) (staged : Option StageWords) (tree : TreeView) (p : ℕ) (leaf : LeafView ValueBytes) → IsTree heads bases records root next staged → view_of heads bases records root next staged ≡ tree → tree.staged ≡ None → Contains (row tree.levels 0) p →

@@ -22,5 +22,6 @@ pub mod ConsolidationLemmas
 pub mod StandingLemmas
 pub mod SplitLemmas
 pub mod EntryLemmas
+pub mod RootLemmas
 pub mod RestartLemmas
 pub mod RebaseLemmas

@@ -13,7 +13,8 @@ use Rattle.bw_chain.specs.Supports.{base_under}
 use Rattle.bw_chain.proofs.BaseLemmas.{all_end, low, own_after, same_slots}
 use Rattle.bw_chain.proofs.ReadingLemmas.{slot_of_head}
 use Rattle.bw_chain.proofs.RowLemmas.{in_row}
-use Rattle.bw_tree.specs.Consolidation.{IsInnerPage, IsRebased}
+use Rattle.bw_tree.specs.Consolidation.{IsRebased}
+use Rattle.bw_tree.specs.Routing.{IsInnerPage}
 use Rattle.bw_tree.specs.Trees.{IsStanding, IsTree, StageWords, leaf_writes, view_of}
 use Rattle.bw_tree.specs.View.{StageView, TreeView}
 use Rattle.bw_tree.proofs.RoutingLemmas.{at_head, page_at_head}
@@ -35,6 +36,39 @@ sound_there heads bases records root next bound staged tree p head is t inner re
     let lawful : AreLevels tree.slots root tree.levels = subst (λ (v : TreeView). AreLevels v.slots root v.levels) is t.lawful in
     subst IsSoundInner (page_at_head heads bases records root next bound staged tree p head is t inner.in_levels read).slot (inner_sound tree root p lawful inner)
 
+-- Pages stand where one took the place of a chain, if their levels and writes do.
+module _ (heads : List ℕ) (bases : Bases) (records : Records) (root next : ℕ) (t : IsStanding heads bases records root next) (p word : ℕ) (at : slice_get heads p ≡ Some word) (page : Page) where
+  abbrev heads_with : List ℕ
+  heads_with = set heads p (base_under records word)
+
+  abbrev bases_with : Bases
+  bases_with = set bases (base_under records word) (Some page)
+
+  abbrev slots_with : List Slot
+  slots_with = slots_of heads_with bases_with records
+
+  pub stands_with : AreLevels slots_with root (levels_under slots_with root) → HasDistinctStamps (leaf_writes slots_with root) → AllByRecursion (λ w. w.stamp < next) (leaf_writes slots_with root) → IsStanding heads_with bases_with records root next
+  stands_with lawful distinct past = record {
+    ends = all_end heads bases records t.ends t.own p word at page;
+    own = own_after heads bases records t.ends t.own p word at page;
+    lawful = lawful;
+    distinct = distinct;
+    past = past;
+    fits = t.fits;
+    few_records = t.few_records;
+    few_pages = omega (arith, t.few_pages, length-set heads p (base_under records word));
+    few_bases = omega (arith, t.few_bases, length-set bases (base_under records word) (Some page));
+  }
+
+-- what holds of a tree in which a page took the place of a chain
+pub put_on : (IsMade : List ℕ → Bases → Records → Type 0) (heads : List ℕ) (bases : Bases) (records : Records) (p under : ℕ) (page : Page) → IsMade (set heads p under) (set bases under (Some page)) records →
+    (heads' : List ℕ) (bases' : Bases) (records' : Records) (base : ℕ) → base ≡ under → heads' ≡ set heads p base → bases' ≡ set bases base (Some page) → records' ≡ records → IsMade heads' bases' records'
+put_on IsMade heads bases records p under page made heads' bases' records' base based placed put same =
+    subst (λ (r : Records). IsMade heads' bases' r) (sym same)
+    (subst (λ (b : Bases). IsMade heads' b records) (sym put)
+    (subst (λ (h : List ℕ). IsMade h (set bases base (Some page)) records) (sym placed)
+    (subst (λ n. IsMade (set heads p n) (set bases n (Some page)) records) (sym based) made)))
+
 module _ (heads : List ℕ) (bases : Bases) (records : Records) (root next : ℕ) (t : IsStanding heads bases records root next) (p : ℕ) (within : p < length heads) (page : Page) (made : slot_at (slots_of heads bases records) p ≡ plain page) where
   abbrev word : ℕ
   word = slice_index heads p
@@ -55,17 +89,10 @@ module _ (heads : List ℕ) (bases : Bases) (records : Records) (root next : ℕ
   kept = same_slots heads bases records t.ends t.own p word at_p page (sym (slot_of_head bases records heads p 0 within) ∙ made)
 
   standing : IsStanding heads' bases' records root next
-  standing = record {
-    ends = all_end heads bases records t.ends t.own p word at_p page;
-    own = own_after heads bases records t.ends t.own p word at_p page;
-    lawful = subst (λ (s : List Slot). AreLevels s root (levels_under s root)) (sym kept) t.lawful;
-    distinct = subst (λ (s : List Slot). HasDistinctStamps (leaf_writes s root)) (sym kept) t.distinct;
-    past = subst (λ (s : List Slot). AllByRecursion (λ w. w.stamp < next) (leaf_writes s root)) (sym kept) t.past;
-    fits = t.fits;
-    few_records = t.few_records;
-    few_pages = omega (arith, t.few_pages, length-set heads p base);
-    few_bases = omega (arith, t.few_bases, length-set bases base (Some page));
-  }
+  standing = stands_with heads bases records root next t p word at_p page
+      (subst (λ (s : List Slot). AreLevels s root (levels_under s root)) (sym kept) t.lawful)
+      (subst (λ (s : List Slot). HasDistinctStamps (leaf_writes s root)) (sym kept) t.distinct)
+      (subst (λ (s : List Slot). AllByRecursion (λ w. w.stamp < next) (leaf_writes s root)) (sym kept) t.past)
 
   abbrev viewed : List Slot → List ℕ → TreeView
   viewed slots words = record { slots = slots; root = root; levels = levels_under slots root; heads = words; records = length records; next = next; staged = None }
@@ -94,14 +121,11 @@ pub rebased_on : (heads : List ℕ) (bases : Bases) (records : Records) (root ne
 rebased_on heads bases records root next None tree p page t is none within made heads' bases' records' base based placed put same =
     let here : p < length heads = subst (λ (v : TreeView). p < length v.heads) (sym is) within in
     let made_here : slot_at (slots_of heads bases records) p ≡ plain page = ap (λ (v : TreeView). slot_at v.slots p) is ∙ made in
-    subst (λ (r : Records). IsMade heads' bases' r) (sym same)
-    (subst (λ (b : Bases). IsMade heads' b records) (sym put)
-    (subst (λ (h : List ℕ). IsMade h (set bases base (Some page)) records) (sym placed)
-    (subst (λ n. IsMade (set heads p n) (set bases n (Some page)) records) (sym based)
-    ((
+    put_on IsMade heads bases records p under page (
       record { now = standing heads bases records root next t.now p here page made_here; stage = tt },
       subst (λ (v : TreeView). IsRebased v (view_of (set heads p under) (set bases under (Some page)) records root next None) p) is (rebased heads bases records root next t.now p here page made_here),
-    )))))
+    )
+    heads' bases' records' base based placed put same
   where
     under : ℕ
     under = base_under records (slice_index heads p)

@@ -8,21 +8,23 @@ use Rattle.std.proofs.lemmas.List.{length-map}
 use Rattle.bw_key.specs.Order.{KeyBytes}
 use Rattle.bw_chain.specs.declared.target.Target.{Target}
 use Rattle.bw_chain.specs.declared.target.Target.TheVariants.{Home}
-use Rattle.bw_chain.specs.declared.turn.Turn.TheVariants.{Here}
+use Rattle.bw_chain.specs.declared.turn.Turn.TheVariants.{Here, Down}
 use Rattle.bw_chain.specs.LeafEnds.{ends_at}
 use Rattle.bw_chain.specs.Scans.{high_of}
-use Rattle.bw_chain.specs.Slots.{Slot, PageState, Free, Live, slot_at}
+use Rattle.bw_chain.specs.Slots.{Slot, PageState, Body, Pairs, Children, Free, Live, IsSoundBody, children_of, level_of, slot_at}
+use Rattle.bw_chain.specs.Turns.{IsTurn}
+use Rattle.bw_page.specs.Inners.{IsLastUpto}
 use Rattle.bw_chain.specs.Levels.{AreLevels, row}
 use Rattle.bw_chain.specs.Chains.{Bases, Records, Ends, slot_of_word, slots_of}
 use Rattle.bw_chain.specs.Searches.{IsInLevels, IsSearching}
 use Rattle.bw_chain.specs.Targets.{AreAtHome, IsTurnFor, lies_from}
 use Rattle.bw_chain.proofs.LeafEndLemmas.{ends_here}
-use Rattle.bw_chain.proofs.MarkLemmas.{key_stands}
+use Rattle.bw_chain.proofs.MarkLemmas.{key_stands, mark, mark_stands}
 use Rattle.bw_chain.proofs.ReadingLemmas.{read_is, slot_of_head}
 use Rattle.bw_chain.proofs.RouteLemmas.{held}
 use Rattle.bw_chain.proofs.RowLemmas.{in_row}
-use Rattle.bw_chain.proofs.SearchLemmas.{begins, ends_home, held_there}
-use Rattle.bw_tree.specs.Routing.{IsFound, IsFoundEnd}
+use Rattle.bw_chain.proofs.SearchLemmas.{begins, ends_home, held_there, in_levels}
+use Rattle.bw_tree.specs.Routing.{IsFound, IsFoundEnd, IsInnerPage}
 use Rattle.bw_tree.specs.View.{TreeView}
 use Rattle.bw_tree.specs.Trees.{IsStanding, StageWords, view_of}
 
@@ -94,3 +96,15 @@ home_found tree key p end homes there is = record {
 -- which is a leaf
 pub home_in_row : (tree : TreeView) (key : Bor KeyBytes) (p : ℕ) → AreAtHome tree.slots tree.levels (Home key) p → Contains (row tree.levels 0) p
 home_in_row tree key p homes = (homes key.now (key_stands tree.slots (Home key) key.now (λ k. refl))).reached.in_level
+
+-- a search goes down from an inner page
+pub inner_above : (tree : TreeView) (root : ℕ) (target : Target) → AreLevels tree.slots root tree.levels → T (lies_from target []) → (p q : ℕ) → IsSearching tree.slots tree.levels target p → IsTurnFor target (slot_at tree.slots p) (Down q) → IsInnerPage tree p
+inner_above tree root target lawful starts p q on down =
+    let levels = in_levels tree.slots root tree.levels lawful target starts p q on down in
+    let st = (in_row tree.slots levels.level _ (row tree.levels levels.level) levels.in_level.0 p (lawful.rows levels.level levels.within) levels.in_level.1 levels.in_level.2).stands in
+    let turn = subst (λ (o : Slot). IsTurn o (mark tree.slots target) (Down q)) st.is (down (mark tree.slots target) (mark_stands tree.slots target starts p)) in
+    record { in_levels = levels; raised = raised levels.level st.state.low st.state.high st.state.side st.state.body st.sound st.at_level turn.1 }
+  where
+    raised : (level : ℕ) (low : KeyBytes) (high : Option KeyBytes) (side : Option ℕ) (b : Body) → IsSoundBody low high side b → level_of b ≡ level → IsLastUpto (mark tree.slots target) (children_of b) q → 0 < level
+    raised level low high side (Pairs pairs writes) sound same last = absurd (omega (arith, last.named.1))
+    raised level low high side (Children n children) sound same last = omega (arith, sound.raised, same)

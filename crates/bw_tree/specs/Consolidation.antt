@@ -1,6 +1,5 @@
 -- Consolidation: what one chain makes of its base page takes the place of that page.
 use Rattle.std.specs.Prelude.{◌≡◌, ℕ, ◌<◌, ◌^◌, None, slice_index, slice_set}
-use Rattle.bw_chain.specs.Searches.{IsInLevels}
 use Rattle.bw_chain.specs.Slots.{slot_at, side_of}
 use Rattle.bw_tree.specs.Folding.{folded_leaf}
 use Rattle.bw_tree.specs.Making.{leaf_slot}
@@ -19,11 +18,6 @@ pub record IsConsolidated (old new : TreeView) (p : ℕ) : Type 0 where
   pub records : new.records ≡ old.records
   pub next : new.next ≡ old.next
   pub staged : new.staged ≡ None
-
--- a page of a level above the leaves
-pub record IsInnerPage (tree : TreeView) (p : ℕ) : Type 0 where
-  pub in_levels : IsInLevels tree.levels p
-  pub raised : 0 < in_levels.level
 
 -- The page is a base page by itself. It is the same page as before, and so is all else.
 pub record IsRebased (old new : TreeView) (p : ℕ) : Type 0 where

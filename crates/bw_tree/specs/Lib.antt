@@ -23,3 +23,4 @@ pub use Rattle.bw_chain.specs.Targets
 pub use Rattle.bw_chain.specs.Laws
 pub mod Splits
 pub mod Children
+pub mod Roots

@@ -18,6 +18,11 @@ pub record RoutesView : Type 0 where
   pub tree : TreeView
   pub end : Option KeyBytes
 
+-- a page of a level above the leaves
+pub record IsInnerPage (tree : TreeView) (p : ℕ) : Type 0 where
+  pub in_levels : IsInLevels tree.levels p
+  pub raised : 0 < in_levels.level
+
 -- a page of a level is this inner page
 pub record IsInnerOf (tree : TreeView) (inner : InnerView) : Type 0 where
   pub page : ℕ

@@ -4,8 +4,8 @@ ghost use Rattle.std.specs.Option.{option_copied};
 ghost use Rattle.bw_chain.specs.Slots.{slot_at, is_leaf};
 ghost use Rattle.bw_chain.specs.Scans.{high_of};
 ghost use Rattle.bw_chain.specs.Levels.{IsHome};
-ghost use Rattle.bw_chain.specs.Searches.{IsInLevels, IsSearching};
-ghost use Rattle.bw_tree.specs.Routing.{IsFound, IsKeptFor};
+ghost use Rattle.bw_chain.specs.Searches.{IsSearching};
+ghost use Rattle.bw_tree.specs.Routing.{IsFound, IsInnerPage, IsKeptFor};
 
 use crate::tree::Tree;
 use bw_chain::Target;
@@ -135,7 +135,7 @@ impl<'a> Routes<'a> {
     // Keeps the page from which a search went down, or none where a change lies over it. A search that didn't go down
     // leaves what is kept.
     fn keep(&mut self, above: Option<PageId>)
-        requires { IfSome above (IsInLevels self.old.tree.levels) }
+        requires { IfSome above (IsInnerPage self.old.tree) }
         ensures { self.new.tree ≡ self.old.tree }
     {
         let Some(page) = above else {

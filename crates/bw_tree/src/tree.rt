@@ -18,6 +18,7 @@ mod consolidation;
 mod folding;
 mod reading;
 mod restart;
+mod roots;
 mod search;
 mod splits;
 

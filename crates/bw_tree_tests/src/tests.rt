@@ -1,5 +1,6 @@
 // Worked examples of what the contracts say, and what no contract says: that calls succeed, and each growth of memory
 // refused in turn.
+mod consolidation;
 mod drops;
 mod folding;
 mod making;
@@ -7,4 +8,5 @@ mod pages;
 mod refused;
 mod routes;
 mod scans;
+mod splits;
 mod trees;

@@ -10,8 +10,9 @@ impl Tree {
     ghost use Rattle.bw_chain.specs.Levels.{row};
     ghost use Rattle.bw_chain.specs.Chains.{plain};
     ghost use Rattle.bw_chain.specs.Slots.{side_of, slot_at};
-    ghost use Rattle.bw_tree.specs.Consolidation.{IsConsolidated, IsInnerPage, IsRebased};
+    ghost use Rattle.bw_tree.specs.Consolidation.{IsConsolidated, IsRebased};
     ghost use Rattle.bw_tree.specs.Folding.{folded_leaf};
+    ghost use Rattle.bw_tree.specs.Routing.{IsInnerPage};
 
     /// Consolidates a leaf: what its writes make of its base page, as of the next stamp, takes the place of that page (ICDE
     /// 2013). No batch is staged.

@@ -1,13 +1,13 @@
 // Searches of a tree.
-ghost use Rattle.std.specs.Prelude.{◌≡◌, ℕ, ◌<◌, [], true, T, length, IfSome};
+ghost use Rattle.std.specs.Prelude.{◌≡◌, ℕ, ◌<◌, ◌≤◌, [], true, T, length, IfSome, MatchOption};
 ghost use Rattle.std.specs.Option.{option_copied};
 ghost use Rattle.bw_model.specs.Contents.{is_below_end};
-ghost use Rattle.bw_chain.specs.Slots.{slot_at, is_leaf};
-ghost use Rattle.bw_chain.specs.Levels.{IsHome};
+ghost use Rattle.bw_chain.specs.Slots.{slot_at, slot_level, is_leaf};
+ghost use Rattle.bw_chain.specs.Levels.{IsHome, IsHomeAt};
 ghost use Rattle.bw_chain.specs.Before.{IsBefore};
 ghost use Rattle.bw_chain.specs.Searches.{IsInLevels, IsSearching, plain_inner};
 ghost use Rattle.bw_chain.specs.Targets.{AreAtHome, IsLinked, IsTurnFor, StartsFrom, lies_from};
-ghost use Rattle.bw_tree.specs.Routing.{IsFoundEnd};
+ghost use Rattle.bw_tree.specs.Routing.{IsFoundEnd, IsInnerPage};
 
 use super::Tree;
 use bw_chain::{Target, Turn};
@@ -46,6 +46,32 @@ impl Tree {
         self.search(Target::Before(end))
     }
 
+    /// The page of a level whose range has the key, the leaves' level being 0, or none where the tree has no such level: the
+    /// search is that of `route`, and ends there. It takes no memory.
+    pub fn above(&self, level: u32, key: &Key) -> Option<PageId>
+        ensures { MatchOption result (length self.now.levels ≤ level)
+            (IsHomeAt self.now.slots self.now.levels key.now level) }
+    {
+        self.know_levels();
+        if self.level(self.root) < level {
+            return None;
+        }
+        let mut page = self.root;
+        loop {
+            match self.turn(page, Target::Home(key)) {
+                Turn::Here => return Some(page),
+                Turn::Right(next) => page = next,
+                Turn::Left(next) => page = next,
+                Turn::Down(next) => {
+                    if self.level(page) == level {
+                        return Some(page);
+                    }
+                    page = next;
+                }
+            }
+        }
+    }
+
     // The leaf that a search is for.
     fn search(&self, target: Target<'_>) -> PageId
         requires { T (lies_from target []) }
@@ -61,7 +87,7 @@ impl Tree {
         requires begins { IfSome start (IsSearching self.now.slots self.now.levels target) }
         ensures homes { AreAtHome self.now.slots self.now.levels target.entry result.leaf }
         ensures there { result.leaf < length self.now.heads }
-        ensures above { IfSome result.above (IsInLevels self.now.levels) }
+        ensures above { IfSome result.above (IsInnerPage self.now) }
     {
         let mut page = start.unwrap_or(self.root);
         let mut above = None;
@@ -95,6 +121,14 @@ impl Tree {
         ensures { IsTurnFor target.entry (slot_at self.now.slots page) result }
     {
         self.chains.turn_at(self.heads[page.0 as usize], target)
+    }
+
+    // The level of a page.
+    fn level(&self, page: PageId) -> u32
+        requires { page < length self.now.slots }
+        ensures { result ≡ slot_level (slot_at self.now.slots page) }
+    {
+        self.chains.level(self.heads[page.0 as usize])
     }
 
     /// The inner page that a page of a level is, where no change lies over its base page.

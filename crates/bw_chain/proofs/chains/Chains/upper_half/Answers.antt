@@ -1,17 +1,13 @@
-use Rattle.std.proofs.Common.{◌≡◌, ◌<◌, ℕ, sym, ap, ◌∙◌, arith}
-use Rattle.std.specs.Prelude.{slice_get}
+use Rattle.std.proofs.Common.{sym, ap, ◌∙◌, arith}
 use Rattle.bw_model.specs.Values.{ValueBytes}
 use Rattle.bw_page.specs.Inners.{InnerView}
 use Rattle.bw_page.specs.Leaves.{LeafView}
 use Rattle.bw_page.specs.declared.pages.Page.TheVariants.{Leaf as LeafPage, Inner as InnerPage}
-use Rattle.bw_chain.specs.Chains.{ChainsView, IsChain, based, floor_word, page_at, plain}
-use Rattle.bw_chain.specs.Slots.{Slot, Free}
+use Rattle.bw_chain.specs.Chains.{plain}
+use Rattle.bw_chain.specs.Slots.{Free}
 use Rattle.bw_chain.specs.Splits.{slot_entries, slot_right, slot_separator}
-use Rattle.bw_chain.proofs.ChainLemmas.{no_record, on_base}
+use Rattle.bw_chain.proofs.AdditionLemmas.{page_is}
 use Rattle.bw_chain.proofs.chains.Chains.upper_half.Goals as goal
-
-page_is : (chains : ChainsView) (word : ℕ) (s : Slot) → IsChain chains word → word < floor_word → s ≡ based (slice_get chains.bases word) → page_at chains word ≡ s
-page_is chains word s ends low is = on_base chains.bases chains.records word ends (no_record chains.records word low) ∙ sym is
 
 pub unreachable-requires : goal.unreachable-requires
 unreachable-requires c =

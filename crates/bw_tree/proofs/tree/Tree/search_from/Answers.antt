@@ -3,9 +3,9 @@ use Rattle.std.proofs.lemmas.List.{length-map}
 use Rattle.bw_chain.specs.Chains.{slot_of_word}
 use Rattle.bw_chain.specs.Levels.{AreLevels}
 use Rattle.bw_chain.specs.Searches.{IsSearching}
-use Rattle.bw_chain.proofs.SearchLemmas.{ends_home, goes_down, goes_left, goes_right, held_there, in_levels, linked_there, starts_from}
+use Rattle.bw_chain.proofs.SearchLemmas.{ends_home, goes_down, goes_left, goes_right, held_there, linked_there, starts_from}
 use Rattle.bw_tree.specs.View.{TreeView}
-use Rattle.bw_tree.proofs.RoutingLemmas.{begins_at}
+use Rattle.bw_tree.proofs.RoutingLemmas.{begins_at, inner_above}
 use Rattle.bw_tree.proofs.tree.Tree.search_from.Goals as goal
 
 lawful_now : (r : ℕ) (v w : TreeView) → v ≡ w → AreLevels v.slots r v.levels → AreLevels w.slots r w.levels
@@ -51,7 +51,7 @@ loop-next-smaller-in-Down c = (goes_down _ _ _ (lawful_now c.self.inside.root _ 
 pub loop-next-preserved-in-Down : goal.loop-next-preserved-in-Down
 loop-next-preserved-in-Down c = record {
   searching = (goes_down _ _ _ (lawful_now c.self.inside.root _ _ c.self.view_is c.self.invariant.now.lawful) c.args.target c.requires.starts c.loop-next.page c.in-Down.next c.loop-next.invariant.searching c.in-Down.ensures).searching;
-  above = in_levels _ _ _ (lawful_now c.self.inside.root _ _ c.self.view_is c.self.invariant.now.lawful) c.args.target c.requires.starts c.loop-next.page c.in-Down.next c.loop-next.invariant.searching c.in-Down.ensures;
+  above = inner_above c.args.self.now _ c.args.target (lawful_now c.self.inside.root _ _ c.self.view_is c.self.invariant.now.lawful) c.requires.starts c.loop-next.page c.in-Down.next c.loop-next.invariant.searching c.in-Down.ensures;
 }
 
 pub loop-next-smaller : goal.loop-next-smaller

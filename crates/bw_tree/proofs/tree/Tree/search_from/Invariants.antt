@@ -1,12 +1,13 @@
 use Rattle.std.specs.Prelude.{IfSome}
-use Rattle.bw_chain.specs.Searches.{IsInLevels, IsSearching}
+use Rattle.bw_chain.specs.Searches.{IsSearching}
 use Rattle.bw_chain.proofs.RouteLemmas.{rank}
+use Rattle.bw_tree.specs.Routing.{IsInnerPage}
 use Rattle.bw_tree.proofs.tree.Tree.search_from.Given as goal
 
 abbrev pub invariant-loop-next : goal.invariant-loop-next
 invariant-loop-next l = record {
   searching : IsSearching l.self.slots l.self.levels l.target l.page;
-  above : IfSome l.above (IsInLevels l.self.levels);
+  above : IfSome l.above (IsInnerPage l.self);
 }
 
 abbrev pub decreases-loop-next : goal.decreases-loop-next

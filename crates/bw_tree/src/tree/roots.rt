@@ -1,0 +1,82 @@
+// Roots that grow.
+ghost use Rattle.std.specs.Prelude.{◌≡◌, true, None, is_some, IfOk, OnErr};
+ghost use Rattle.bw_chain.specs.Roots.{two_children};
+ghost use Rattle.bw_chain.specs.Slots.{side_of};
+
+use super::Tree;
+use bw_chain::FLOOR;
+use bw_key::{Key, Memory};
+use bw_memory::Alloc;
+use bw_page::{Inner, Page, PageId};
+
+impl Tree {
+    ghost use Rattle.bw_tree.specs.Roots.{HasNewRoot, IsOverRoot};
+
+    /// Puts a new root over a root that was split: the old root and its right neighbour are its children, and the tree has
+    /// one level more. The identifier of the new root is answered. No batch is staged.
+    ///
+    /// Other pages of the old root's level, if it has more, are come to by side links until they are named. It costs a
+    /// walk along the old root's chain and a copy of one key. `Memory` is answered where the copy or a list finds none,
+    /// and where no identifier or no higher level is left; the tree is as before.
+    pub fn new_root(&mut self) -> Result<PageId, Memory>
+        requires none { self.old.staged ≡ None }
+        requires neighbour { is_some (side_of self.old.slots self.old.root) ≡ true }
+        ensures ok { IfOk result (HasNewRoot self.old self.new) }
+        ensures err { OnErr result (self.new ≡ self.old) }
+    {
+        let page = self.page_over_root()?;
+        self.put_root(page)
+    }
+
+    // The page that has the root and its right neighbour as its children.
+    fn page_over_root(&self) -> Result<Inner, Memory>
+        requires { is_some (side_of self.now.slots self.now.root) ≡ true }
+        ensures { IfOk result (IsOverRoot self.now) }
+    {
+        let root = self.root;
+        let head = self.heads[root.0 as usize];
+        let Some((below, high, side)) = self.chains.neighbour(head) else {
+            unreachable!();
+        };
+        let Some(level) = below.checked_add(1) else {
+            return Err(Memory);
+        };
+        let alloc = *self.heads.allocator();
+        let children = two_children(alloc, root, high, side)?;
+        let low = Key::new(alloc, &[]).unwrap();
+        Ok(Inner::from_children(level, low, None, None, children))
+    }
+
+    // Makes that page the root.
+    fn put_root(&mut self, page: Inner) -> Result<PageId, Memory>
+        requires none { self.old.staged ≡ None }
+        requires over { IsOverRoot self.old page }
+        ensures ok { IfOk result (HasNewRoot self.old self.new) }
+        ensures err { OnErr result (self.new ≡ self.old) }
+    {
+        let count = self.heads.len() as u64;
+        if count >= FLOOR - 1 {
+            return Err(Memory);
+        }
+        self.heads.reserve(1)?;
+        let number = self.chains.add_base(Page::Inner(page))?;
+        self.heads.push(number).unwrap();
+        self.root = PageId(count as u32);
+        Ok(self.root)
+    }
+}
+
+// A child for the keys below this one, and one for those from there on.
+fn two_children(
+    alloc: Alloc,
+    left: PageId,
+    key: &Key,
+    right: PageId,
+) -> Result<Vec<(Key, PageId), Alloc>, Memory>
+    ensures { IfOk result (λ children. children.items ≡ two_children left key.now right) }
+{
+    let mut children = Vec::with_capacity(alloc, 2)?;
+    children.push((Key::new(alloc, &[]).unwrap(), left))?;
+    children.push((key.copy()?, right))?;
+    Ok(children)
+}

@@ -1,0 +1,101 @@
+// Leaves that part in two, of which the page above knows nothing yet.
+ghost use Rattle.std.specs.Prelude.{◌≡◌, None};
+
+use super::making::{are, has, heap, key, stands, three_leaves};
+use super::refused::was_refused;
+use bw_memory::Alloc;
+use bw_tree::{Memory, PageId, Tree};
+use std::process::Abort;
+
+// The word of the first record.
+const FLOOR: u64 = 4294967296;
+
+// Splits the leaf that has a key, which is a base page by itself with more than `keep` pairs.
+fn split<R: Abort>(
+    rt: &R,
+    alloc: Alloc,
+    tree: &mut Tree,
+    bytes: &[u8],
+    keep: usize,
+) -> Result<PageId, Memory>
+    requires { tree.old.staged ≡ None }
+    ensures { tree.new.staged ≡ None }
+{
+    let page = tree.route(&key(rt, alloc, bytes));
+    assert!(rt; tree.heads()[page.0 as usize] < FLOOR);
+    assert!(rt; keep > 0 && keep < tree.entries(page));
+    tree.set_split(page, keep)
+}
+
+// Compares the leaf of a key.
+fn routes<R: Abort>(rt: &R, alloc: Alloc, tree: &Tree, bytes: &[u8], wanted: u32) {
+    assert!(rt; tree.route(&key(rt, alloc, bytes)) == PageId(wanted));
+}
+
+// Compares what is read of the three leaves.
+fn holds<R: Abort>(rt: &R, alloc: Alloc, tree: &Tree) {
+    has(
+        rt,
+        alloc,
+        tree,
+        0,
+        &[(b"a", Some(b"1")), (b"aa", None), (b"b", Some(b"2")), (b"c", Some(b"3")), (b"e", Some(b"5"))],
+    );
+    let all = tree.scan_at(&key(rt, alloc, b""), None, 9, 0).expect(rt, "the pairs");
+    assert!(rt; are(all.as_slice(), &[(b"a", b"1"), (b"b", b"2"), (b"c", b"3"), (b"e", b"5")]));
+    let back = tree.rscan_at(&key(rt, alloc, b""), None, 3, 0).expect(rt, "the pairs");
+    assert!(rt; are(back.as_slice(), &[(b"e", b"5"), (b"c", b"3"), (b"b", b"2")]));
+}
+
+#[test]
+fn a_leaf_parts_in_two(rt: HostRuntime) {
+    let alloc = heap(&rt, rt.alloc());
+    let mut tree = three_leaves(&rt, alloc);
+    assert!(rt; split(&rt, alloc, &mut tree, b"a", 1) == Ok(PageId(4)));
+    stands(&rt, &tree, 3, &[FLOOR, 1, 2, 3, 4], 1);
+    routes(&rt, alloc, &tree, b"", 0);
+    routes(&rt, alloc, &tree, b"aa", 0);
+    routes(&rt, alloc, &tree, b"b", 4);
+    routes(&rt, alloc, &tree, b"bb", 4);
+    routes(&rt, alloc, &tree, b"c", 1);
+    holds(&rt, alloc, &tree);
+    assert_eq!(rt; tree.entries(PageId(4)), 1);
+}
+
+#[test]
+fn the_left_part_is_consolidated(rt: HostRuntime) {
+    let alloc = heap(&rt, rt.alloc());
+    let mut tree = three_leaves(&rt, alloc);
+    split(&rt, alloc, &mut tree, b"b", 1).expect(&rt, "memory");
+    let left = tree.route(&key(&rt, alloc, b"a"));
+    tree.consolidate(left).expect(&rt, "memory");
+    stands(&rt, &tree, 3, &[0, 1, 2, 3, 4], 1);
+    routes(&rt, alloc, &tree, b"b", 4);
+    holds(&rt, alloc, &tree);
+}
+
+// Splits a leaf where this growth is refused, and compares the tree after that. Whether it was.
+fn split_refused<R: Abort>(rt: &R, alloc: Alloc, growth: u64) -> bool {
+    let mut tree = three_leaves(rt, alloc);
+    alloc.refuse(growth);
+    let parted = split(rt, alloc, &mut tree, b"a", 1);
+    let refused = was_refused(alloc, growth);
+    assert!(rt; parted.is_err() == refused);
+    if refused {
+        stands(rt, &tree, 3, &[0, 1, 2, 3], 0);
+    }
+    holds(rt, alloc, &tree);
+    refused
+}
+
+#[test]
+fn each_growth_of_a_split_is_refused(rt: HostRuntime) {
+    let alloc = heap(&rt, rt.alloc());
+    for growth in 1..100 {
+        if !split_refused(&rt, alloc, growth) {
+            assert!(rt; growth > 3);
+            return;
+        }
+    }
+    panic!(rt; "no run met no refusal")
+}
