@@ -26,6 +26,6 @@ pub mod BaseLemmas
 pub mod AdditionLemmas
 pub mod CutLemmas
 pub mod SplitLemmas
+pub mod EntryLemmas
 pub mod AboveLemmas
 pub mod RootLemmas
-pub mod EntryLemmas

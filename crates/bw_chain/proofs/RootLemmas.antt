@@ -18,7 +18,7 @@ use Rattle.bw_chain.specs.Roots.{IsGrown, levels_grown, root_over, two_children}
 use Rattle.bw_chain.specs.Slots.{Slot, PageState, Free, Live, children_of, left_of, left_of_slot, level_of, slot_at}
 use Rattle.bw_chain.proofs.LeafRowLemmas.{low_below}
 use Rattle.bw_chain.proofs.RouteLemmas.{row_first}
-use Rattle.bw_chain.proofs.RowLemmas.{first_stands, in_row}
+use Rattle.bw_chain.proofs.RowLemmas.{first_stands, in_row, row_on}
 use Rattle.bw_chain.proofs.WalkLemmas.{way_on}
 
 one_state : {s t : PageState} → Live s ≡ Live t → s ≡ t
@@ -141,11 +141,6 @@ module _ (old new : List Slot) (root : ℕ) (levels : List (List ℕ)) (t : ℕ)
   still m low high side x s =
       record { state = s.state; is = still_live x s.state s.is ∙ s.is; sound = s.sound; at_level = s.at_level; from_low = s.from_low; to_high = s.to_high; linked = s.linked }
 
-  row_still : (m : ℕ) (low : KeyBytes) (ps : List ℕ) → SideBySide old m low ps → SideBySide new m low ps
-  row_still m low [] h = h
-  row_still m low (x ∷ []) h = still m low None None x h
-  row_still m low (x ∷ y ∷ ys) h = (h.0, still m low (Some h.0) (Some y) x h.1, row_still m h.0 (y ∷ ys) h.2)
-
   -- a row is one of before, or the new one
   which : (m : ℕ) → m < length after → (m < length levels) ⊎ (m ≡ length levels)
   which m lt = by (cases_eq m (length levels))
@@ -170,7 +165,7 @@ module _ (old new : List Slot) (root : ℕ) (levels : List (List ℕ)) (t : ℕ)
   rows_new m lt = by (which m lt)
     where
       by : (m < length levels) ⊎ (m ≡ length levels) → SideBySide new m [] (row after m)
-      by (inl low) = subst (SideBySide new m []) (sym (row_same m low)) (row_still m [] (row levels m) (lawful.rows m low))
+      by (inl low) = subst (SideBySide new m []) (sym (row_same m low)) (row_on old new m (still m) [] (row levels m) (lawful.rows m low))
       by (inr last) =
           subst (SideBySide new m []) (sym (row_top m last))
           (subst (λ l. Stands new l [] None None t) (sym last) top_stands)

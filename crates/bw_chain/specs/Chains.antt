@@ -123,8 +123,7 @@ slot_of_word bases records word =
     let base = ended (link_of records) (length records) word in
     changed bases (deltas_at records way) (based (slice_get bases base))
 
--- A chain is some writes, then at most one other change, then a base page. No call makes another change than a write
--- yet; a split and an added child are read already.
+-- A chain is some writes, then at most one other change, which is a split or an added child so far, then a base page.
 abbrev pub IsShaped : List Delta → Type 0
 IsShaped [] = Unit {0}
 IsShaped (Put w ∷ ds) = IsShaped ds

@@ -12,8 +12,8 @@ use Rattle.bw_chain.specs.Levels.{row}
 abbrev pub state_with_child : KeyBytes → ℕ → PageState → PageState
 state_with_child sep child s = record s { body = body_with_child sep child s.body }
 
--- The page may name the child, which stands on the level below and begins at the separator: the page's range has it, and
--- it isn't the first there.
+-- The page may name the child, which stands on the level below and begins at the separator, a key of the page's range
+-- above its low key.
 pub record FitsChild (slots : List Slot) (levels : List (List ℕ)) (parent : ℕ) (sep : KeyBytes)
     (child : ℕ) : Type 0 where
   pub level : ℕ

@@ -8,8 +8,8 @@ use Rattle.bw_chain.specs.Slots.{Slot, slot_at}
 use Rattle.bw_chain.specs.Levels.{AreLevels, IsHome, IsHomeAt, levels_under, row}
 use Rattle.bw_chain.specs.Reading.{contents_in, row_writes, value_in}
 use Rattle.bw_chain.specs.Chains.{Bases, Records, slot_of_word}
-use Rattle.bw_chain.specs.Roots.{IsGrown, levels_grown}
 use Rattle.bw_chain.specs.Children.{FitsChild, HasChild}
+use Rattle.bw_chain.specs.Roots.{IsGrown, levels_grown}
 use Rattle.bw_chain.specs.Splits.{IsParted, level_parted}
 use Rattle.bw_chain.specs.Steps.{AreAlike, KeepsLevels}
 use Rattle.bw_chain.specs.Supports.{KeepsBases, supports_at}
@@ -66,25 +66,19 @@ ContentsAreKept =
     value_in (slot_at new q) key m ≡ value_in (slot_at old p) key n) →
     contents_in new levels' m ≡ contents_in old levels n
 
--- a change of pages leaves lawful levels, with the same writes, that hold the same
+-- new levels are lawful under a root, and hold what the old ones held
 pub record KeepsAll (old new : List Slot) (root : ℕ) (levels levels' : List (List ℕ)) : Type 0 where
   pub lawful : AreLevels new root levels'
   pub writes : row_writes new (row levels' 0) ≡ row_writes old (row levels 0)
   pub contents : HasDistinctStamps (row_writes old (row levels 0)) → (stamp : ℕ) →
       contents_in new levels' stamp ≡ contents_in old levels stamp
 
--- where a page of a level parts, its new right neighbour stands behind it
+-- where a page of a level parts, the levels are lawful with its new right neighbour, and hold the same
 abbrev pub PartsAreKept : Type 0
 PartsAreKept =
     (old new : List Slot) (root : ℕ) (levels : List (List ℕ)) (level p q keep : ℕ) → AreLevels old root levels →
     level < length levels → Contains (row levels level) p → IsParted old new p q keep →
     KeepsAll old new root levels (level_parted levels level p q)
-
--- where the root grows, the levels are lawful with one more above them, and hold the same
-abbrev pub LevelsAreGrown : Type 0
-LevelsAreGrown =
-    (old new : List Slot) (root : ℕ) (levels : List (List ℕ)) (t : ℕ) → AreLevels old root levels →
-    IsGrown old new root t → KeepsAll old new t levels (levels_grown levels t)
 
 -- where a page of a level names one more page of the level below, the levels stay
 abbrev pub ChildIsKept : Type 0
@@ -92,3 +86,9 @@ ChildIsKept =
     (old new : List Slot) (root : ℕ) (levels : List (List ℕ)) (parent : ℕ) (sep : KeyBytes) (child : ℕ) →
     AreLevels old root levels → FitsChild old levels parent sep child → HasChild old new parent sep child →
     KeepsAll old new root levels levels
+
+-- where the root grows, the levels are lawful with one more above them, and hold the same
+abbrev pub LevelsAreGrown : Type 0
+LevelsAreGrown =
+    (old new : List Slot) (root : ℕ) (levels : List (List ℕ)) (t : ℕ) → AreLevels old root levels →
+    IsGrown old new root t → KeepsAll old new t levels (levels_grown levels t)

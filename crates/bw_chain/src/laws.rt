@@ -55,14 +55,14 @@ pub fn parts_are_kept()
     ensures { PartsAreKept }
 {}
 
-/// The law of a root that grows: where a new page is over the root and its right neighbour, the levels are lawful with the
-/// new root's level above them, and hold what they held. It does nothing: its contract is the law.
-pub fn levels_are_grown()
-    ensures { LevelsAreGrown }
-{}
-
 /// The law of an index entry: where a page names one more page of the level below, at the key at which that one begins,
 /// the levels stay, and hold what they held. It does nothing: its contract is the law.
 pub fn child_is_kept()
     ensures { ChildIsKept }
+{}
+
+/// The law of a root that grows: where a new page is over the root and its right neighbour, the levels are lawful with the
+/// new root's level above them, and hold what they held. It does nothing: its contract is the law.
+pub fn levels_are_grown()
+    ensures { LevelsAreGrown }
 {}

@@ -58,7 +58,7 @@ module _ (heads : List ℕ) (bases : Bases) (records : Records) (root next : ℕ
   kept = child_kept old.slots new.slots root old.levels p sep child t.lawful ok.fits given
 
   standing : IsStanding heads' bases records' root next
-  standing = standing_kept heads bases records root next t heads' bases records' old.levels kept
+  standing = standing_kept heads bases records root next t heads' bases records' root old.levels kept
       (record_all_end heads bases records t.ends t.own p word at_p ok.plain delta refl)
       (record_own heads bases records t.ends t.own p word at_p ok.plain delta refl)
       (omega (arith, few, more)) (omega (arith, t.few_pages, length-set heads p new_word)) t.few_bases
@@ -69,8 +69,8 @@ module _ (heads : List ℕ) (bases : Bases) (records : Records) (root next : ℕ
   named : IsNamed old new p sep child
   named = record {
     named = given;
-    levels = same_levels heads bases records root next t heads' bases records' old.levels kept;
-    contents = contents_same heads bases records root next t heads' bases records' old.levels kept;
+    levels = same_levels heads bases records root next t heads' bases records' root old.levels kept;
+    contents = contents_same heads bases records root next t heads' bases records' root old.levels kept;
     heads = ap (set heads p) (sym placed);
     changed = omega (arith, placed);
     root = refl;

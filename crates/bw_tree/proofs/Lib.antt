@@ -21,7 +21,7 @@ pub mod RoutingLemmas
 pub mod ConsolidationLemmas
 pub mod StandingLemmas
 pub mod SplitLemmas
-pub mod RootLemmas
 pub mod EntryLemmas
+pub mod RootLemmas
 pub mod RestartLemmas
 pub mod RebaseLemmas

@@ -1,8 +1,6 @@
 -- A new root leaves a tree that holds the same.
 use Rattle.std.proofs.Common.{get_or, ◌≡◌, ℕ, suc, ◌-◌, ◌<◌, ◌^◌, true, List, [], ◌∷◌, ◌++◌, length, Option, Some, None, is_some, refl, sym, ap, ◌∙◌, subst, arith, length-append}
-use Rattle.std.proofs.lemmas.Option.{slice_get-get_or}
-use Rattle.std.proofs.lemmas.List.{get_or_default, length-map}
-use Rattle.std.specs.List.{AllByRecursion}
+use Rattle.std.proofs.lemmas.List.{length-map}
 use Rattle.std.specs.Option.{unwrap_or}
 use Rattle.std.specs.Ordering.{is_lt}
 use Rattle.std.specs.Prelude.{slice_index}
@@ -10,27 +8,24 @@ use Rattle.bw_key.specs.Order.{KeyBytes, key_cmp}
 use Rattle.bw_page.specs.Inners.{InnerView, IsInner}
 use Rattle.bw_page.specs.declared.pages.Page.{Page}
 use Rattle.bw_page.specs.declared.pages.Page.TheVariants.{Inner as InnerPage}
-use Rattle.bw_delta.specs.History.{HasDistinctStamps}
-use Rattle.bw_delta.specs.Writes.{WriteView}
-use Rattle.bw_chain.specs.Chains.{Bases, Ends, Records, slot_of_word, slots_of}
+use Rattle.bw_chain.specs.Chains.{Bases, Records, slot_of_word, slots_of}
 use Rattle.bw_chain.specs.Laws.{KeepsAll}
 use Rattle.bw_chain.specs.Levels.{AreLevels, Stands, row, levels_under}
-use Rattle.bw_chain.specs.Reading.{contents_in, row_writes}
 use Rattle.bw_chain.specs.Roots.{IsGrown, IsNeighbour, levels_grown, root_over, two_children}
 use Rattle.bw_chain.specs.Scans.{high_of}
 use Rattle.bw_chain.specs.Slots.{Slot, PageState, Body, Pairs, Children, Free, Live, IsSoundBody, level_of, side_of_slot, slot_at, slot_level}
 use Rattle.bw_chain.specs.Targets.{IsLinked}
 use Rattle.bw_chain.proofs.AdditionLemmas.{get_last, page_all_end, page_others, page_own, page_there}
 use Rattle.bw_chain.proofs.LeafRowLemmas.{low_below}
-use Rattle.bw_chain.proofs.LevelLemmas.{levels_now}
 use Rattle.bw_chain.proofs.RootLemmas.{begins_row, levels_grow, two_sound}
-use Rattle.bw_chain.proofs.ReadingLemmas.{slot_of_head}
 use Rattle.bw_chain.proofs.RouteLemmas.{held, row_first}
 use Rattle.bw_tree.specs.Roots.{HasNewRoot, IsOverRoot}
 use Rattle.bw_tree.specs.Trees.{IsStanding, IsTree, StageWords, view_of}
 use Rattle.bw_tree.specs.View.{StageView, TreeView}
 use Rattle.bw_tree.proofs.AdoptLemmas.{slot_past}
+use Rattle.bw_tree.proofs.RoutingLemmas.{PageAt, at_head}
 use Rattle.bw_tree.proofs.SplitLemmas.{index_is}
+use Rattle.bw_tree.proofs.StandingLemmas.{contents_same, same_levels as levels_same, standing_kept}
 
 not_free : {s : PageState} → Free ≡ Live s → ⊥
 not_free e = cc
@@ -113,23 +108,15 @@ module _ (heads : List ℕ) (bases : Bases) (records : Records) (root next : ℕ
   kept = levels_grow old.slots new.slots root old.levels q t.lawful grown
 
   same_levels : new.levels ≡ levels_grown old.levels q
-  same_levels = levels_now new.slots q (levels_grown old.levels q) kept.lawful
-
-  abbrev IsPast : WriteView → Type 0
-  IsPast w = w.stamp < next
+  same_levels = levels_same heads bases records root next t heads' bases' records q (levels_grown old.levels q) kept
 
   pub standing_new : IsStanding heads' bases' records q next
-  standing_new = record {
-    ends = page_all_end heads bases records t.ends t.own few page;
-    own = page_own heads bases records t.ends t.own few page;
-    lawful = subst (AreLevels new.slots q) (sym same_levels) kept.lawful;
-    distinct = subst (λ (l : List (List ℕ)). HasDistinctStamps (row_writes new.slots (row l 0))) (sym same_levels) (subst HasDistinctStamps (sym kept.writes) t.distinct);
-    past = subst (λ (l : List (List ℕ)). AllByRecursion IsPast (row_writes new.slots (row l 0))) (sym same_levels) (subst (AllByRecursion IsPast) (sym kept.writes) t.past);
-    fits = t.fits;
-    few_records = t.few_records;
-    few_pages = omega (arith, few_pages, length-append heads (length bases ∷ []));
-    few_bases = omega (arith, few_bases, length-append bases (Some page ∷ []));
-  }
+  standing_new = standing_kept heads bases records root next t heads' bases' records q (levels_grown old.levels q) kept
+      (page_all_end heads bases records t.ends t.own few page)
+      (page_own heads bases records t.ends t.own few page)
+      t.few_records
+      (omega (arith, few_pages, length-append heads (length bases ∷ [])))
+      (omega (arith, few_bases, length-append bases (Some page ∷ [])))
 
   word_there : slice_index heads' q ≡ length bases
   word_there = index_is heads' q ∙ ap (λ (x : Option ℕ). unwrap_or x 0) (get_last heads (length bases))
@@ -138,7 +125,7 @@ module _ (heads : List ℕ) (bases : Bases) (records : Records) (root next : ℕ
   root_new = record {
     grown = grown;
     levels = same_levels;
-    contents = λ stamp. ap (λ (l : List (List ℕ)). contents_in new.slots l stamp) same_levels ∙ kept.contents t.distinct stamp;
+    contents = contents_same heads bases records root next t heads' bases' records q (levels_grown old.levels q) kept;
     page = refl;
     heads = ap (λ w. heads ++ w ∷ []) (sym word_there);
     plain = omega (arith, few, word_there);
@@ -184,25 +171,13 @@ root_on heads bases records root next None tree is none t = made_on heads bases 
 root_on heads bases records root next (Some stage) tree is none t = absurd (unstaged (ap (λ (v : TreeView). v.staged) is ∙ none))
 
 -- what is known of the word of the root
-pub record WordAt (heads : List ℕ) (bases : Bases) (records : Records) (tree : TreeView) (p word : ℕ) : Type 0 where
-  pub word_is : word ≡ slice_index heads p
-  pub within : p < length heads
-  pub ends : Ends bases records word
-  pub slot : slot_of_word bases records word ≡ slot_at tree.slots p
-
 pub root_word : (heads : List ℕ) (bases : Bases) (records : Records) (root next : ℕ) (staged : Option StageWords) (tree : TreeView) → view_of heads bases records root next staged ≡ tree → IsTree heads bases records root next staged →
-    (word : ℕ) → word ≡ get_or heads root word → WordAt heads bases records tree root word
+    (word : ℕ) → word ≡ get_or heads root word → PageAt tree heads bases records root word
 root_word heads bases records root next staged tree is t word read =
     let slots = slots_of heads bases records in
     let st = (top_of slots root (levels_under slots root) t.now.lawful).stands in
     let within : root < length heads = omega (arith, held slots root (λ free. not_free (sym free ∙ st.is)), length-map heads (slot_of_word bases records)) in
-    let same : word ≡ slice_index heads root = read ∙ get_or_default heads root word 0 within in
-    record {
-      word_is = same;
-      within = within;
-      ends = subst (Ends bases records) (sym same) (t.now.ends root (slice_index heads root) (slice_get-get_or heads root 0 within));
-      slot = ap (slot_of_word bases records) same ∙ sym (slot_of_head bases records heads root 0 within) ∙ ap (λ (v : TreeView). slot_at v.slots root) is;
-    }
+    at_head heads bases records root next _ staged tree root word is t.now within read
 
 -- the page over the root keeps the rules of inner pages
 pub over_sound : (heads : List ℕ) (bases : Bases) (records : Records) (root next : ℕ) (staged : Option StageWords) (tree : TreeView) → view_of heads bases records root next staged ≡ tree → IsTree heads bases records root next staged →
@@ -211,7 +186,7 @@ pub over_sound : (heads : List ℕ) (bases : Bases) (records : Records) (root ne
 over_sound heads bases records root next staged tree is t word read below high side neighbour level low children level_is low_is children_are =
     let slots = slots_of heads bases records in
     let slot = (root_word heads bases records root next staged (view_of heads bases records root next staged) refl t word read).slot in
-    let above = above_least slots root (levels_under slots root) below high side t.now.lawful (subst (λ (o : Slot). IsNeighbour o below high side) slot neighbour) in
+    let above = above_least slots root (levels_under slots root) below high side t.now.lawful (subst (λ (o : Slot). IsNeighbour o below high side) (sym slot) neighbour) in
     subst (λ (es : List (KeyBytes × ℕ)). IsInner level low None None es) (sym children_are)
     (subst (λ (k : KeyBytes). IsInner level k None None (two_children root high side)) (sym low_is)
     (subst (λ l. IsInner l [] None None (two_children root high side)) (sym level_is)

@@ -136,10 +136,10 @@ module _ (heads : List ℕ) (bases : Bases) (records : Records) (root next : ℕ
   kept level lt has = parts_kept old.slots new.slots root old.levels level p q keep t.lawful lt has parted
 
   same_levels : (level : ℕ) → level < length old.levels → Contains (row old.levels level) p → new.levels ≡ level_parted old.levels level p q
-  same_levels level lt has = levels_same heads bases records root next t heads' bases' records' (level_parted old.levels level p q) (kept level lt has)
+  same_levels level lt has = levels_same heads bases records root next t heads' bases' records' root (level_parted old.levels level p q) (kept level lt has)
 
   pub standing_new : IsStanding heads' bases' records' root next
-  standing_new = standing_kept heads bases records root next t heads' bases' records' (level_parted old.levels ok.level p q) (kept ok.level ok.within ok.in_level)
+  standing_new = standing_kept heads bases records root next t heads' bases' records' root (level_parted old.levels ok.level p q) (kept ok.level ok.within ok.in_level)
       (page_all_end heads1 bases records' ends1 own1 few right)
       (page_own heads1 bases records' ends1 own1 few right)
       (omega (arith, few_records, length-append records ((delta, word) ∷ [])))
@@ -159,7 +159,7 @@ module _ (heads : List ℕ) (bases : Bases) (records : Records) (root next : ℕ
   split_new = record {
     parted = parted;
     levels = same_levels;
-    contents = contents_same heads bases records root next t heads' bases' records' (level_parted old.levels ok.level p q) (kept ok.level ok.within ok.in_level);
+    contents = contents_same heads bases records root next t heads' bases' records' root (level_parted old.levels ok.level p q) (kept ok.level ok.within ok.in_level);
     page = refl;
     pages = omega (arith, pages1, length-append heads1 (length bases ∷ []));
     heads = λ r other old_one.

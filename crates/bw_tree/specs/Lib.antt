@@ -22,5 +22,5 @@ pub use Rattle.bw_chain.specs.LeafEnds
 pub use Rattle.bw_chain.specs.Targets
 pub use Rattle.bw_chain.specs.Laws
 pub mod Splits
-pub mod Roots
 pub mod Children
+pub mod Roots

@@ -1,9 +1,6 @@
-use Rattle.std.proofs.Common.{◌≡◌, ◌≤◌, ℕ, refl, sym, subst, arith}
-use Rattle.bw_key.specs.Order.{KeyBytes}
+use Rattle.std.proofs.Common.{◌≡◌, ℕ, refl, sym, subst, arith}
 use Rattle.bw_chain.specs.Levels.{AreLevels, IsHomeAt}
-use Rattle.bw_chain.specs.Turns.{IsTurn}
 use Rattle.bw_chain.specs.declared.target.Target.TheVariants.{Home}
-use Rattle.bw_chain.specs.declared.turn.Turn.TheVariants.{Here, Right, Down, Left}
 use Rattle.bw_chain.proofs.AboveLemmas.{down_at, down_home, down_level, here_level, left_level, right_level, root_at, sought_linked, sought_starts}
 use Rattle.bw_chain.proofs.MarkLemmas.{key_stands}
 use Rattle.bw_chain.proofs.RouteLemmas.{root_sought, sought_held, turned_down, turned_here, turned_left, turned_right}
