@@ -3,6 +3,10 @@ use Rattle.std.proofs.Common.{◌≡◌, ℕ, zero, suc, ◌-◌, ◌<◌, ◌�
 use Rattle.std.specs.List.{Contains}
 use Rattle.bw_key.specs.Order.{KeyBytes}
 use Rattle.bw_model.specs.Contents.{is_below_end}
+use Rattle.bw_page.specs.Inners.{IsUpto}
+use Rattle.bw_page.proofs.KeyLemmas.{below_self}
+use Rattle.bw_page.proofs.Truths.{not_holds}
+use Rattle.bw_chain.specs.Before.{low_at}
 use Rattle.bw_chain.specs.Levels.{AreLevels, IsHomeAt, IsReached, LeadsBelow, row}
 use Rattle.bw_chain.specs.Searches.{Sought, level_at}
 use Rattle.bw_chain.specs.Slots.{Slot, PageState, Body, Pairs, Children, Free, Gone, Live, IsSoundBody, IsSoundPage, children_of, left_of, left_of_slot, level_of, slot_at, slot_level}
@@ -177,7 +181,7 @@ module _ (slots : List Slot) (root : ℕ) (levels : List (List ℕ)) (lawful : A
 
 -- a page of a level is the home of its low key there, and no other level has it
 module _ (slots : List Slot) (root : ℕ) (levels : List (List ℕ)) (lawful : AreLevels slots root levels) (p n : ℕ) (within : n < length levels) (has : Contains (row levels n) p) where
-  here : InRow slots n (row levels n) has.0 p
+  pub here : InRow slots n (row levels n) has.0 p
   here = in_row slots n [] (row levels n) has.0 p (lawful.rows n within) has.1 has.2
 
   pub own_level : slot_level (slot_at slots p) ≡ n

@@ -7,7 +7,7 @@ ghost use Rattle.bw_chain.specs.Levels.{IsHome, IsHomeAt};
 ghost use Rattle.bw_chain.specs.Before.{IsBefore};
 ghost use Rattle.bw_chain.specs.Searches.{IsInLevels, IsSearching, plain_inner};
 ghost use Rattle.bw_chain.specs.Targets.{AreAtHome, IsLinked, IsTurnFor, StartsFrom, lies_from};
-ghost use Rattle.bw_tree.specs.Routing.{IsFoundEnd, IsInnerPage};
+ghost use Rattle.bw_tree.specs.Routing.{IsFoundEnd, IsInLevel, IsInNoLevel, IsInnerPage};
 
 use super::Tree;
 use bw_chain::{Target, Turn};
@@ -121,6 +121,25 @@ impl Tree {
         ensures { IsTurnFor target.entry (slot_at self.now.slots page) result }
     {
         self.chains.turn_at(self.heads[page.0 as usize], target)
+    }
+
+    /// The level on which a page stands, the leaves' being 0, or none where it stands on no level: one search for the key at
+    /// which it begins. It takes no memory.
+    pub fn in_level(&self, page: PageId) -> Option<u32>
+        ensures { MatchOption result (IsInNoLevel self.now page) (IsInLevel self.now page) }
+    {
+        if page.0 as usize >= self.heads.len() {
+            return None;
+        }
+        let head = self.heads[page.0 as usize];
+        let Some(low) = self.chains.low(head) else {
+            return None;
+        };
+        let level = self.chains.level(head);
+        if self.above(level, low) == Some(page) {
+            return Some(level);
+        }
+        None
     }
 
     // The level of a page.
