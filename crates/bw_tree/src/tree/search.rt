@@ -46,8 +46,8 @@ impl Tree {
         self.search(Target::Before(end))
     }
 
-    /// The inner page from which a search for a key goes down to the key's leaf, or none where the root is a leaf. It takes
-    /// no memory.
+    /// The inner page from which a search for a key goes down to the key's leaf, or none where the root is a leaf. It
+    /// takes no memory.
     pub fn above(&self, key: &Key) -> Option<PageId>
         ensures { IfSome result (IsInnerPage self.now) }
     {
