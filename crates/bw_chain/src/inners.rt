@@ -32,8 +32,8 @@ impl Chains {
         }
     }
 
-    /// The inner page that a chain makes, as a page that has no record. It costs a walk along the chain's links and a copy
-    /// of each child.
+    /// The inner page that a chain makes, as a page that has no record. It costs a walk along the chain's links and a
+    /// copy of each child.
     pub fn inner_page(&self, head: u64) -> Result<Inner, Memory>
         requires ends { IsChain self.now head }
         requires inner { IsSoundInner (page_at self.now head) }
@@ -54,7 +54,8 @@ impl Chains {
 fn inner_over(alloc: Alloc, delta: Option<&Delta>, base: &Inner) -> Result<Inner, Memory>
     requires other { IsNoWrite delta }
     requires sound { (bases : Bases) → IsSoundInner (over bases delta (plain_inner base.now)) }
-    ensures { IfOk result (λ inner. (bases : Bases) → plain_inner inner ≡ over bases delta.entry (plain_inner base.now)) }
+    ensures { IfOk result (λ inner. (bases : Bases) →
+        plain_inner inner ≡ over bases delta.entry (plain_inner base.now)) }
 {
     let Some(delta) = delta else {
         return base.upper_half(0);

@@ -1,13 +1,14 @@
 -- Searches of a tree along rising keys.
 use Rattle.std.specs.Prelude.{◌≡◌, ℕ, ◌<◌, T, length, Option, Some, None}
 use Rattle.std.specs.Borrow.{Bor}
+use Rattle.std.specs.List.{Contains}
 use Rattle.std.specs.Option.{option_copied}
 use Rattle.bw_key.specs.Order.{KeyBytes}
 use Rattle.bw_model.specs.Contents.{is_below_end}
 use Rattle.bw_page.specs.Inners.{InnerView}
 use Rattle.bw_chain.specs.Searches.{IsInLevels, plain_inner}
 use Rattle.bw_chain.specs.declared.target.Target.{Target}
-use Rattle.bw_chain.specs.Levels.{IsHome}
+use Rattle.bw_chain.specs.Levels.{IsHome, row}
 use Rattle.bw_chain.specs.Scans.{high_of}
 use Rattle.bw_chain.specs.Slots.{slot_at}
 use Rattle.bw_chain.specs.Targets.{AreAtHome}
@@ -22,6 +23,14 @@ pub record RoutesView : Type 0 where
 pub record IsInnerPage (tree : TreeView) (p : ℕ) : Type 0 where
   pub in_levels : IsInLevels tree.levels p
   pub raised : 0 < in_levels.level
+
+-- the page stands on this level
+abbrev pub IsInLevel : TreeView → ℕ → ℕ → Type 0
+IsInLevel tree p level = (level < length tree.levels) × Contains (row tree.levels level) p
+
+-- it stands on no level
+abbrev pub IsInNoLevel : TreeView → ℕ → Type 0
+IsInNoLevel tree p = (level : ℕ) → IsInLevel tree p level → ⊥
 
 -- a page of a level is this inner page
 pub record IsInnerOf (tree : TreeView) (inner : InnerView) : Type 0 where

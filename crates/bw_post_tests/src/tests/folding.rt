@@ -110,6 +110,25 @@ fn one_leaf_of_three_is_consolidated(rt: HostRuntime) {
     holds(&rt, alloc, &tree, 3, &AFTER);
 }
 
+// Starts over a tree of three leaves and their root, where its mapping words name their base pages.
+fn start_over<R: Abort>(rt: &R, tree: &mut Tree)
+    requires { tree.old.staged ≡ None }
+{
+    assert!(rt; tree.heads() == [0, 1, 2, 3].as_slice());
+    tree.restart();
+}
+
+#[test]
+fn a_tree_of_consolidated_leaves_starts_over(rt: HostRuntime) {
+    let alloc = heap(rt.alloc()).expect(&rt, "memory");
+    let mut tree = written(&rt, alloc);
+    consolidate(&rt, alloc, &mut tree, b"c").expect(&rt, "memory");
+    consolidate(&rt, alloc, &mut tree, b"e").expect(&rt, "memory");
+    start_over(&rt, &mut tree);
+    stands(&rt, &tree, &[0, 1, 2, 3], 0, 0);
+    holds(&rt, alloc, &tree, 0, &AFTER);
+}
+
 #[test]
 fn a_batch_is_posted_over_a_consolidated_leaf(rt: HostRuntime) {
     let alloc = heap(rt.alloc()).expect(&rt, "memory");

@@ -41,8 +41,8 @@ impl Tree {
         let head = self.heads[page.0 as usize];
         self.heads[page.0 as usize] = self.chains.replace_base(head, Page::Leaf(leaf));
     }
-    /// Consolidates an inner page: what its chain makes of its base page takes the place of that page, so that the page has
-    /// no record any more. No batch is staged.
+    /// Consolidates an inner page: what its chain makes of its base page takes the place of that page, so that the page
+    /// has no record any more. No batch is staged.
     ///
     /// It costs a walk along the chain and a copy of the page's children. After `Memory` the tree is as before.
     pub fn consolidate_inner(&mut self, page: PageId) -> Result<(), Memory>

@@ -7,10 +7,11 @@ use super::Tree;
 impl Tree {
     ghost use Rattle.bw_tree.specs.View.{contents_at};
 
-    /// Starts records and stamps over: there is no record any more, and the next stamp is 0. Each page is a base page by
-    /// itself, and no batch is staged.
+    /// Starts records and stamps over: there is no record any more, and the next stamp is 0. Each page is a base page
+    /// by itself, and no batch is staged.
     ///
-    /// What the tree holds is then the same as of every stamp. It takes no memory, and a step for each record that it lets go.
+    /// What the tree holds is then the same as of every stamp. It takes no memory, and a step for each record that it
+    /// lets go.
     pub fn restart(&mut self)
         requires none { self.old.staged ≡ None }
         requires plain { AllByRecursion (λ w. w < 2 ^ 32) self.old.heads }

@@ -15,7 +15,7 @@ fn consolidate_above<R: Abort>(
 ) -> Result<PageId, Memory>
     requires { tree.old.staged ≡ None }
 {
-    let page = tree.above(&key(rt, alloc, bytes)).expect(rt, "a page");
+    let page = tree.above(1, &key(rt, alloc, bytes)).expect(rt, "a page");
     tree.consolidate_inner(page)?;
     Ok(page)
 }
@@ -49,7 +49,7 @@ fn the_copy_of_an_inner_page_is_refused(rt: HostRuntime) {
 fn one_leaf_has_no_page_above(rt: HostRuntime) {
     let alloc = heap(&rt, rt.alloc());
     let tree = Tree::new(alloc).expect(&rt, "memory");
-    assert!(rt; tree.above(&key(&rt, alloc, b"a")) == None);
+    assert!(rt; tree.above(1, &key(&rt, alloc, b"a")) == None);
 }
 
 // Starts over a tree of three leaves, where its mapping words name their base pages.
