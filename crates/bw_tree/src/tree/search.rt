@@ -136,10 +136,10 @@ impl Tree {
             return None;
         };
         let level = self.chains.level(head);
-        if self.above(level, low) == Some(page) {
-            return Some(level);
-        }
-        None
+        let Some(home) = self.above(level, low) else {
+            return None;
+        };
+        if home.0 == page.0 { Some(level) } else { None }
     }
 
     // The level of a page.
