@@ -190,6 +190,9 @@ module _ (slots : List Slot) (root : ℕ) (levels : List (List ℕ)) (lawful : A
   pub own_low : low_at (slot_at slots p) ≡ Some here.stands.state.low
   own_low = ap low_at here.stands.is
 
+  pub own_linked : IsLinked (slot_at slots p)
+  own_linked = subst IsLinked (sym here.stands.is) (linked_of here.stands.state.low here.stands.state.high here.stands.state.side here.stands.state.body here.stands.sound)
+
   pub own_page : (key : KeyBytes) (q : ℕ) → low_at (slot_at slots p) ≡ Some key → IsHomeAt slots levels key n q → q ≡ p
   own_page key q low home =
       let s = here.stands.state in

@@ -1,5 +1,5 @@
 -- A new root leaves a tree that holds the same.
-use Rattle.std.proofs.Common.{get_or, ◌≡◌, ℕ, suc, ◌-◌, ◌<◌, ◌^◌, true, List, [], ◌∷◌, ◌++◌, length, Option, Some, None, is_some, refl, sym, ap, ◌∙◌, subst, arith, length-append}
+use Rattle.std.proofs.Common.{get_or, ◌≡◌, ℕ, suc, ◌-◌, ◌<◌, ◌^◌, true, List, [], ◌∷◌, ◌++◌, length, Option, Some, None, refl, sym, ap, ◌∙◌, subst, arith, length-append}
 use Rattle.std.proofs.lemmas.List.{length-map}
 use Rattle.std.specs.Option.{unwrap_or}
 use Rattle.std.specs.Ordering.{is_lt}
@@ -13,8 +13,7 @@ use Rattle.bw_chain.specs.Laws.{KeepsAll}
 use Rattle.bw_chain.specs.Levels.{AreLevels, Stands, row, levels_under}
 use Rattle.bw_chain.specs.Roots.{IsGrown, IsNeighbour, levels_grown, root_over, two_children}
 use Rattle.bw_chain.specs.Scans.{high_of}
-use Rattle.bw_chain.specs.Slots.{Slot, PageState, Body, Pairs, Children, Free, Live, IsSoundBody, level_of, side_of_slot, slot_at, slot_level}
-use Rattle.bw_chain.specs.Targets.{IsLinked}
+use Rattle.bw_chain.specs.Slots.{Slot, PageState, Free, Live, level_of, side_of_slot, slot_at, slot_level}
 use Rattle.bw_chain.proofs.AdditionLemmas.{get_last, page_all_end, page_others, page_own, page_there}
 use Rattle.bw_chain.proofs.LeafRowLemmas.{low_below}
 use Rattle.bw_chain.proofs.RootLemmas.{begins_row, levels_grow, two_sound}
@@ -41,16 +40,6 @@ top_of slots root levels lawful =
     let n = length levels - 1 in
     let first = row_first slots n [] (row levels n) root (lawful.rows n (omega (arith, lawful.some))) lawful.top in
     record { high = first.0; side = first.1.0; stands = first.1.1 }
-
--- a sound page has a right neighbour exactly where it has an end
-linked_body : (low : KeyBytes) (high : Option KeyBytes) (side : Option ℕ) (b : Body) → IsSoundBody low high side b → is_some side ≡ is_some high
-linked_body low high side (Pairs pairs writes) sound = sound.page.linked
-linked_body low high side (Children level children) sound = sound.page.linked
-
-pub root_linked : (slots : List Slot) (root : ℕ) (levels : List (List ℕ)) → AreLevels slots root levels → IsLinked (slot_at slots root)
-root_linked slots root levels lawful =
-    let st = (top_of slots root levels lawful).stands in
-    subst IsLinked (sym st.is) (linked_body st.state.low st.state.high st.state.side st.state.body st.sound)
 
 -- the least key lies before the root's end
 pub above_least : (slots : List Slot) (root : ℕ) (levels : List (List ℕ)) (level : ℕ) (high : KeyBytes) (side : ℕ) → AreLevels slots root levels → IsNeighbour (slot_at slots root) level high side → is_lt (key_cmp [] high) ≡ true

@@ -167,8 +167,9 @@ impl Tree {
         let _ = &self.root;
     }
 
-    /// What a scan knows of the levels: they are lawful, and no two writes over the leaves have one stamp. It does nothing.
-    pub(crate) fn know_levels(&self)
+    /// What every tree keeps of its levels: they are lawful, and no two writes over the leaves have one stamp. A caller's
+    /// proof knows it behind this call, which does nothing.
+    pub fn know_levels(&self)
         ensures lawful { AreLevels self.now.slots self.now.root self.now.levels }
         ensures distinct { HasDistinctStamps (row_writes self.now.slots (row self.now.levels 0)) }
     {

@@ -59,10 +59,11 @@ impl Tree {
             return Err(Memory);
         }
         self.heads.reserve(1)?;
+        let to = PageId(count as u32);
         let number = self.chains.add_base(Page::Inner(page))?;
         self.heads.push(number).unwrap();
-        self.root = PageId(count as u32);
-        Ok(self.root)
+        self.root = to;
+        Ok(to)
     }
 }
 

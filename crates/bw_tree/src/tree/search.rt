@@ -2,7 +2,7 @@
 ghost use Rattle.std.specs.Prelude.{◌≡◌, ℕ, ◌<◌, ◌≤◌, [], true, T, length, IfSome, MatchOption};
 ghost use Rattle.std.specs.Option.{option_copied};
 ghost use Rattle.bw_model.specs.Contents.{is_below_end};
-ghost use Rattle.bw_chain.specs.Slots.{slot_at, slot_level, is_leaf};
+ghost use Rattle.bw_chain.specs.Slots.{slot_at, slot_level, side_of, is_leaf};
 ghost use Rattle.bw_chain.specs.Levels.{IsHome, IsHomeAt};
 ghost use Rattle.bw_chain.specs.Before.{IsBefore};
 ghost use Rattle.bw_chain.specs.Searches.{IsInLevels, IsSearching, plain_inner};
@@ -140,6 +140,17 @@ impl Tree {
             return None;
         };
         if home.0 == page.0 { Some(level) } else { None }
+    }
+
+    /// The right neighbour of a page of a level, if it has one. It costs a walk along the page's chain, and takes no memory.
+    pub fn right_of(&self, page: PageId) -> Option<PageId>
+        requires { IsInLevels self.now.levels page }
+        ensures { result ≡ side_of self.now.slots page }
+    {
+        let Some((_, _, side)) = self.chains.neighbour(self.heads[page.0 as usize]) else {
+            return None;
+        };
+        Some(side)
     }
 
     // The level of a page.
