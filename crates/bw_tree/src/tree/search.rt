@@ -147,10 +147,10 @@ impl Tree {
         requires { IsInLevels self.now.levels page }
         ensures { result ≡ side_of self.now.slots page }
     {
-        let Some((_, _, side)) = self.chains.neighbour(self.heads[page.0 as usize]) else {
+        let Some(found) = self.chains.neighbour(self.heads[page.0 as usize]) else {
             return None;
         };
-        Some(side)
+        Some(found.2)
     }
 
     // The level of a page.

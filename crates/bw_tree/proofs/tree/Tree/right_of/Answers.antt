@@ -29,4 +29,8 @@ neighbour-requires-clause-linked c =
     subst IsLinked at.slot (own_linked _ _ _ (lawful_now _ _ c.self.view_is c.self.invariant.now.lawful) c.args.page c.requires.level c.requires.within c.requires.in_level)
 
 pub returns : goal.returns
-returns c = ?
+returns c =
+    let heads = c.self.inside.heads.items in
+    let at = page_at_head heads c.self.inside.chains.bases c.self.inside.chains.records c.self.inside.root c.self.inside.next _ c.self.inside.staged c.args.self.now c.args.page c.index.result.now c.self.view_is c.self.invariant.now c.requires
+    (c.index.ensures ∙ ap (λ n. get_or heads n c.index.result.now) c.page.view_is) in
+    sym c.in-Some.ensures.page.linked ∙ sym (ap side_of_slot at.slot)
