@@ -126,7 +126,8 @@ impl Tree {
     /// The level on which a page stands, the leaves' being 0, or none where it stands on no level: one search for the key at
     /// which it begins. It takes no memory.
     pub fn in_level(&self, page: PageId) -> Option<u32>
-        ensures { MatchOption result (IsInNoLevel self.now page) (IsInLevel self.now page) }
+        ensures level { MatchOption result (IsInNoLevel self.now page) (IsInLevel self.now page) }
+        ensures there { IfSome result (λ level. page < length self.now.heads) }
     {
         if page.0 as usize >= self.heads.len() {
             return None;

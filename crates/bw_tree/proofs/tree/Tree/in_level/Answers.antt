@@ -1,11 +1,10 @@
-use Rattle.std.proofs.Common.{◌≡◌, ◌<◌, ◌≤◌, ℕ, length, Option, Some, None, get_or, sym, ap, ◌∙◌, subst, arith}
+use Rattle.std.proofs.Common.{◌≡◌, ℕ, Some, None, get_or, sym, ap, ◌∙◌, subst, arith}
 use Rattle.std.specs.Option.{option_copied}
 use Rattle.bw_key.specs.Order.{KeyBytes}
 use Rattle.bw_chain.specs.Before.{low_at}
 use Rattle.bw_chain.specs.Levels.{AreLevels, IsHomeAt}
-use Rattle.bw_chain.specs.Slots.{Slot, slot_at, slot_level}
+use Rattle.bw_chain.specs.Slots.{slot_at, slot_level}
 use Rattle.bw_chain.proofs.AboveLemmas.{own_level, own_low, own_page}
-use Rattle.bw_tree.specs.Routing.{IsInLevel}
 use Rattle.bw_tree.specs.View.{TreeView}
 use Rattle.bw_tree.proofs.RoutingLemmas.{at_head, page_there}
 use Rattle.bw_tree.proofs.tree.Tree.in_level.Goals as goal
@@ -16,8 +15,8 @@ lawful_now r v w e h = subst (λ (x : TreeView). AreLevels x.slots r x.levels) e
 none_low : {k : KeyBytes} → None ≡ Some k → ⊥
 none_low e = cc
 
-pub returns-then-page-len : goal.returns-then-page-len
-returns-then-page-len c = λ level on.
+pub returns-then-page-len-clause-level : goal.returns-then-page-len-clause-level
+returns-then-page-len-clause-level c = λ level on.
     let there = page_there c.self.inside.heads.items _ _ _ _ _ _ c.args.self.now c.args.page c.self.view_is c.self.invariant.now (record { level = level; within = on.0; in_level = on.1 }) in
     omega (arith, there, c.if-page-len.true, c.len.ensures, c.page.view_is, c.self.inside.heads.ok)
 
@@ -28,8 +27,8 @@ low-requires c =
     (omega (arith, c.if-page-len.false, c.len.ensures, c.page.view_is, c.self.inside.heads.ok))
     (c.index-head.ensures ∙ ap (λ n. get_or heads n c.index-head.result.now) c.page.view_is)).ends
 
-pub returns-in_default : goal.returns-in_default
-returns-in_default c = λ level on.
+pub returns-in_default-clause-level : goal.returns-in_default-clause-level
+returns-in_default-clause-level c = λ level on.
     let heads = c.self.inside.heads.items in
     let at = at_head heads c.self.inside.chains.bases c.self.inside.chains.records c.self.inside.root c.self.inside.next _ c.self.inside.staged c.args.self.now c.args.page c.index-head.result.now c.self.view_is c.self.invariant.now
     (omega (arith, c.if-page-len.false, c.len.ensures, c.page.view_is, c.self.inside.heads.ok))
@@ -43,8 +42,8 @@ level-level-requires c =
     (omega (arith, c.if-page-len.false, c.len.ensures, c.page.view_is, c.self.inside.heads.ok))
     (c.index-head.ensures ∙ ap (λ n. get_or heads n c.index-head.result.now) c.page.view_is)).ends
 
-pub returns-in_default-above : goal.returns-in_default-above
-returns-in_default-above c = λ level on.
+pub returns-in_default-above-clause-level : goal.returns-in_default-above-clause-level
+returns-in_default-above-clause-level c = λ level on.
     let heads = c.self.inside.heads.items in
     let at = at_head heads c.self.inside.chains.bases c.self.inside.chains.records c.self.inside.root c.self.inside.next _ c.self.inside.staged c.args.self.now c.args.page c.index-head.result.now c.self.view_is c.self.invariant.now
     (omega (arith, c.if-page-len.false, c.len.ensures, c.page.view_is, c.self.inside.heads.ok))
@@ -52,8 +51,8 @@ returns-in_default-above c = λ level on.
     let same : c.level-level.result ≡ level = c.level-level.ensures ∙ sym (ap slot_level at.slot) ∙ own_level _ _ _ (lawful_now c.self.inside.root _ _ c.self.view_is c.self.invariant.now.lawful) c.args.page level on.0 on.1 in
     omega (arith, same, on.0, c.in_default-above.ensures)
 
-pub returns-else-home-page : goal.returns-else-home-page
-returns-else-home-page c = λ level on.
+pub returns-else-home-page-clause-level : goal.returns-else-home-page-clause-level
+returns-else-home-page-clause-level c = λ level on.
     let heads = c.self.inside.heads.items in
     let lawful = lawful_now c.self.inside.root _ _ c.self.view_is c.self.invariant.now.lawful in
     let at = at_head heads c.self.inside.chains.bases c.self.inside.chains.records c.self.inside.root c.self.inside.next _ c.self.inside.staged c.args.self.now c.args.page c.index-head.result.now c.self.view_is c.self.invariant.now

@@ -1,4 +1,4 @@
-use Rattle.std.proofs.Common.{◌≡◌, ◌<◌, length, get_or, sym, ap, ◌∙◌, subst, arith}
+use Rattle.std.proofs.Common.{◌≡◌, get_or, sym, ap, ◌∙◌, subst, arith}
 use Rattle.bw_chain.specs.Levels.{AreLevels}
 use Rattle.bw_chain.specs.Slots.{side_of_slot}
 use Rattle.bw_chain.specs.Targets.{IsLinked}
