@@ -22,7 +22,9 @@ impl Tree {
         ensures err { OnErr result (self.new ≡ self.old) }
     {
         let head = self.heads[parent.0 as usize];
-        let word = self.chains.add_record(Delta::AddChild { sep, child }, head)?;
+        let word = self
+            .chains
+            .add_record(Delta::AddChild { sep, child }, head)?;
         self.heads[parent.0 as usize] = word;
         Ok(())
     }

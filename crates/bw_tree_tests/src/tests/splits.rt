@@ -39,11 +39,26 @@ fn holds<R: Abort>(rt: &R, alloc: Alloc, tree: &Tree) {
         alloc,
         tree,
         0,
-        &[(b"a", Some(b"1")), (b"aa", None), (b"b", Some(b"2")), (b"c", Some(b"3")), (b"e", Some(b"5"))],
+        &[
+            (b"a", Some(b"1")),
+            (b"aa", None),
+            (b"b", Some(b"2")),
+            (b"c", Some(b"3")),
+            (b"e", Some(b"5")),
+        ],
     );
-    let all = tree.scan_at(&key(rt, alloc, b""), None, 9, 0).expect(rt, "the pairs");
-    assert!(rt; are(all.as_slice(), &[(b"a", b"1"), (b"b", b"2"), (b"c", b"3"), (b"e", b"5")]));
-    let back = tree.rscan_at(&key(rt, alloc, b""), None, 3, 0).expect(rt, "the pairs");
+    let all = tree
+        .scan_at(&key(rt, alloc, b""), None, 9, 0)
+        .expect(rt, "the pairs");
+    assert!(rt;
+        are(
+            all.as_slice(),
+            &[(b"a", b"1"), (b"b", b"2"), (b"c", b"3"), (b"e", b"5")]
+        )
+    );
+    let back = tree
+        .rscan_at(&key(rt, alloc, b""), None, 3, 0)
+        .expect(rt, "the pairs");
     assert!(rt; are(back.as_slice(), &[(b"e", b"5"), (b"c", b"3"), (b"b", b"2")]));
 }
 
