@@ -1,49 +1,9 @@
-// Inner pages in the place of their chains, and records and stamps that start over.
+// Levels above the leaves, and records and stamps that start over.
 ghost use Rattle.std.specs.Prelude.{◌≡◌, None};
 
 use super::making::{has, heap, key, stands, three_leaves};
-use bw_memory::Alloc;
-use bw_tree::{Memory, PageId, Tree};
+use bw_tree::Tree;
 use std::process::Abort;
-
-// Consolidates the inner page above the leaf that has a key.
-fn consolidate_above<R: Abort>(
-    rt: &R,
-    alloc: Alloc,
-    tree: &mut Tree,
-    bytes: &[u8],
-) -> Result<PageId, Memory>
-    requires { tree.old.staged ≡ None }
-{
-    let page = tree.above(1, &key(rt, alloc, bytes)).expect(rt, "a page");
-    tree.consolidate_inner(page)?;
-    Ok(page)
-}
-
-#[test]
-fn an_inner_page_without_a_record_stays_as_it_is(rt: HostRuntime) {
-    let alloc = heap(&rt, rt.alloc());
-    let mut tree = three_leaves(&rt, alloc);
-    assert!(rt; consolidate_above(&rt, alloc, &mut tree, b"d") == Ok(PageId(3)));
-    stands(&rt, &tree, 3, &[0, 1, 2, 3], 0);
-    has(
-        &rt,
-        alloc,
-        &tree,
-        0,
-        &[(b"b", Some(b"2")), (b"c", Some(b"3")), (b"d", None)],
-    );
-}
-
-#[test]
-fn the_copy_of_an_inner_page_is_refused(rt: HostRuntime) {
-    let alloc = heap(&rt, rt.alloc());
-    let mut tree = three_leaves(&rt, alloc);
-    alloc.refuse(1);
-    assert!(rt; consolidate_above(&rt, alloc, &mut tree, b"d") == Err(Memory));
-    alloc.refuse(0);
-    stands(&rt, &tree, 3, &[0, 1, 2, 3], 0);
-}
 
 #[test]
 fn one_leaf_has_no_page_above(rt: HostRuntime) {

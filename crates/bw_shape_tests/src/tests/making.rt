@@ -1,0 +1,90 @@
+// A tree of one leaf with five pairs, and what tests compare with.
+ghost use Rattle.std.specs.Prelude.{◌≡◌, [], None, IfOk};
+ghost use Rattle.bw_tree.specs.Making.{AreAbutting};
+
+use bw_fixtures::{are, key, pair};
+use bw_memory::Alloc;
+use bw_model::Pairs;
+use bw_page::Leaf;
+use bw_shape::{Did, Memory, PageId, Tree, consolidate, grow_root, split};
+use std::process::Abort;
+
+/// The word of the first record.
+pub const FLOOR: u64 = 4294967296;
+
+// The leaf of all keys: a 1, b 2, c 3, d 4, e 5.
+fn five_pairs(alloc: Alloc) -> Result<Leaf, Memory>
+    ensures low { IfOk result (λ leaf. leaf.low ≡ []) }
+    ensures high { IfOk result (λ leaf. leaf.high ≡ None) }
+    ensures side { IfOk result (λ leaf. leaf.side ≡ None) }
+{
+    let a = pair(alloc, b"a", b"1")?;
+    let b = pair(alloc, b"b", b"2")?;
+    let c = pair(alloc, b"c", b"3")?;
+    let d = pair(alloc, b"d", b"4")?;
+    let e = pair(alloc, b"e", b"5")?;
+    let pairs = Pairs::from_vec(vec![in alloc; a, b, c, d, e]?);
+    Ok(Leaf::from_pairs(key(alloc, b"")?, None, None, pairs))
+}
+
+/// The tree of one leaf with five pairs.
+pub fn five<R: Abort>(rt: &R, alloc: Alloc) -> Tree
+    ensures { result.staged ≡ None }
+{
+    let leaf = five_pairs(alloc).expect(rt, "the leaf");
+    let leaves = vec![in alloc; leaf].expect(rt, "a list");
+    Tree::from_level(alloc, leaves).expect(rt, "a tree")
+}
+
+/// Compares the identifier of a tree's root, its mapping words, and what is read of it.
+pub fn stands<R: Abort>(rt: &R, alloc: Alloc, tree: &Tree, root: u32, heads: &[u64]) {
+    assert!(rt; tree.root() == PageId(root));
+    assert!(rt; tree.heads() == heads);
+    let from = key(alloc, b"").expect(rt, "a key");
+    let pairs = tree.scan_at(&from, None, 9, 0).expect(rt, "the pairs");
+    let wanted: [(&[u8], &[u8]); 5] = [
+        (b"a", b"1"),
+        (b"b", b"2"),
+        (b"c", b"3"),
+        (b"d", b"4"),
+        (b"e", b"5"),
+    ];
+    assert!(rt; are(pairs.as_slice(), &wanted));
+}
+
+/// Splits a page, and compares what that did.
+pub fn split_does<R: Abort>(rt: &R, tree: &mut Tree, page: u32, keep: usize, wanted: Did)
+    requires { tree.old.staged ≡ None }
+    ensures { tree.new.staged ≡ None }
+{
+    assert!(rt; split(tree, PageId(page), keep) == Ok(wanted));
+}
+
+/// Consolidates a page, and compares what that did.
+pub fn consolidate_does<R: Abort>(rt: &R, tree: &mut Tree, page: u32, wanted: Did)
+    requires { tree.old.staged ≡ None }
+    ensures { tree.new.staged ≡ None }
+{
+    assert!(rt; consolidate(tree, PageId(page)) == Ok(wanted));
+}
+
+/// Grows the root, and compares what that did.
+pub fn grow_does<R: Abort>(rt: &R, tree: &mut Tree, wanted: Did)
+    requires { tree.old.staged ≡ None }
+    ensures { tree.new.staged ≡ None }
+{
+    assert!(rt; grow_root(tree) == Ok(wanted));
+}
+
+/// Compares the page of a level whose range has a key.
+pub fn finds<R: Abort>(
+    rt: &R,
+    alloc: Alloc,
+    tree: &Tree,
+    level: u32,
+    bytes: &[u8],
+    wanted: Option<u32>,
+) {
+    let found = tree.above(level, &key(alloc, bytes).expect(rt, "a key"));
+    assert!(rt; found.map(|page| page.0) == wanted);
+}

@@ -1,0 +1,107 @@
+// Each growth of memory refused in turn.
+use super::making::{FLOOR, five, grow_does, split_does, stands};
+use bw_fixtures::{heap, was_refused};
+use bw_memory::Alloc;
+use bw_shape::{Did, Memory, PageId, consolidate, grow_root, split};
+use std::process::Abort;
+
+// Splits the leaf where this growth is refused, and compares the tree after that. Whether it was.
+fn split_refused<R: Abort>(rt: &R, alloc: Alloc, growth: u64) -> bool {
+    let mut tree = five(rt, alloc);
+    alloc.refuse(growth);
+    let parted = split(&mut tree, PageId(0), 2);
+    let refused = was_refused(alloc, growth);
+    if refused {
+        assert!(rt; parted == Err(Memory));
+        stands(rt, alloc, &tree, 0, &[0]);
+        return true;
+    }
+    assert!(rt; parted == Ok(Did::Done));
+    stands(rt, alloc, &tree, 0, &[FLOOR, 1]);
+    false
+}
+
+// Grows the root where this growth is refused, and compares the tree after that. Whether it was.
+fn grow_refused<R: Abort>(rt: &R, alloc: Alloc, growth: u64) -> bool {
+    let mut tree = five(rt, alloc);
+    split_does(rt, &mut tree, 0, 2, Did::Done);
+    alloc.refuse(growth);
+    let grown = grow_root(&mut tree);
+    let refused = was_refused(alloc, growth);
+    if refused {
+        assert!(rt; grown == Err(Memory));
+        stands(rt, alloc, &tree, 0, &[FLOOR, 1]);
+        return true;
+    }
+    assert!(rt; grown == Ok(Did::Done));
+    stands(rt, alloc, &tree, 2, &[FLOOR, 1, 2]);
+    false
+}
+
+// Consolidates an inner page that was split where this growth is refused, and compares the tree after that. Whether it was.
+fn consolidation_refused<R: Abort>(rt: &R, alloc: Alloc, growth: u64) -> bool {
+    let mut tree = five(rt, alloc);
+    split_does(rt, &mut tree, 0, 2, Did::Done);
+    grow_does(rt, &mut tree, Did::Done);
+    split_does(rt, &mut tree, 2, 1, Did::Done);
+    alloc.refuse(growth);
+    let consolidated = consolidate(&mut tree, PageId(2));
+    let refused = was_refused(alloc, growth);
+    if refused {
+        assert!(rt; consolidated == Err(Memory));
+        stands(rt, alloc, &tree, 2, &[FLOOR, 1, FLOOR + 1, 3]);
+        return true;
+    }
+    assert!(rt; consolidated == Ok(Did::Done));
+    stands(rt, alloc, &tree, 2, &[FLOOR, 1, 2, 3]);
+    false
+}
+
+#[test]
+fn each_growth_of_a_consolidation_is_refused(rt: HostRuntime) {
+    let alloc = heap(rt.alloc()).expect(&rt, "memory");
+    for growth in 1..100 {
+        if !consolidation_refused(&rt, alloc, growth) {
+            assert!(rt; growth > 1);
+            return;
+        }
+    }
+    panic!(rt; "no run met no refusal")
+}
+
+#[test]
+fn each_growth_of_a_split_is_refused(rt: HostRuntime) {
+    let alloc = heap(rt.alloc()).expect(&rt, "memory");
+    for growth in 1..100 {
+        if !split_refused(&rt, alloc, growth) {
+            assert!(rt; growth > 3);
+            return;
+        }
+    }
+    panic!(rt; "no run met no refusal")
+}
+
+#[test]
+fn a_refused_root_grows_later(rt: HostRuntime) {
+    let alloc = heap(rt.alloc()).expect(&rt, "memory");
+    let mut tree = five(&rt, alloc);
+    split_does(&rt, &mut tree, 0, 2, Did::Done);
+    alloc.refuse(1);
+    assert!(rt; grow_root(&mut tree) == Err(Memory));
+    alloc.refuse(0);
+    stands(&rt, alloc, &tree, 0, &[FLOOR, 1]);
+    grow_does(&rt, &mut tree, Did::Done);
+    stands(&rt, alloc, &tree, 2, &[FLOOR, 1, 2]);
+}
+
+#[test]
+fn each_growth_of_a_new_root_is_refused(rt: HostRuntime) {
+    let alloc = heap(rt.alloc()).expect(&rt, "memory");
+    for growth in 1..100 {
+        if !grow_refused(&rt, alloc, growth) {
+            assert!(rt; growth > 1);
+            return;
+        }
+    }
+    panic!(rt; "no run met no refusal")
+}
