@@ -1,5 +1,5 @@
 // The steps by which a tree changes its pages.
-ghost use Rattle.std.specs.Prelude.{◌≡◌, true, false, None, IfOk, OnErr};
+ghost use Rattle.std.specs.Prelude.{◌≡◌, ◌<◌, ◌≤◌, ◌^◌, true, false, None, IfOk, OnErr, slice_index};
 ghost use Rattle.bw_tree.specs.Splits.{IsSplittable};
 ghost use Rattle.bw_shape.specs.Steps.{IsConsolidationStep, IsRootStep, IsSplitStep};
 
@@ -27,12 +27,12 @@ pub fn consolidate(tree: &mut Tree, page: PageId) -> Result<Did, Memory>
     ensures ok { IfOk result (IsConsolidationStep tree.old tree.new page) }
     ensures err { OnErr result (tree.new ≡ tree.old) }
 {
+    if !has_record(tree, page) {
+        return Ok(Did::NotNeeded);
+    }
     let Some(level) = tree.in_level(page) else {
         return Ok(Did::NotNeeded);
     };
-    if tree.heads()[page.0 as usize] < FLOOR {
-        return Ok(Did::NotNeeded);
-    }
     if level == 0 {
         tree.consolidate(page)?;
     } else {
@@ -63,13 +63,24 @@ fn is_splittable(tree: &Tree, page: PageId, keep: usize) -> bool
     ensures yes { result ≡ true → IsSplittable tree.now page keep }
     ensures no { result ≡ false → IsSplittable tree.now page keep → ⊥ }
 {
+    if has_record(tree, page) {
+        return false;
+    }
     let Some(_) = tree.in_level(page) else {
         return false;
     };
-    if tree.heads()[page.0 as usize] >= FLOOR {
-        return false;
-    }
     keep > 0 && keep < tree.entries(page)
+}
+
+// Whether a page has a record over its base page, as its mapping word tells.
+fn has_record(tree: &Tree, page: PageId) -> bool
+    ensures yes { result ≡ true → 2 ^ 32 ≤ slice_index tree.now.heads page }
+    ensures no { result ≡ false → slice_index tree.now.heads page < 2 ^ 32 }
+{
+    match tree.heads().get(page.0 as usize) {
+        Some(head) => *head >= FLOOR,
+        None => false,
+    }
 }
 
 /// Puts a new root over a root that was split: the old root and its right neighbour are its children. It isn't needed where

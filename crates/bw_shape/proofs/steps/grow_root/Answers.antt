@@ -1,4 +1,4 @@
-use Rattle.std.proofs.Common.{◌≡◌, ◌-◌, ℕ, List, [], ◌∷◌, length, sym, subst, arith}
+use Rattle.std.proofs.Common.{◌-◌, ℕ, List, [], ◌∷◌, length, sym, subst, arith}
 use Rattle.std.specs.List.{Contains}
 use Rattle.bw_chain.specs.Levels.{BeginsWith}
 use Rattle.bw_chain.specs.Searches.{IsInLevels}
