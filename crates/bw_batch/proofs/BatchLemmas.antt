@@ -1,17 +1,10 @@
 -- A batch on a tree, from its staging to its end.
-use Rattle.std.proofs.Common.{◌≡◌, ℕ, ◌+◌, true, false, List, [], ◌∷◌, length, map, take, Option, Some, None, refl, sym, ap, ◌∙◌, subst, arith}
+use Rattle.std.proofs.Common.{◌≡◌, ℕ, ◌+◌, true, false, List, length, take, Option, Some, None, refl, sym, ap, ◌∙◌, subst, arith}
 use Rattle.std.proofs.lemmas.List.{take_all}
-use Rattle.bw_key.specs.Order.{KeyBytes}
 use Rattle.bw_model.specs.Model.{contents_after}
 use Rattle.bw_model.specs.declared.operations.Op.{Op}
 use Rattle.bw_delta.specs.Batches.{writes_of}
-use Rattle.bw_tree.specs.Before.{low_of}
-use Rattle.bw_tree.specs.Folding.{leaf_ranges}
-use Rattle.bw_tree.specs.Levels.{row}
-use Rattle.bw_tree.specs.Scans.{high_of}
-use Rattle.bw_tree.specs.Slots.{Slot, Free, Gone, Live, slot_at}
 use Rattle.bw_tree.specs.Stages.{accepted_tree, adopted_stage, is_adopted, staged_on, undone_tree}
-use Rattle.bw_tree.specs.Turns.{slot_without_writes}
 use Rattle.bw_tree.specs.View.{TreeView, StageView, contents_at, contents_with}
 use Rattle.bw_post.specs.Posting.{IsWaiting}
 use Rattle.bw_batch.specs.Stages.{operations_staged}
@@ -30,27 +23,6 @@ module _ (before tree : TreeView) (ops : List Op) (is : tree ≡ staged_on befor
 
   pub reads_on : (i : ℕ) → contents_with tree (tree.next + i) ≡ contents_after (take i ops) (contents_with tree tree.next)
   reads_on i = ap (λ n. contents_with tree (n + i)) next_is ∙ reads i ∙ ap (contents_after (take i ops)) (sym first_read)
-
--- the writes over a page don't move its bounds
-abbrev range_of : Slot → KeyBytes × Option KeyBytes
-range_of page = (low_of page, high_of page)
-
-bare_range : (page : Slot) → range_of (slot_without_writes page) ≡ range_of page
-bare_range (Live s) = refl
-bare_range (Gone l) = refl
-bare_range Free = refl
-
--- so leaves that differ in writes alone have the same ranges
-pub same_leaves : (tree after : TreeView) → after.levels ≡ tree.levels → ((p : ℕ) → slot_without_writes (slot_at after.slots p) ≡ slot_without_writes (slot_at tree.slots p)) → leaf_ranges after ≡ leaf_ranges tree
-same_leaves tree after levels pages = ap (λ (l : List (List ℕ)). map (λ p. range_of (slot_at after.slots p)) (row l 0)) levels ∙ along (row tree.levels 0)
-  where
-    along : (ps : List ℕ) → map (λ p. range_of (slot_at after.slots p)) ps ≡ map (λ p. range_of (slot_at tree.slots p)) ps
-    along [] = refl
-    along (p ∷ ps) =
-        let here : range_of (slot_at after.slots p) ≡ range_of (slot_at tree.slots p) =
-        sym (bare_range (slot_at after.slots p)) ∙ ap range_of (pages p) ∙ bare_range (slot_at tree.slots p) in
-        let behind = along ps in
-        cc
 
 -- with the batch undone the tree is as before
 pub undone_is : (before tree after : TreeView) (ops : List Op) → before.staged ≡ None → tree ≡ staged_on before ops → undone_tree after after.staged ≡ undone_tree tree tree.staged → undone_tree after after.staged ≡ before
@@ -99,12 +71,11 @@ pub record IsAccepted (before after : TreeView) (ops : List Op) : Type 0 where
   pub none : after.staged ≡ None
   pub records : after.records ≡ before.records + length (writes_of before.next ops)
   pub contents : contents_at after after.next ≡ contents_after ops (contents_at before before.next)
-  pub leaves : leaf_ranges after ≡ leaf_ranges before
 
 pub accepted_as : (before tree now after : TreeView) (ops : List Op) → tree ≡ staged_on before ops → ((i : ℕ) → contents_with tree (before.next + i) ≡ contents_after (take i ops) (contents_at before before.next)) →
-    now.next ≡ tree.next → now.records ≡ tree.records → ((stamp : ℕ) → contents_at now stamp ≡ contents_with tree stamp) → is_adopted now.staged ≡ true → operations_staged now.staged ≡ operations_staged tree.staged → leaf_ranges now ≡ leaf_ranges tree → after ≡ accepted_tree now now.staged →
+    now.next ≡ tree.next → now.records ≡ tree.records → ((stamp : ℕ) → contents_at now stamp ≡ contents_with tree stamp) → is_adopted now.staged ≡ true → operations_staged now.staged ≡ operations_staged tree.staged → after ≡ accepted_tree now now.staged →
     IsAccepted before after ops
-accepted_as before tree now after ops is reads next records same so count leaves accepted_is = by now.staged so count accepted_is
+accepted_as before tree now after ops is reads next records same so count accepted_is = by now.staged so count accepted_is
   where
     different : false ≡ true → ⊥
     different e = cc
@@ -122,5 +93,4 @@ accepted_as before tree now after ops is reads next records same so count leaves
           contents =
               ap (λ (t : TreeView). contents_at t t.next) is' ∙ ap (contents_at now) next_is ∙ same (before.next + length ops) ∙ reads (length ops)
               ∙ ap (λ (l : List Op). contents_after l (contents_at before before.next)) (take_all (length ops) ops (omega arith));
-          leaves = ap leaf_ranges is' ∙ leaves ∙ ap leaf_ranges is;
         }

@@ -1,4 +1,5 @@
 pub mod OutcomesLemmas
 pub mod BatchLemmas
 pub mod ContentsLemmas
-pub mod FoldsLemmas
+pub mod ChangesLemmas
+pub mod DueLemmas

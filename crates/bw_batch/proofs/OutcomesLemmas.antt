@@ -16,9 +16,8 @@ use Rattle.bw_model.specs.declared.operations.Op.{Op}
 use Rattle.bw_model.specs.declared.outcomes.Refusal.{Refusal}
 use Rattle.bw_model.specs.declared.outcomes.Refusal.TheVariants.{TooLong, Memory}
 use Rattle.bw_model.proofs.RunsLemmas.{one_more, left_one_more}
-use Rattle.bw_answer.proofs.ReplyLemmas.{replies_length}
-use Rattle.bw_batch.specs.Outcomes.{batches_of, outcome_of, outcomes_of, answered_by, answered_in, nothing_tidied, IsCounted, AreCounted}
-use Rattle.bw_batch.specs.View.{IndexView, contents_of, next_stamp_of}
+use Rattle.bw_batch.specs.Outcomes.{batches_of, outcome_of, outcomes_of, IsCounted, AreCounted}
+use Rattle.bw_batch.specs.View.{IndexView, contents_of}
 use Rattle.bw_batch.specs.declared.index.Done.{Done}
 
 -- what `run` ensures, as one fact on its outcome
@@ -38,10 +37,10 @@ answered most ops m (Err Memory) replies long fits = elim (cases_lt most (length
 ]
 
 -- and on what it leaves
-pub left_done : (ops : List Op) (old new : IndexView) (outcome : Result Done Refusal) → OnOk outcome (contents_of new ≡ contents_after ops (contents_of old)) → OnErr outcome (new ≡ old) →
+pub left_done : (ops : List Op) (old new : IndexView) (outcome : Result Done Refusal) → OnOk outcome (contents_of new ≡ contents_after ops (contents_of old)) → OnErr outcome (contents_of new ≡ contents_of old) →
     contents_of new ≡ left_by ops (contents_of old) (outcome_of outcome)
 left_done ops old new (Ok done) ok err = ok
-left_done ops old new (Err refusal) ok err = ap contents_of err
+left_done ops old new (Err refusal) ok err = err
 
 -- the batches up to the next
 pub batches_more : (vs : List (Vec Op)) (i : ℕ) (v : Vec Op) → i < length vs → v ≡ get_or vs i v → batches_of (take (i + 1) vs) ≡ batches_of (take i vs) ++ v.items ∷ []
@@ -70,32 +69,12 @@ run_more most vs i v m now new outcomes outcomes' outcome lt is more told left h
       after ∙ ap (λ n. left_by v.items n outcome) left ∙ sym (left_one_more most (batches_of (take i vs)) v.items m outcomes outcome told),
     )
 
--- the stamps that a batch takes are as many as its replies
-pub stamps_taken : (ops : List Op) (old new : IndexView) (outcome : Result Done Refusal) → IfOk outcome (λ done. done.replies ≡ replies_of ops (contents_of old)) →
-    OnOk outcome (next_stamp_of new ≡ next_stamp_of old + length ops) → OnErr outcome (new ≡ old) → next_stamp_of new ≡ next_stamp_of old + answered_by (outcome_of outcome)
-stamps_taken ops old new (Ok done) replies ok err = ok ∙ ap (λ n. next_stamp_of old + n) (sym (ap length replies ∙ replies_length ops (contents_of old)))
-stamps_taken ops old new (Err refusal) replies ok err = let same = ap next_stamp_of err in omega (arith, same)
-
-answered_more : (outcomes : List Outcome) (outcome : Outcome) → answered_in (outcomes ++ outcome ∷ []) ≡ answered_in outcomes + answered_by outcome
-answered_more [] outcome = turned (answered_by outcome)
-  where
-    turned : (n : ℕ) → n + 0 ≡ 0 + n
-    turned n = omega arith
-answered_more (o ∷ outcomes) outcome = ap (λ n. answered_by o + n) (answered_more outcomes outcome) ∙ joined (answered_by o) (answered_in outcomes) (answered_by outcome)
-  where
-    joined : (i j k : ℕ) → i + (j + k) ≡ i + j + k
-    joined i j k = omega arith
-
-pub stamps_more : (start old new : ℕ) (outcomes outcomes' : List Outcome) (outcome : Outcome) → outcomes' ≡ outcomes ++ outcome ∷ [] →
-    old ≡ start + answered_in outcomes → new ≡ old + answered_by outcome → new ≡ start + answered_in outcomes'
-stamps_more start old new outcomes outcomes' outcome more so step = omega (arith, so, step, ap answered_in more ∙ answered_more outcomes outcome)
-
 -- how many writes a batch has doesn't depend on their stamps
 one_stamped : (write : Option (KeyBytes × Action)) (i j : ℕ) → length (stamped i write) ≡ length (stamped j write)
 one_stamped None i j = refl
 one_stamped (Some write) i j = refl
 
-same_writes : (ops : List Op) (i j : ℕ) → length (writes_of i ops) ≡ length (writes_of j ops)
+pub same_writes : (ops : List Op) (i j : ℕ) → length (writes_of i ops) ≡ length (writes_of j ops)
 same_writes [] i j = refl
 same_writes (op ∷ ops) i j =
     omega (
@@ -107,9 +86,9 @@ same_writes (op ∷ ops) i j =
     )
 
 -- what `run` tells besides of a batch
-pub told_by : (ops : List Op) (next : ℕ) (outcome : Result Done Refusal) → IfOk outcome (λ done. done.tidy ≡ nothing_tidied) → IfOk outcome (λ done. done.lost ≤ pairs_of (length (writes_of next ops))) → IsCounted ops outcome
-told_by ops next (Ok done) tidy lost = (tidy, subst (λ n. done.lost ≤ pairs_of n) (same_writes ops next 0) lost)
-told_by ops next (Err refusal) tidy lost = tt
+pub told_by : (ops : List Op) (next : ℕ) (outcome : Result Done Refusal) → IfOk outcome (λ done. done.lost ≤ pairs_of (length (writes_of next ops))) → IsCounted ops outcome
+told_by ops next (Ok done) lost = subst (λ n. done.lost ≤ pairs_of n) (same_writes ops next 0) lost
+told_by ops next (Err refusal) lost = tt
 
 one_told : (batches : List (List Op)) (outcomes : List (Result Done Refusal)) (ops : List Op) (outcome : Result Done Refusal) → AreCounted batches outcomes → IsCounted ops outcome → AreCounted (batches ++ ops ∷ []) (outcomes ++ outcome ∷ [])
 one_told [] [] ops outcome told here = (here, tt)

@@ -3,5 +3,5 @@ pub mod SettingFaults
 pub mod Codes
 pub mod Stages
 pub mod View
-pub mod Folds
+pub mod Sweeps
 pub mod Outcomes

@@ -1,5 +1,5 @@
 -- What became of batches, as the model knows it.
-use Rattle.std.specs.Prelude.{◌≡◌, ℕ, ◌+◌, ◌≤◌, List, [], ◌∷◌, length, map, false, Result, Ok, Err}
+use Rattle.std.specs.Prelude.{◌≡◌, ◌+◌, ◌<◌, ◌≤◌, List, [], ◌∷◌, length, map, false, Result, Ok, Err}
 use Rattle.bw_memory.specs.Alloc.{Vec}
 use Rattle.bw_core.specs.Keeping.{pairs_of}
 use Rattle.bw_delta.specs.Batches.{writes_of}
@@ -7,10 +7,9 @@ use Rattle.bw_model.specs.Model.{contents_after}
 use Rattle.bw_model.specs.Runs.{Outcome}
 use Rattle.bw_model.specs.declared.operations.Op.{Op}
 use Rattle.bw_model.specs.declared.outcomes.Refusal.{Refusal}
-use Rattle.bw_batch.specs.Folds.{HasTidied, records_with, walked_after}
-use Rattle.bw_batch.specs.View.{IndexView, contents_of, leaves_of, next_stamp_of, settings_of}
+use Rattle.bw_batch.specs.Sweeps.{base_of, is_sweep_due, records_before}
+use Rattle.bw_batch.specs.View.{IndexView, contents_of, next_stamp_of, settings_of}
 use Rattle.bw_batch.specs.declared.index.Done.{Done}
-use Rattle.bw_batch.specs.declared.index.Tidy.{Tidy}
 
 -- the batches that vectors hold
 abbrev pub batches_of : List (Vec Op) → List (List Op)
@@ -24,23 +23,9 @@ outcome_of (Err refusal) = Err refusal
 abbrev pub outcomes_of : List (Result Done Refusal) → List Outcome
 outcomes_of = map outcome_of
 
--- how many operations were answered
-abbrev pub answered_by : Outcome → ℕ
-answered_by (Ok replies) = length replies
-answered_by (Err refusal) = 0
-
-abbrev pub answered_in : List Outcome → ℕ
-answered_in [] = 0
-answered_in (outcome ∷ outcomes) = answered_by outcome + answered_in outcomes
-
--- what tidying did where it did nothing
-abbrev pub nothing_tidied : Tidy
-nothing_tidied = record { consolidated = 0; splits = 0; merges = 0; stopped = false }
-
--- What else is told of an accepted batch: nothing was tidied, and no more exchanges were lost than its writes can lose to
--- one another.
+-- what else is told of an accepted batch: no more exchanges were lost than its writes can lose to one another
 abbrev pub IsCounted : List Op → Result Done Refusal → Type 0
-IsCounted ops (Ok done) = (done.tidy ≡ nothing_tidied) × (done.lost ≤ pairs_of (length (writes_of 0 ops)))
+IsCounted ops (Ok done) = done.lost ≤ pairs_of (length (writes_of 0 ops))
 IsCounted ops (Err refusal) = Unit {0}
 
 -- the same of batches in turn
@@ -50,19 +35,24 @@ AreCounted (ops ∷ batches) (outcome ∷ outcomes) = IsCounted ops outcome × A
 AreCounted [] (outcome ∷ outcomes) = ⊥
 AreCounted (ops ∷ batches) [] = ⊥
 
--- the index before and behind an accepted batch
-pub record IsBehind (old new : IndexView) (ops : List Op) : Type 0 where
+-- the index before and behind an accepted batch, of which this is told
+pub record IsBehind (old new : IndexView) (ops : List Op) (done : Done) : Type 0 where
   pub settings : settings_of new ≡ settings_of old
   pub contents : contents_of new ≡ contents_after ops (contents_of old)
-  pub stamp : next_stamp_of new ≡ next_stamp_of old + length ops
-  pub leaves : leaves_of new ≡ leaves_of old
-  pub recorded : HasTidied old new (records_with old ops)
-  pub walked : new.walked ≡ walked_after old (records_with old ops)
+  pub stamp : next_stamp_of new ≡ base_of old (length ops) + length ops
+  pub recorded : records_before old (length ops) + length (writes_of 0 ops) ≤ new.records
+  pub tidied : done.tidy.stopped ≡ false → new.due ≡ []
 
--- a refused batch changes nothing
+-- the index before and behind a refused batch: without a sweep, and where it was too long, it is the same
+pub record IsKept (old new : IndexView) (ops : List Op) : Type 0 where
+  pub settings : settings_of new ≡ settings_of old
+  pub contents : contents_of new ≡ contents_of old
+  pub untried : (settings_of old).batch_max < length ops → new ≡ old
+  pub unswept : is_sweep_due old (length ops) ≡ false → new ≡ old
+
 abbrev pub Changes : IndexView → IndexView → List Op → Result Done Refusal → Type 0
-Changes old new ops (Ok done) = IsBehind old new ops
-Changes old new ops (Err refusal) = new ≡ old
+Changes old new ops (Ok done) = IsBehind old new ops done
+Changes old new ops (Err refusal) = IsKept old new ops
 
 -- each batch changes what the one before it left
 abbrev pub ChangesInTurn : IndexView → IndexView → List (List Op) → List (Result Done Refusal) → Type 0

@@ -1,12 +1,12 @@
 // One batch on a tree: staged, posted, adopted, answered, and then accepted; or undone.
-ghost use Rattle.std.specs.Prelude.{◌≡◌, ℕ, ◌<◌, ◌≤◌, ◌+◌, ◌^◌, true, None, length, take, IfOk, OnOk, OnErr};
+ghost use Rattle.std.specs.Prelude.{◌≡◌, ℕ, ◌<◌, ◌≤◌, ◌+◌, ◌^◌, true, None, ◌++◌, length, reverse, take, IfOk, OnOk, OnErr};
 ghost use Rattle.bw_core.specs.Keeping.{pairs_of};
 ghost use Rattle.bw_delta.specs.Batches.{writes_of};
 ghost use Rattle.bw_model.specs.Model.{contents_after, replies_of};
-ghost use Rattle.bw_tree.specs.Folding.{leaf_ranges};
 ghost use Rattle.bw_tree.specs.Stages.{is_adopted, undone_tree};
 ghost use Rattle.bw_tree.specs.View.{contents_at, contents_with, staged_writes};
 ghost use Rattle.bw_post.specs.Posting.{IsWaiting};
+ghost use Rattle.bw_shape.specs.Tidying.{KeepsWithin};
 ghost use Rattle.bw_batch.specs.Stages.{operations_staged};
 
 use crate::options::Options;
@@ -16,6 +16,7 @@ use bw_key::Memory;
 use bw_memory::Alloc;
 use bw_model::{Op, Replies};
 use bw_post::{Gate, Posting, post_all};
+use bw_shape::{Due, PageId};
 use bw_tree::Tree;
 use std::thread::Threads;
 
@@ -26,12 +27,13 @@ pub(crate) struct Answered {
     pub(crate) lost: u64,
 }
 
-/// Runs a batch on a tree, whose replies are those of one thread that runs its operations in order on an ordered map.
-/// After `Memory` the tree is as before.
+/// Runs a batch on a tree, whose replies are those of one thread that runs its operations in order on an ordered map. The
+/// pages that it writes to are due then, before those that are due already. After `Memory` all is as before.
 pub(crate) fn run_batch<R: Threads + Sync, G: Gate>(
     rt: &R,
     alloc: Alloc,
     tree: &mut Tree,
+    due: &mut Due,
     ops: &[Op],
     options: &Options,
     gate: &G,
@@ -45,13 +47,14 @@ pub(crate) fn run_batch<R: Threads + Sync, G: Gate>(
         ≡ contents_after ops.now (contents_at tree.old tree.old.next)) }
     ensures stamped { OnOk result (tree.new.next ≡ tree.old.next + length ops.now) }
     ensures recorded { OnOk result (tree.new.records ≡ tree.old.records + length (writes_of tree.old.next ops.now)) }
-    ensures leaves { OnOk result (leaf_ranges tree.new ≡ leaf_ranges tree.old) }
+    ensures within { OnOk result (KeepsWithin tree.old tree.new due.old.pages due.new.pages) }
     ensures none { tree.new.staged ≡ None }
     ensures err { OnErr result (tree.new ≡ tree.old) }
+    ensures due { OnErr result (due.new ≡ due.old) }
 {
     let batch = Grouping::new(alloc, ops)?;
     tree.stage(ops)?;
-    match answer_staged(rt, alloc, tree, &batch, options, gate) {
+    match answer_staged(rt, alloc, tree, due, &batch, options, gate) {
         Ok(answered) => {
             tree.accept();
             Ok(answered)
@@ -69,6 +72,7 @@ fn answer_staged<R: Threads + Sync, G: Gate>(
     rt: &R,
     alloc: Alloc,
     tree: &mut Tree,
+    due: &mut Due,
     batch: &Grouping<'_>,
     options: &Options,
     gate: &G,
@@ -82,7 +86,8 @@ fn answer_staged<R: Threads + Sync, G: Gate>(
     ensures lost { IfOk result (λ answered. answered.lost ≤ pairs_of (length (staged_writes tree.old.staged))) }
     ensures contents { OnOk result ((stamp : ℕ) → contents_at tree.new stamp ≡ contents_with tree.old stamp) }
     ensures recorded { OnOk result (tree.new.records ≡ tree.old.records) }
-    ensures leaves { OnOk result (leaf_ranges tree.new ≡ leaf_ranges tree.old) }
+    ensures within { OnOk result (KeepsWithin tree.old tree.new due.old.pages due.new.pages) }
+    ensures due { OnErr result (due.new ≡ due.old) }
     ensures next { tree.new.next ≡ tree.old.next }
     ensures adopted { OnOk result (is_adopted tree.new.staged ≡ true) }
     ensures count { operations_staged tree.new.staged ≡ operations_staged tree.old.staged }
@@ -95,8 +100,21 @@ fn answer_staged<R: Threads + Sync, G: Gate>(
         closed,
         lost,
     } = post_all(rt, alloc, tree, batch, piece, workers, gate)?;
+    let written = Vec::from_slice(alloc, &pages)?;
     tree.adopt_on(pages, closed);
     let base = tree.next_stamp();
     let replies = replies(rt, alloc, tree, base, batch, &homes, workers)?;
+    add_written(due, written)?;
     Ok(Answered { replies, lost })
+}
+
+// These pages are due too. A batch of reads wrote to none, and takes no memory for them.
+fn add_written(due: &mut Due, pages: Vec<PageId, Alloc>) -> Result<(), Memory>
+    ensures ok { OnOk result (due.new.pages ≡ reverse pages.entry.items ++ due.old.pages) }
+    ensures err { OnErr result (due.new ≡ due.old) }
+{
+    if pages.is_empty() {
+        return Ok(());
+    }
+    due.add(pages)
 }

@@ -1,10 +1,10 @@
 // The index: batches in, replies out.
-ghost use Rattle.std.specs.Prelude.{◌≡◌, ◌<◌, ◌≤◌, ◌+◌, ◌^◌, [], ◌∷◌, None, length, nat_le, IsOkUnless, IfOk, OnOk, OnErr};
+ghost use Rattle.std.specs.Prelude.{◌≡◌, ◌<◌, ◌≤◌, ◌+◌, ◌^◌, [], ◌∷◌, None, false, length, nat_lt, IsOkUnless, IfOk, OnOk, OnErr};
 ghost use Rattle.std.specs.FinMap.{empty, entries};
 ghost use Rattle.bw_core.specs.Keeping.{pairs_of};
 ghost use Rattle.bw_delta.specs.Batches.{writes_of};
 ghost use Rattle.bw_model.specs.Contents.{pairs_of_range};
-ghost use Rattle.bw_tree.specs.Folding.{leaf_ranges};
+ghost use Rattle.bw_shape.specs.Limits.{AreWithinBut};
 ghost use Rattle.bw_tree.specs.View.{contents_at};
 
 use crate::batch::{Answered, run_batch};
@@ -13,50 +13,34 @@ use bw_key::{Key, Memory};
 use bw_memory::Alloc;
 use bw_model::{Op, Pairs, Refusal, Replies};
 use bw_post::Gate;
+use bw_shape::{Due, Tidy, all_pages, sweep_due, tidy_due};
 use bw_tree::{Leaf, Tree};
 use std::marker::Model;
 use std::thread::Threads;
 
-// No fewer records than this are walked until the chains are folded.
-const FOLD_LEAST: usize = 1024;
-
 // No stamp is as great as this.
 const STAMP_END: u64 = 1 << 40;
-
-/// What tidying the tree's pages after a batch did. No page is split or merged yet, and nothing is counted or told: not
-/// that all chains were folded either, nor that there was no memory for it.
-#[derive(Clone, Copy, Debug, Default, PartialEq, Eq)]
-pub struct Tidy {
-    /// How many leaf chains were folded into a new base page.
-    pub consolidated: u64,
-    /// How many pages were split.
-    pub splits: u64,
-    /// How many pages were merged into their left neighbour.
-    pub merges: u64,
-    /// Whether tidying stopped where memory ran out. The batch stands all the same.
-    pub stopped: bool,
-}
 
 /// An accepted batch.
 #[derive(Debug, Drop)]
 pub struct Done {
     /// One for each operation, in the order of the batch.
     pub replies: Replies,
+    /// What tidying behind the batch did.
     pub tidy: Tidy,
     /// How many exchanges the workers lost to one another while they posted.
     pub lost: u64,
 }
 
-/// An ordered index from keys to values, changed in batches: a tree whose pages are base pages and the chains of all
-/// writes since (ICDE 2013).
+/// An ordered index from keys to values, changed in batches: a tree whose pages are base pages and the chains of the
+/// writes since (ICDE 2013). Behind each batch the pages that it wrote to are consolidated and split where they are over a
+/// limit, and a sweep starts records and stamps over before they would pass their ends.
 pub struct Index {
     options: Options,
     alloc: Alloc,
     tree: Tree,
-    // how many pairs there were when the chains were last folded
-    folded: usize,
-    // how many records there were for the batches since, counted for each batch anew
-    walked: usize,
+    // the pages that tidying is to look at: each leaf that may be over a limit is among them
+    due: Due,
 }
 
 // Not derived: whoever drops one calls this, and its proof is spared the parts.
@@ -66,16 +50,16 @@ impl Drop for Index {
             options: _options,
             alloc: _alloc,
             tree: _tree,
-            folded: _folded,
-            walked: _walked,
+            due: _due,
         } = self;
     }
 }
 
 impl Model for Index {
     ghost use Rattle.std.specs.Prelude.{◌≡◌, None};
-    ghost use Rattle.bw_tree.specs.Folding.{leaf_ranges};
+    ghost use Rattle.bw_shape.specs.Limits.{AreWithinBut};
     ghost use Rattle.bw_tree.specs.View.{contents_at};
+    ghost use Rattle.bw_batch.specs.Settings.{limits_of};
     ghost use Rattle.bw_batch.specs.View.{IndexView, coded_view};
 
     ghost Value = { IndexView };
@@ -87,19 +71,18 @@ impl Model for Index {
       contents = contents_at i.tree i.tree.next;
       next = i.tree.next;
       heads = i.tree.heads;
-      leaves = leaf_ranges i.tree;
       records = i.tree.records;
-      folded = i.folded;
-      walked = i.walked;
+      due = i.due.pages;
     } };
 
-    ghost invariant = { λ i. i.tree.staged ≡ None };
+    ghost invariant = { λ i. (i.tree.staged ≡ None) × AreWithinBut (limits_of i.options) i.tree i.due.pages };
 }
 
 impl Index {
-    ghost use Rattle.bw_batch.specs.View.{contents_of, leaves_of, settings_of, next_stamp_of};
-    ghost use Rattle.bw_batch.specs.Folds.{HasTidied, records_with, walked_after};
-    ghost use Rattle.bw_batch.specs.Outcomes.{batches_of, outcomes_of, answered_in, nothing_tidied, AreCounted, ChangesInTurn};
+    ghost use Rattle.bw_batch.specs.Settings.{limits_of};
+    ghost use Rattle.bw_batch.specs.View.{contents_of, settings_of, next_stamp_of};
+    ghost use Rattle.bw_batch.specs.Sweeps.{base_of, is_sweep_due, records_before};
+    ghost use Rattle.bw_batch.specs.Outcomes.{batches_of, outcomes_of, AreCounted, ChangesInTurn};
     ghost use Rattle.bw_model.specs.Model.{replies_of, contents_after};
     ghost use Rattle.bw_model.specs.Runs.{AnswersInTurn, left_in_turn};
 
@@ -109,49 +92,56 @@ impl Index {
         ensures settings { IfOk result (λ index. settings_of index ≡ options) }
         ensures stamp { IfOk result (λ index. next_stamp_of index ≡ 0) }
         ensures heads { IfOk result (λ index. index.heads ≡ 0 ∷ []) }
-        ensures leaves { IfOk result (λ index. leaves_of index ≡ ([], None) ∷ []) }
         ensures records { IfOk result (λ index. index.records ≡ 0) }
-        ensures folds { IfOk result (λ index. (index.folded ≡ 0) × (index.walked ≡ 0)) }
+        ensures due { IfOk result (λ index. index.due ≡ []) }
     {
         let mut leaves = Vec::new(alloc);
         leaves.push(Leaf::empty(alloc))?;
-        Ok(Index::from_tree(alloc, options, Tree::from_level(alloc, leaves)?))
-    }
-
-    /// The index over a tree, with what it holds. The tree has no staged batch.
-    ///
-    /// Pages are not split yet, so this is how an index gets more than one leaf: `Tree::from_level` makes a tree of
-    /// leaves. The tree, its keys and its values should be made on `alloc` too: they stay where they were made, and so
-    /// do their copies.
-    pub fn from_tree(alloc: Alloc, options: Options, tree: Tree) -> Index
-        requires { tree.staged ≡ None }
-        ensures contents { contents_of result ≡ contents_at tree tree.next }
-        ensures settings { settings_of result ≡ options }
-        ensures stamp { next_stamp_of result ≡ tree.next }
-        ensures heads { result.heads ≡ tree.heads }
-        ensures leaves { leaves_of result ≡ leaf_ranges tree }
-        ensures records { result.records ≡ tree.records }
-        ensures folds { (result.folded ≡ 0) × (result.walked ≡ 0) }
-    {
-        Index {
+        let tree = Tree::from_level(alloc, leaves)?;
+        Ok(Index {
             options,
             alloc,
             tree,
-            folded: 0,
-            walked: 0,
-        }
+            due: Due::new(alloc),
+        })
+    }
+
+    /// The index over a tree, with what it holds. The tree has no staged batch. All its pages are due, so the next batch that
+    /// is accepted has them looked at; this costs the list of all pages (`Tree::shape`). After `Memory` the tree is gone.
+    ///
+    /// The tree, its keys and its values should be made on `alloc` too: they stay where they were made, and so do their
+    /// copies.
+    pub fn from_tree(alloc: Alloc, options: Options, tree: Tree) -> Result<Index, Memory>
+        requires { tree.staged ≡ None }
+        ensures contents { IfOk result (λ index. contents_of index ≡ contents_at tree tree.next) }
+        ensures settings { IfOk result (λ index. settings_of index ≡ options) }
+        ensures stamp { IfOk result (λ index. next_stamp_of index ≡ tree.next) }
+        ensures heads { IfOk result (λ index. index.heads ≡ tree.heads) }
+        ensures records { IfOk result (λ index. index.records ≡ tree.records) }
+    {
+        let due = all_pages(&tree)?;
+        Ok(Index {
+            options,
+            alloc,
+            tree,
+            due,
+        })
     }
 
     /// Runs a batch: its operations one after another, or none of them.
     ///
     /// The replies and the contents afterwards are those of one thread that runs the operations in order on an
     /// ordered map. A batch of more operations than `batch_max` is refused as `TooLong`, before anything is asked
-    /// for; else it may be refused as `Memory`, where a growth was refused, or where its operations would pass the 2^40th
-    /// of the index. After a refusal the index is as before, its next stamp, mapping words and records too.
+    /// for; else it may be refused as `Memory`, where a growth was refused. After a refusal the contents are as before, and
+    /// all else is too, unless a sweep was due.
+    ///
+    /// A sweep is due where the operations would pass the 2^40th stamp, or with their records more than `record_max`. Before
+    /// the batch it consolidates every page that has records, and starts records and stamps over.
     ///
     /// The writes are posted by up to `workers` threads side by side, which `rt` starts, and `gate` is called round the
     /// posting of each. They are numbered in the order of the batch, from 0. The replies are made in up to `workers` parts
-    /// side by side.
+    /// side by side. Then the pages that the batch wrote to are tidied, and those that an earlier stop left: where no memory
+    /// is left for it, the rest of them stay due.
     pub fn run<R: Threads + Sync, G: Gate>(
         &mut self,
         rt: &R,
@@ -162,20 +152,23 @@ impl Index {
         ensures contents { OnOk result (contents_of self.new ≡ contents_after ops.now (contents_of self.old)) }
 
         // A batch is refused for its length exactly where it is too long, and else only where memory runs out.
-        ensures refused { OnErr result (self.new ≡ self.old) }
         ensures too_long { let most = (settings_of self.old).batch_max in
             most < length ops.now → result ≡ Err (Refusal.TooLong (length ops.now) most) }
         ensures memory { length ops.now ≤ (settings_of self.old).batch_max → IsOkUnless result Refusal.Memory }
         ensures settings { settings_of self.new ≡ settings_of self.old }
 
-        // Each operation of an accepted batch has a stamp of its own.
-        ensures stamped { OnOk result (next_stamp_of self.new ≡ next_stamp_of self.old + length ops.now) }
+        // A refused batch changes no contents, and without a sweep nothing at all.
+        ensures refused { OnErr result (contents_of self.new ≡ contents_of self.old) }
+        ensures untried { (settings_of self.old).batch_max < length ops.now → self.new ≡ self.old }
+        ensures unswept { is_sweep_due self.old (length ops.now) ≡ false → OnErr result (self.new ≡ self.old) }
 
-        // Each of its writes is a record of the tree, until a fold is due. No leaf's range changes.
-        ensures recorded { OnOk result (HasTidied self.old self.new (records_with self.old ops.now)) }
-        ensures walked { OnOk result (self.new.walked ≡ walked_after self.old (records_with self.old ops.now)) }
-        ensures leaves { leaves_of self.new ≡ leaves_of self.old }
-        ensures tidy { IfOk result (λ done. done.tidy ≡ nothing_tidied) }
+        // Each operation of an accepted batch has a stamp of its own, and each of its writes is a record.
+        ensures stamped { OnOk result (next_stamp_of self.new ≡ base_of self.old (length ops.now) + length ops.now) }
+        ensures recorded { OnOk result (records_before self.old (length ops.now) + length (writes_of 0 ops.now)
+            ≤ self.new.records) }
+
+        // Where tidying didn't stop, no page is due any more.
+        ensures tidied { IfOk result (λ done. done.tidy.stopped ≡ false → self.new.due ≡ []) }
 
         // An exchange is lost to another write alone.
         ensures lost { IfOk result (λ done. done.lost ≤ pairs_of
@@ -186,13 +179,38 @@ impl Index {
         if count > most {
             return Err(Refusal::TooLong { ops: count, most });
         }
+        self.make_room(count)?;
         let Answered { replies, lost } = self.answer(rt, ops, gate)?;
-        self.tidy();
+        let tidy = self.tidy();
         Ok(Done {
             replies,
-            tidy: Tidy::default(),
+            tidy,
             lost,
         })
+    }
+
+    // Sweeps, where that is due before a batch of so many operations. After `Memory` some pages may have been consolidated.
+    fn make_room(&mut self, ops: u64) -> Result<(), Memory>
+        requires { ops ≤ 65536 }
+        ensures fits { OnOk result (next_stamp_of self.new + ops ≤ 2 ^ 40) }
+        ensures stamp { OnOk result (next_stamp_of self.new ≡ base_of self.old ops) }
+        ensures records { OnOk result (self.new.records ≡ records_before self.old ops) }
+        ensures contents { contents_of self.new ≡ contents_of self.old }
+        ensures settings { settings_of self.new ≡ settings_of self.old }
+        ensures not_due { is_sweep_due self.old ops ≡ false → self.new ≡ self.old }
+    {
+        if self.is_sweep_due(ops) {
+            sweep_due(&mut self.tree, &mut self.due)?;
+        }
+        Ok(())
+    }
+
+    // Whether stamps or records would pass their ends with those of so many operations.
+    fn is_sweep_due(&self, ops: u64) -> bool
+        ensures { result ≡ is_sweep_due self.now ops }
+    {
+        is_past(self.tree.next_stamp(), ops, STAMP_END)
+            || is_past(self.tree.records() as u64, ops, self.options.record_max())
     }
 
     // Runs a batch on the tree, where there are stamps for it.
@@ -202,6 +220,7 @@ impl Index {
         ops: &[Op],
         gate: &G,
     ) -> Result<Answered, Memory>
+        requires { next_stamp_of self.old + length ops.now ≤ 2 ^ 40 }
         ensures replies { IfOk result (λ answered. answered.replies ≡ replies_of ops.now (contents_of self.old)) }
         ensures lost { IfOk result (λ answered.
             answered.lost ≤ pairs_of (length (writes_of (next_stamp_of self.old) ops.now))) }
@@ -209,34 +228,30 @@ impl Index {
         ensures refused { OnErr result (self.new ≡ self.old) }
         ensures settings { settings_of self.new ≡ settings_of self.old }
         ensures stamped { OnOk result (next_stamp_of self.new ≡ next_stamp_of self.old + length ops.now) }
-        ensures recorded { OnOk result (self.new.records ≡ records_with self.old ops.now) }
-        ensures leaves { OnOk result (leaves_of self.new ≡ leaves_of self.old) }
-        ensures folds { (self.new.folded ≡ self.old.folded) × (self.new.walked ≡ self.old.walked) }
+        ensures recorded { OnOk result (self.new.records
+            ≡ self.old.records + length (writes_of (next_stamp_of self.old) ops.now)) }
     {
-        if !are_stamps_left(self.tree.next_stamp(), ops.len() as u64) {
-            return Err(Memory);
-        }
-        run_batch(rt, self.alloc, &mut self.tree, ops, &self.options, gate)
+        run_batch(
+            rt,
+            self.alloc,
+            &mut self.tree,
+            &mut self.due,
+            ops,
+            &self.options,
+            gate,
+        )
     }
 
-    // Folds the tree's chains, once batches may have walked more records than there were pairs at the last time, and some
-    // more. So all that walks cost is in proportion to what folding costs, also where batches write little or only read.
-    // Where there is no memory for the new pages all stays as it is, and folding is tried again after as many.
-    fn tidy(&mut self)
+    // Looks at the pages that are due.
+    fn tidy(&mut self) -> Tidy
         ensures contents { contents_of self.new ≡ contents_of self.old }
         ensures settings { settings_of self.new ≡ settings_of self.old }
         ensures stamp { next_stamp_of self.new ≡ next_stamp_of self.old }
-        ensures leaves { leaves_of self.new ≡ leaves_of self.old }
-        ensures tidied { HasTidied self.old self.new self.old.records }
-        ensures walked { self.new.walked ≡ walked_after self.old self.old.records }
+        ensures records { self.old.records ≤ self.new.records }
+        ensures tidied { result.stopped ≡ false → self.new.due ≡ [] }
     {
-        self.walked = self.walked.saturating_add(self.tree.records());
-        if self.walked > self.folded.saturating_add(FOLD_LEAST) {
-            self.walked = 0;
-            if let Ok(pairs) = self.tree.fold() {
-                self.folded = pairs;
-            }
-        }
+        let limits = self.options.limits();
+        tidy_due(&mut self.tree, &limits, &mut self.due)
     }
 
     /// Runs batches in turn, and answers one outcome for each. `Memory` means that there was no room for the list
@@ -255,16 +270,13 @@ impl Index {
             (outcomes_of outcomes.items)) }
         ensures none { OnErr result (self.new ≡ self.old) }
 
-        // Each outcome tells of tidying and of lost exchanges what `run` does.
+        // Each outcome tells of lost exchanges what `run` does.
         ensures told { IfOk result (λ outcomes. AreCounted (batches_of batches.now) outcomes.items) }
-        ensures stamped { IfOk result (λ outcomes.
-            next_stamp_of self.new ≡ next_stamp_of self.old + answered_in (outcomes_of outcomes.items)) }
         ensures settings { settings_of self.new ≡ settings_of self.old }
 
-        // From batch to batch the records, and when they are folded, are as `run` leaves them. No leaf's range changes.
+        // From batch to batch stamps, records and the pages that are due are as `run` leaves them.
         ensures changes { IfOk result (λ outcomes.
             ChangesInTurn self.old self.new (batches_of batches.now) outcomes.items) }
-        ensures leaves { leaves_of self.new ≡ leaves_of self.old }
     {
         let mut outcomes = Vec::with_capacity(self.alloc, batches.len())?;
         for ops in batches {
@@ -282,15 +294,15 @@ impl Index {
         pairs_from(&self.tree, &from)
     }
 
-    /// The tree on which the index stands, which has no staged batch: to see how long chains are, and to read as of its
-    /// next stamp.
+    /// The tree on which the index stands, which has no staged batch: to see its pages and how long chains are, and to read as
+    /// of its next stamp. Each leaf that isn't due is within the limits.
     pub fn tree(&self) -> &Tree
         ensures contents { contents_at result.now result.now.next ≡ contents_of self.now }
         ensures stamp { result.now.next ≡ next_stamp_of self.now }
         ensures heads { result.now.heads ≡ self.now.heads }
-        ensures leaves { leaf_ranges result.now ≡ leaves_of self.now }
         ensures records { result.now.records ≡ self.now.records }
         ensures staged { result.now.staged ≡ None }
+        ensures within { AreWithinBut (limits_of (settings_of self.now)) result.now self.now.due }
     {
         &self.tree
     }
@@ -305,9 +317,9 @@ fn pairs_from(tree: &Tree, from: &Key) -> Result<Pairs, Memory>
     Ok(Pairs::from_vec(whole))
 }
 
-// Whether so many stamps follow before the end of all stamps.
-fn are_stamps_left(next: u64, count: u64) -> bool
-    ensures { result ≡ nat_le (next + count) (2 ^ 40) }
+// Whether so many more would pass the end.
+fn is_past(count: u64, more: u64, end: u64) -> bool
+    ensures { result ≡ nat_lt end (count + more) }
 {
-    next <= STAMP_END && count <= STAMP_END - next
+    count > end || more > end - count
 }

@@ -112,7 +112,7 @@ fn filled<R: Threads + Clock + Sync>(
     let options = Options::new(workers, 64, 8, 64, 16, BATCH, 1_048_576)?;
     let tree = Tree::from_level(alloc, leaves_for(alloc, keys)?)?;
     let mut both = Both {
-        index: Index::from_tree(alloc, options, tree),
+        index: Index::from_tree(alloc, options, tree)?,
         map: BTreeMap::new(alloc),
     };
     let mut runs = no_runs(alloc);

@@ -15,7 +15,7 @@ use Rattle.bw_chain.specs.Turns.{IsTurn, StartsUpto}
 use Rattle.bw_chain.specs.declared.target.Target.{Target}
 use Rattle.bw_chain.specs.Walk.{Leads}
 use Rattle.bw_chain.specs.declared.turn.Turn.TheVariants.{Here, Right, Down, Left}
-use Rattle.bw_chain.proofs.LeafRowLemmas.{one_has, wide_of}
+use Rattle.bw_chain.proofs.LeafRowLemmas.{HasKey, one_has, wide_of}
 use Rattle.bw_chain.proofs.RouteLemmas.{level_there, left_bounded, no_left, reached_at, row_first, sought_upto, stands_on, way_step}
 use Rattle.bw_chain.proofs.SearchLemmas.{linked_of}
 use Rattle.bw_chain.proofs.RowLemmas.{InRow, in_row}
@@ -210,3 +210,10 @@ module _ (slots : List Slot) (root : ℕ) (levels : List (List ℕ)) (lawful : A
     where
       one_some : {x y : KeyBytes} → Some x ≡ Some y → x ≡ y
       one_some e = cc
+
+-- a key has one home on each level
+pub one_above : (slots : List Slot) (root : ℕ) (levels : List (List ℕ)) → AreLevels slots root levels → (n : ℕ) (key : KeyBytes) (p q : ℕ) → IsHomeAt slots levels key n p → IsHomeAt slots levels key n q → p ≡ q
+one_above slots root levels lawful n key p q h k = one_has slots n [] (row levels n) key p q (lawful.rows n h.reached.within) (has p h) (has q k)
+  where
+    has : (x : ℕ) → IsHomeAt slots levels key n x → HasKey slots (row levels n) key x
+    has x h = record { in_row = h.reached.in_level; state = h.reached.state; is = h.reached.is; from_low = h.reached.from_low; ends_above = h.ends_above }

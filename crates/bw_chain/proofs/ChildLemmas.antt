@@ -19,7 +19,7 @@ behind : (e x : KeyBytes × ℕ) (es : List (KeyBytes × ℕ)) → Contains es x
 behind e x es has = (suc has.0, omega (arith, has.1), has.2)
 
 -- the entry that was put is there
-put_there : (k : KeyBytes) (v : ℕ) (es : List (KeyBytes × ℕ)) → Contains (put key_cmp k v es) (k, v)
+pub put_there : (k : KeyBytes) (v : ℕ) (es : List (KeyBytes × ℕ)) → Contains (put key_cmp k v es) (k, v)
 put_there k v [] = (0, omega arith, refl)
 put_there k v (e ∷ es) = by (key_cmp k e.0) refl (put_there k v es)
   where
@@ -29,7 +29,7 @@ put_there k v (e ∷ es) = by (key_cmp k e.0) refl (put_there k v es)
     by Greater is rest = behind e (k, v) (put key_cmp k v es) rest
 
 -- an entry with another key stays
-put_keeps : (k : KeyBytes) (v : ℕ) (es : List (KeyBytes × ℕ)) (x : KeyBytes × ℕ) → Contains es x → Contains (put key_cmp k v es) x ⊎ (x.0 ≡ k)
+pub put_keeps : (k : KeyBytes) (v : ℕ) (es : List (KeyBytes × ℕ)) (x : KeyBytes × ℕ) → Contains es x → Contains (put key_cmp k v es) x ⊎ (x.0 ≡ k)
 put_keeps k v [] x has = absurd (omega (arith, has.1))
 put_keeps k v (e ∷ es) x (zero, lt, at) = by (key_cmp k e.0) refl
   where

@@ -8,6 +8,7 @@ pub mod RecordLemmas
 pub mod GrowthLemmas
 pub mod TargetLemmas
 pub mod ChildLemmas
+pub mod IndexLemmas
 pub mod GallopLemmas
 pub mod TurnLemmas
 pub mod ReadingLemmas
@@ -29,3 +30,4 @@ pub mod SplitLemmas
 pub mod EntryLemmas
 pub mod AboveLemmas
 pub mod RootLemmas
+pub mod CountLemmas

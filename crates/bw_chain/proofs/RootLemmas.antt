@@ -78,7 +78,7 @@ begins_row slots level (x ∷ y ∷ ys) root s high side h begins is ends linked
     }
 
 -- rows with one more
-row_before : (levels more : List (List ℕ)) (n : ℕ) → n < length levels → row (levels ++ more) n ≡ row levels n
+pub row_before : (levels more : List (List ℕ)) (n : ℕ) → n < length levels → row (levels ++ more) n ≡ row levels n
 row_before [] more n lt = absurd (omega arith)
 row_before (ps ∷ levels) more zero lt = refl
 row_before (ps ∷ levels) more (suc n) lt = row_before levels more n (omega arith)

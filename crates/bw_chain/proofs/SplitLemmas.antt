@@ -137,7 +137,7 @@ has_still p q r (x ∷ ps) (suc i, lt, is) = by (nat_eq x p) (has_still p q r ps
     by true h = (suc (suc h.0), omega (arith, h.1), h.2)
     by false h = (suc h.0, omega (arith, h.1), h.2)
 
-had : (p q r : ℕ) (ps : List ℕ) → Contains (put_behind p q ps) r → Contains ps r ⊎ ((r ≡ q) × Contains ps p)
+pub had : (p q r : ℕ) (ps : List ℕ) → Contains (put_behind p q ps) r → Contains ps r ⊎ ((r ≡ q) × Contains ps p)
 had p q r [] has = inl has
 had p q r (x ∷ ps) has = by (nat_eq x p) refl has (had p q r ps)
   where
@@ -252,7 +252,7 @@ module _ (old new : List Slot) (root : ℕ) (levels : List (List ℕ)) (level p 
       (λ lt. row_parted [] (row levels level) (lawful.rows level within))
       (λ n differs lt. row_stays n [] (row levels n) differs (lawful.rows n lt))
 
-  has_new : (n r : ℕ) → Contains (row levels n) r → Contains (row after n) r
+  pub has_new : (n r : ℕ) → Contains (row levels n) r → Contains (row after n) r
   has_new n r = each (λ m ps. Contains (row levels m) r → Contains ps r) (has_still p q r (row levels level)) (λ m differs h. h) n
 
   -- a page of a level was one, or is the new one, and p was one

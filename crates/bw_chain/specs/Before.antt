@@ -13,6 +13,12 @@ low_of (Live s) = s.low
 low_of (Gone l) = []
 low_of Free = []
 
+-- the same, where there is a page
+abbrev pub low_at : Slot → Option KeyBytes
+low_at (Live s) = Some s.low
+low_at (Gone l) = None
+low_at Free = None
+
 -- a leaf that begins below the end and reaches it
 pub record IsBefore (slots : List Slot) (levels : List (List ℕ)) (end : Option KeyBytes) (p : ℕ) : Type 0 where
   pub in_level : Contains (row levels 0) p
@@ -20,9 +26,3 @@ pub record IsBefore (slots : List Slot) (levels : List (List ℕ)) (end : Option
   pub is : slot_at slots p ≡ Live state
   pub starts : T (is_below_end end state.low)
   pub reaches : Reaches state.high end
-
--- the same, where there is a page
-abbrev pub low_at : Slot → Option KeyBytes
-low_at (Live s) = Some s.low
-low_at (Gone l) = None
-low_at Free = None

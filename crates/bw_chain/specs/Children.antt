@@ -5,7 +5,7 @@ use Rattle.std.specs.Ordering.{is_lt}
 use Rattle.bw_key.specs.Order.{KeyBytes, key_cmp}
 use Rattle.bw_model.specs.Contents.{is_below_end}
 use Rattle.bw_chain.specs.Chains.{body_with_child}
-use Rattle.bw_chain.specs.Slots.{Slot, PageState, Live, slot_at}
+use Rattle.bw_chain.specs.Slots.{Slot, PageState, Free, Gone, Live, children_of, slot_at}
 use Rattle.bw_chain.specs.Levels.{row}
 
 -- the page with this child at the separator
@@ -34,3 +34,9 @@ pub record HasChild (old new : List Slot) (parent : ℕ) (sep : KeyBytes) (child
   pub is : slot_at old parent ≡ Live was
   pub now : slot_at new parent ≡ Live (state_with_child sep child was)
   pub others : (r : ℕ) → (r ≡ parent → ⊥) → slot_at new r ≡ slot_at old r
+
+-- the page has an index entry at the key: a child with that separator
+abbrev pub HasEntry : Slot → KeyBytes → Type 0
+HasEntry (Live s) key = (child : ℕ) × Contains (children_of s.body) (key, child)
+HasEntry (Gone l) key = ⊥
+HasEntry Free key = ⊥

@@ -85,20 +85,4 @@ impl Chains {
             Page::Gone(_) => unreachable!(),
         }
     }
-
-    /// How many entries a page without a record has: pairs, or children. A page that was removed has none.
-    pub fn entries(&self, word: u64) -> usize
-        requires ends { IsChain self.now word }
-        requires plain { word < floor_word }
-        ensures { result ≡ slot_entries (page_at self.now word) }
-    {
-        let Some(base) = self.base(word) else {
-            return 0;
-        };
-        match base {
-            Page::Leaf(leaf) => leaf.pairs().len(),
-            Page::Inner(inner) => inner.children().len(),
-            Page::Gone(_) => 0,
-        }
-    }
 }

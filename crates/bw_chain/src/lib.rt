@@ -7,7 +7,9 @@
 mod additions;
 mod bases;
 mod chains;
+mod counts;
 mod ends;
+mod index_entries;
 mod inners;
 mod laws;
 mod leaf_chain;

@@ -63,8 +63,8 @@ impl Target<'_> {
         child
     }
 
-    // The last separator that this isn't before, with its child.
-    fn last_entry<'i>(self, inner: &'i Inner) -> &'i (Key, PageId)
+    /// The last separator that this isn't before, with its child.
+    pub(crate) fn last_entry<'i>(self, inner: &'i Inner) -> &'i (Key, PageId)
         requires { T (lies_from self inner.now.low) }
         ensures { IsEntryFor self.entry inner.now.children result.now }
     {

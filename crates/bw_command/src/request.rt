@@ -75,7 +75,7 @@ const AFTER: &str = "A trace has one operation on a line:
 A line that begins with # is a comment. A key is spelled by letters, digits, _, . and -,
 or by % and hexadecimal digits. Behind a first line `bw 2` values are spelled so too.
 
-So far --workers, --piece and --batch-max alone have an effect.
+--page-min has no effect yet: no page is merged.
 
 Try it:
   printf 'upsert apple 7\\nget apple\\n' | bw_run run
@@ -188,11 +188,12 @@ fn with_limits<'a>(global: Global, command: Command<'a>) -> Result<Command<'a>, 
 {
     let workers = "How many threads post the writes of a batch, and answer it, 1 to 64";
     let piece = "How many writes a worker takes at once, 1 to 4096";
-    let chain = "How many writes stand before a leaf's page until they are folded, 1 to 1024";
+    let chain = "How many writes stand before a leaf's page until it is consolidated, 1 to 1024";
     let page_max = "Above how many entries a page is split, 4 to 4096";
     let page_min = "Below how many entries a page is merged, 0 to half of page-max";
     let batch_max = "How many operations a batch may have, 1 to 65536";
-    let record_max = "How many writes are kept until all are folded, batch-max to 16777216";
+    let record_max =
+        "How many records are kept until a sweep consolidates all, batch-max to 16777216";
     command
         .arg(number(global, "workers", "4", workers))?
         .arg(number(global, "piece", "64", piece))?

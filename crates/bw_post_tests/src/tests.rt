@@ -1,5 +1,9 @@
 // Batches posted to the pages of a tree, adopted, and then accepted or undone.
 mod folding;
+mod half_done;
 mod making;
 mod rows;
+mod shapes;
 mod side_by_side;
+mod sweeping;
+mod tidying;

@@ -1,9 +1,11 @@
 -- What the steps of restructuring do, and where they aren't needed.
 use Rattle.std.specs.Prelude.{◌≡◌, ℕ, ◌<◌, ◌≤◌, ◌^◌, ◌⊎◌, None, slice_index}
+use Rattle.bw_key.specs.Order.{KeyBytes}
 use Rattle.bw_chain.specs.Slots.{side_of}
+use Rattle.bw_tree.specs.Children.{HasNoUnnamed, IsNamed, IsUnnamed}
 use Rattle.bw_tree.specs.Consolidation.{IsConsolidated, IsRebased}
 use Rattle.bw_tree.specs.Roots.{HasNewRoot}
-use Rattle.bw_tree.specs.Routing.{IsInLevel, IsInNoLevel}
+use Rattle.bw_tree.specs.Routing.{IsInLevel}
 use Rattle.bw_tree.specs.Splits.{IsSplit, IsSplittable}
 use Rattle.bw_tree.specs.View.{TreeView}
 use Rattle.bw_shape.specs.declared.steps.Did.{Did}
@@ -19,7 +21,7 @@ pub record HasLostChain (old new : TreeView) (p : ℕ) : Type 0 where
 
 abbrev pub IsConsolidationStep : TreeView → TreeView → ℕ → Did → Type 0
 IsConsolidationStep old new p Done = HasLostChain old new p
-IsConsolidationStep old new p NotNeeded = (new ≡ old) × (IsInNoLevel old p ⊎ (slice_index old.heads p < 2 ^ 32))
+IsConsolidationStep old new p NotNeeded = (new ≡ old) × (slice_index old.heads p < 2 ^ 32)
 
 abbrev pub IsSplitStep : TreeView → TreeView → ℕ → ℕ → Did → Type 0
 IsSplitStep old new p keep Done = IsSplittable old p keep × ((q : ℕ) × IsSplit old new p keep q)
@@ -28,3 +30,18 @@ IsSplitStep old new p keep NotNeeded = (new ≡ old) × (IsSplittable old p keep
 abbrev pub IsRootStep : TreeView → TreeView → Did → Type 0
 IsRootStep old new Done = (t : ℕ) × HasNewRoot old new t
 IsRootStep old new NotNeeded = (new ≡ old) × (side_of old.slots old.root ≡ None)
+
+-- the right neighbour of the page, which the level above didn't name, has its index entry there, on this page
+pub record IsFinished (old new : TreeView) (p parent : ℕ) : Type 0 where
+  pub sep : KeyBytes
+  pub side : ℕ
+  pub unnamed : IsUnnamed old p parent sep side
+  pub named : IsNamed old new parent sep side
+
+abbrev pub IsFinishStep : TreeView → TreeView → ℕ → Did → Type 0
+IsFinishStep old new p Done = (parent : ℕ) × IsFinished old new p parent
+IsFinishStep old new p NotNeeded = (new ≡ old) × HasNoUnnamed old p
+
+-- the same tree, of which one page may be a base page by itself now
+abbrev pub IsSameOver : TreeView → TreeView → Type 0
+IsSameOver old new = (new ≡ old) ⊎ ((p : ℕ) × IsRebased old new p)

@@ -1,13 +1,29 @@
 //! Restructuring of a Bw-tree, step by step (ICDE 2013): chains are consolidated, pages split, and the root grows. A step
-//! asks first whether it is needed, and changes nothing where it isn't; each leaves what the tree holds.
+//! asks first whether it is needed, and changes nothing where it isn't; each leaves what the tree holds. A sweep goes over
+//! all pages, so that records and stamps can start over. Tidying keeps the pages that it looks at within limits.
 #![tactic(auto)]
 
+mod due;
+mod limits;
+mod outcome;
 mod steps;
+mod sweeps;
+mod tidying;
+mod whole_tree;
 
-pub use steps::{Did, consolidate, grow_root, split};
+pub use due::Due;
+pub use limits::Limits;
+pub use outcome::Tidy;
+pub use steps::{Did, consolidate, finish_split, grow_root, split};
+pub use sweeps::{sweep, sweep_due};
+pub use tidying::tidy_due;
+pub use whole_tree::{all_pages, tidy};
 
 /// Out of memory.
 pub use bw_key::Memory;
-/// The tree, and the names of its pages.
+/// The memory that lists of pages are made on.
+pub use bw_memory::Alloc;
+/// The names of pages.
 pub use bw_page::PageId;
+/// The tree.
 pub use bw_tree::Tree;

@@ -1,10 +1,14 @@
 // The steps by which a tree changes its pages.
-ghost use Rattle.std.specs.Prelude.{◌≡◌, ◌<◌, ◌≤◌, ◌^◌, true, false, None, IfOk, OnErr, slice_index};
+ghost use Rattle.std.specs.Prelude.{◌≡◌, ◌<◌, ◌≤◌, ◌^◌, true, false, None, MatchOption, IfOk, OnOk, OnErr, length, slice_index};
+ghost use Rattle.bw_chain.specs.Children.{FitsChild};
+ghost use Rattle.bw_tree.specs.Children.{IsNamed};
+ghost use Rattle.bw_tree.specs.Consolidation.{IsRebased};
+ghost use Rattle.bw_tree.specs.Routing.{IsInLevel, IsInnerPage};
 ghost use Rattle.bw_tree.specs.Splits.{IsSplittable};
-ghost use Rattle.bw_shape.specs.Steps.{IsConsolidationStep, IsRootStep, IsSplitStep};
+ghost use Rattle.bw_shape.specs.Steps.{IsConsolidationStep, IsFinishStep, IsFinished, HasLostChain, IsRootStep, IsSameOver, IsSplitStep};
 
 use bw_chain::FLOOR;
-use bw_key::Memory;
+use bw_key::{Key, Memory};
 use bw_page::PageId;
 use bw_tree::Tree;
 
@@ -18,7 +22,7 @@ pub enum Did {
 }
 
 /// Consolidates a page: what its chain makes of its base page takes the place of that page, a leaf's as of the next stamp.
-/// It isn't needed where the page has no record, or stands on no level. No batch is staged.
+/// It isn't needed where the page has no record, as a page of no level. No batch is staged.
 ///
 /// It costs a search, and for a page that has records a copy of its entries and the sorting of its writes. After `Memory`
 /// the tree is as before.
@@ -27,18 +31,30 @@ pub fn consolidate(tree: &mut Tree, page: PageId) -> Result<Did, Memory>
     ensures ok { IfOk result (IsConsolidationStep tree.old tree.new page) }
     ensures err { OnErr result (tree.new ≡ tree.old) }
 {
+    tree.know_records();
     if !has_record(tree, page) {
         return Ok(Did::NotNeeded);
     }
     let Some(level) = tree.in_level(page) else {
-        return Ok(Did::NotNeeded);
+        // No page of no level has a record.
+        unreachable!();
     };
-    if level == 0 {
-        tree.consolidate(page)?;
-    } else {
-        tree.consolidate_inner(page)?;
-    }
+    lose_chain(tree, page, level)?;
     Ok(Did::Done)
+}
+
+/// Consolidates a page of a level that has a record.
+pub(crate) fn lose_chain(tree: &mut Tree, page: PageId, level: u32) -> Result<(), Memory>
+    requires none { tree.old.staged ≡ None }
+    requires page { IsInLevel tree.old page level }
+    requires had { 2 ^ 32 ≤ slice_index tree.old.heads page }
+    ensures ok { OnOk result (HasLostChain tree.old tree.new page) }
+    ensures err { OnErr result (tree.new ≡ tree.old) }
+{
+    if level == 0 {
+        return tree.consolidate(page);
+    }
+    tree.consolidate_inner(page)
 }
 
 /// Splits a page: its entries from place `keep` on go to a new page right of it, which no page above names yet. It isn't
@@ -72,8 +88,9 @@ fn is_splittable(tree: &Tree, page: PageId, keep: usize) -> bool
     keep > 0 && keep < tree.entries(page)
 }
 
-// Whether a page has a record over its base page, as its mapping word tells.
-fn has_record(tree: &Tree, page: PageId) -> bool
+/// Whether a page has a record over its base page, as its mapping word tells.
+pub(crate) fn has_record(tree: &Tree, page: PageId) -> bool
+    ensures there { result ≡ true → page < length tree.now.heads }
     ensures yes { result ≡ true → 2 ^ 32 ≤ slice_index tree.now.heads page }
     ensures no { result ≡ false → slice_index tree.now.heads page < 2 ^ 32 }
 {
@@ -81,6 +98,68 @@ fn has_record(tree: &Tree, page: PageId) -> bool
         Some(head) => *head >= FLOOR,
         None => false,
     }
+}
+
+/// Finishes the split of a page: its right neighbour gets an index entry on the page of the level above in whose range it
+/// begins. It isn't needed where the page has no right neighbour, where that one has its entry already, on the root's level,
+/// and where the page stands on no level. No batch is staged.
+///
+/// It costs two searches, a copy of one key and one record; where the page above has a record, that page is consolidated
+/// first, which copies its children. After `Memory` the tree is as before, but that the page above may be consolidated.
+pub fn finish_split(tree: &mut Tree, page: PageId) -> Result<Did, Memory>
+    requires { tree.old.staged ≡ None }
+    ensures ok { IfOk result (IsFinishStep tree.old tree.new page) }
+    ensures err { OnErr result (IsSameOver tree.old tree.new) }
+{
+    match name_right(tree, page)? {
+        Some(_) => Ok(Did::Done),
+        None => Ok(Did::NotNeeded),
+    }
+}
+
+/// The same, with the page above that has the index entry now, if it got one.
+pub(crate) fn name_right(tree: &mut Tree, page: PageId) -> Result<Option<PageId>, Memory>
+    requires { tree.old.staged ≡ None }
+    ensures ok { IfOk result (λ parent. MatchOption parent (IsFinishStep tree.old tree.new page Did.NotNeeded)
+        (IsFinished tree.old tree.new page)) }
+    ensures err { OnErr result (IsSameOver tree.old tree.new) }
+{
+    tree.know_levels();
+    let Some(_) = tree.in_level(page) else {
+        return Ok(None);
+    };
+    let Some(unnamed) = tree.unnamed_right(page) else {
+        return Ok(None);
+    };
+    let parent = unnamed.parent;
+    let child = unnamed.page;
+    let sep = unnamed.sep.copy()?;
+    name_child(tree, parent, sep, child)?;
+    Ok(Some(parent))
+}
+
+// Lets an inner page name a page of the level below, consolidated first where it has a record.
+fn name_child(tree: &mut Tree, parent: PageId, sep: Key, child: PageId) -> Result<(), Memory>
+    requires none { tree.old.staged ≡ None }
+    requires fits { FitsChild tree.old.slots tree.old.levels parent sep child }
+    ensures ok { OnOk result (IsNamed tree.old tree.new parent sep child) }
+    ensures err { OnErr result (IsSameOver tree.old tree.new) }
+{
+    rebase(tree, parent)?;
+    tree.set_child(parent, sep, child)
+}
+
+// Leaves an inner page as a base page by itself.
+fn rebase(tree: &mut Tree, inner: PageId) -> Result<(), Memory>
+    requires none { tree.old.staged ≡ None }
+    requires page { IsInnerPage tree.old inner }
+    ensures ok { OnOk result (IsRebased tree.old tree.new inner) }
+    ensures err { OnErr result (tree.new ≡ tree.old) }
+{
+    if !has_record(tree, inner) {
+        return Ok(());
+    }
+    tree.consolidate_inner(inner)
 }
 
 /// Puts a new root over a root that was split: the old root and its right neighbour are its children. It isn't needed where

@@ -1,5 +1,9 @@
 // Worked examples of what the contracts say, and what no contract says: that calls succeed, and each growth of memory
 // refused in turn.
+mod leaves;
 mod making;
 mod refused;
+mod shapes;
 mod steps;
+mod sweeping;
+mod tidying;

@@ -7,6 +7,7 @@ use Rattle.std.specs.List.{Contains, zip}
 use Rattle.std.specs.List.Sorted.{IsPermutation}
 use Rattle.std.specs.FinMap.{from_entries}
 use Rattle.std.proofs.lemmas.Bool.{cases_lt}
+use Rattle.std.proofs.lemmas.Bool.Decides.{nat_tests}
 use Rattle.std.proofs.lemmas.List.{length-map, map-append}
 use Rattle.std.proofs.lemmas.List.Elements.{All-from_recursion, recursion_from_All}
 use Rattle.std.proofs.lemmas.List.Sorted.{All-permutation}
@@ -33,14 +34,15 @@ use Rattle.bw_chain.specs.Reading.{writes_over, row_pairs, row_writes}
 use Rattle.bw_chain.specs.Turns.{slot_without_writes}
 use Rattle.bw_chain.specs.Levels.{AreLevels, IsHome, row, levels_under}
 use Rattle.bw_chain.specs.Chains.{Bases, Records, Ends, slot_of_word, slots_of}
-use Rattle.bw_tree.specs.Trees.{IsStanding}
+use Rattle.bw_chain.specs.Searches.{IsInLevels}
+use Rattle.bw_tree.specs.Trees.{ArePlaced, IsStanding}
 use Rattle.bw_chain.specs.Records.{put_records, writes_in}
 use Rattle.bw_chain.specs.Supports.{supports_at}
 use Rattle.bw_tree.proofs.AlikeLemmas.{IsPutOver, AreInside, levels_written, pairs_alike, put_bare}
 use Rattle.bw_chain.proofs.GrowthLemmas.{take_front}
 use Rattle.bw_chain.proofs.LevelLemmas.{levels_now}
 use Rattle.bw_tree.proofs.PlacedLemmas.{named_are, named_pass}
-use Rattle.bw_tree.proofs.PostedLemmas.{chain_posted, named, put_over}
+use Rattle.bw_tree.proofs.PostedLemmas.{chain_posted, named, put_over, read_both}
 use Rattle.bw_chain.proofs.ReadingLemmas.{slot_of_head}
 use Rattle.bw_tree.proofs.RowWritesLemmas.{row_has_all}
 
@@ -207,6 +209,23 @@ module _ (heads heads' : List ℕ) (bases : Bases) (first : Records) (root next 
       (All-permutation P (ws ++ row_writes old_slots leaves) (row_writes new_slots leaves) moved
       (All-from_recursion P (ws ++ row_writes old_slots leaves) (below_both ws (row_writes old_slots leaves) below (below_all next bound (row_writes old_slots leaves) le t.past))))
 
+  -- a page that has a record had one, or was given one, of a key that is at home there
+  placed_after : ArePlaced heads' old_levels
+  placed_after p lt high = let c = chains p within in by c.chain c.way c.only
+    where
+      within : p < length heads
+      within = omega (arith, lt, pages)
+
+      once_more : (r : ℕ) (rs : List ℕ) → 0 < times r (r ∷ rs)
+      once_more r rs = grind (arith, nat_tests)
+
+      by : (rs : List ℕ) → Meets (4294967296 + length first) links (slice_index heads' p) rs (slice_index heads p) → ((r : ℕ) (w : WriteView) → slice_get ws r ≡ Some w → 0 < times r rs → IsHome old_slots old_levels w.key p) → IsInLevels old_levels p
+      by [] met only = t.placed p within (subst (λ w. 2 ^ 32 ≤ w) met high)
+      by (r ∷ rs) met only =
+          let at = read_both ws links r met.1 linked in
+          let home = only r at.0 at.1 (once_more r rs) in
+          record { level = 0; within = home.reached.within; in_level = home.reached.in_level }
+
   pub standing_after : bound ≤ 2 ^ 40 → length after ≤ 2 ^ 32 → IsStanding heads' bases after root bound
   standing_after fits few = record {
     ends = λ p word e. ends p word e;
@@ -218,6 +237,7 @@ module _ (heads heads' : List ℕ) (bases : Bases) (first : Records) (root next 
     lawful = subst (AreLevels new_slots root) (sym levels_after) lawful_after;
     distinct = subst (λ (l : List (List ℕ)). HasDistinctStamps (row_writes new_slots (row l 0))) (sym levels_after) new_distinct;
     past = subst (λ (l : List (List ℕ)). AreBelow bound (row_writes new_slots (row l 0))) (sym levels_after) new_below;
+    placed = subst (ArePlaced heads') (sym levels_after) placed_after;
     fits = fits;
     few_records = few;
     few_pages = omega (arith, t.few_pages, pages);

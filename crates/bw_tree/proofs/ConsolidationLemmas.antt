@@ -195,10 +195,11 @@ module _ (heads : List ℕ) (bases : Bases) (records : Records) (root next : ℕ
   past_new = row_without (AllByRecursion IsPast) (all_without IsPast) old.slots new.slots p none_new others_new [] (row old.levels 0) t.past
 
   standing_new : IsStanding heads' bases' records root next
-  standing_new = stands_with heads bases records root next t p word at_p (LeafPage leaf)
+  standing_new = stands_with heads bases records root next t p word within at_p (LeafPage leaf)
       (subst (AreLevels new.slots root) (sym same_levels) lawful_new)
       (subst (λ (l : List (List ℕ)). HasDistinctStamps (row_writes new.slots (row l 0))) (sym same_levels) distinct_new)
       (subst (λ (l : List (List ℕ)). AllByRecursion IsPast (row_writes new.slots (row l 0))) (sym same_levels) past_new)
+      same_levels
 
   home_was : (key : KeyBytes) (q : ℕ) → IsHome new.slots old.levels key q → IsHome old.slots old.levels key q
   home_was key q h =

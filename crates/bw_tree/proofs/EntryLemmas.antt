@@ -16,7 +16,7 @@ use Rattle.bw_tree.specs.Children.{IsNamed, MayHaveChild}
 use Rattle.bw_tree.specs.Trees.{IsStanding, IsTree, StageWords, view_of}
 use Rattle.bw_tree.specs.View.{StageView, TreeView}
 use Rattle.bw_tree.proofs.RoutingLemmas.{page_there}
-use Rattle.bw_tree.proofs.StandingLemmas.{contents_same, same_levels, standing_kept}
+use Rattle.bw_tree.proofs.StandingLemmas.{contents_same, placed_set, same_levels, standing_kept}
 
 module _ (heads : List ℕ) (bases : Bases) (records : Records) (root next : ℕ) (t : IsStanding heads bases records root next) (p : ℕ) (within : p < length heads) (sep : KeyBytes) (child : ℕ) (ok : MayHaveChild (view_of heads bases records root next None) p sep child) (few : length records < 2 ^ 32) where
   abbrev old : TreeView
@@ -62,6 +62,7 @@ module _ (heads : List ℕ) (bases : Bases) (records : Records) (root next : ℕ
       (record_all_end heads bases records t.ends t.own p word at_p ok.plain delta refl)
       (record_own heads bases records t.ends t.own p word at_p ok.plain delta refl)
       (omega (arith, few, more)) (omega (arith, t.few_pages, length-set heads p new_word)) t.few_bases
+      (placed_set heads old.levels p new_word within (λ high. record { level = _; within = ok.fits.within; in_level = ok.fits.in_level }) t.placed)
 
   placed : slice_index heads' p ≡ new_word
   placed = get_or-set_same heads p new_word 0 within

@@ -56,10 +56,10 @@ folded_length tree n (p ∷ ps) = ap suc (folded_length tree (n + 1) ps)
 low_is : (slots : List Slot) (level : ℕ) (low : KeyBytes) (high : Option KeyBytes) (side : Option ℕ) (p : ℕ) → Stands slots level low high side p → low_of (slot_at slots p) ≡ low
 low_is slots level low high side p st = ap low_of st.is ∙ st.from_low
 
-high_is : (slots : List Slot) (level : ℕ) (low : KeyBytes) (high : Option KeyBytes) (side : Option ℕ) (p : ℕ) → Stands slots level low high side p → high_of (slot_at slots p) ≡ high
+pub high_is : (slots : List Slot) (level : ℕ) (low : KeyBytes) (high : Option KeyBytes) (side : Option ℕ) (p : ℕ) → Stands slots level low high side p → high_of (slot_at slots p) ≡ high
 high_is slots level low high side p st = ap high_of st.is ∙ st.to_high
 
-side_is : (slots : List Slot) (level : ℕ) (low : KeyBytes) (high : Option KeyBytes) (side : Option ℕ) (p : ℕ) → Stands slots level low high side p → side_of slots p ≡ side
+pub side_is : (slots : List Slot) (level : ℕ) (low : KeyBytes) (high : Option KeyBytes) (side : Option ℕ) (p : ℕ) → Stands slots level low high side p → side_of slots p ≡ side
 side_is slots level low high side p st = ap side_of_slot st.is ∙ st.linked
 
 first_low : (slots : List Slot) (level : ℕ) (low : KeyBytes) (p : ℕ) (ps : List ℕ) → SideBySide slots level low (p ∷ ps) → low_of (slot_at slots p) ≡ low
@@ -302,12 +302,13 @@ module _ (tree : TreeView) (root : ℕ) (lawful : AreLevels tree.slots root tree
           let fits = way_fits (side_of tree.slots) (length tree.slots) (side_bounded tree.slots) x way.0 way.1.0 way.1.1 there in
           omega (arith, whole, fits)
 
-  first_home : (ps : List ℕ) (p : ℕ) → SideBySide tree.slots 0 [] ps → HasKey tree.slots ps [] p → (0 < length ps) × (get_or ps 0 p ≡ p)
-  first_home [] p h home = absurd h
-  first_home (x ∷ xs) p h home = (omega arith, one_has tree.slots 0 [] (x ∷ xs) [] x p h first home)
+  -- the home of the least key is the first page of its level
+  pub first_home : (level : ℕ) (ps : List ℕ) (p : ℕ) → SideBySide tree.slots level [] ps → HasKey tree.slots ps [] p → (0 < length ps) × (get_or ps 0 p ≡ p)
+  first_home level [] p h home = absurd h
+  first_home level (x ∷ xs) p h home = (omega arith, one_has tree.slots level [] (x ∷ xs) [] x p h first home)
     where
-      st : Stands tree.slots 0 [] (first_stands tree.slots 0 [] x xs h).0 (first_stands tree.slots 0 [] x xs h).1.0 x
-      st = (first_stands tree.slots 0 [] x xs h).1.1
+      st : Stands tree.slots level [] (first_stands tree.slots level [] x xs h).0 (first_stands tree.slots level [] x xs h).1.0 x
+      st = (first_stands tree.slots level [] x xs h).1.1
 
       first : HasKey tree.slots (x ∷ xs) [] x
       first = record {
@@ -322,7 +323,7 @@ module _ (tree : TreeView) (root : ℕ) (lawful : AreLevels tree.slots root tree
   pub begins_folding : (leaves : List (LeafView ValueBytes)) (p : ℕ) → leaves ≡ [] → IsHome tree.slots tree.levels [] p → AreFolding tree leaves p
   begins_folding leaves p none home =
       let r = home.reached in
-      let first = first_home (row tree.levels 0) p (lawful.rows 0 lawful.some) (record { in_row = r.in_level; state = r.state; is = r.is; from_low = r.from_low; ends_above = home.ends_above }) in
+      let first = first_home 0 (row tree.levels 0) p (lawful.rows 0 lawful.some) (record { in_row = r.in_level; state = r.state; is = r.is; from_low = r.from_low; ends_above = home.ends_above }) in
       subst (λ (ls : List (LeafView ValueBytes)). AreFolding tree ls p) (sym none) (record { within = first.0; at = first.1; so_far = refl })
 
   pub folding_has : (leaves : List (LeafView ValueBytes)) (p : ℕ) → AreFolding tree leaves p → Contains (row tree.levels 0) p
@@ -374,7 +375,7 @@ module _ (tree : TreeView) (root : ℕ) (lawful : AreLevels tree.slots root tree
       }
 
   -- a leaf that has no end is the last one
-  row_ends : (level : ℕ) (low : KeyBytes) (ps : List ℕ) (k p : ℕ) → SideBySide tree.slots level low ps → k < length ps → get_or ps k p ≡ p → high_of (slot_at tree.slots p) ≡ None → suc k ≡ length ps
+  pub row_ends : (level : ℕ) (low : KeyBytes) (ps : List ℕ) (k p : ℕ) → SideBySide tree.slots level low ps → k < length ps → get_or ps k p ≡ p → high_of (slot_at tree.slots p) ≡ None → suc k ≡ length ps
   row_ends level low [] k p h lt at none = absurd h
   row_ends level low (x ∷ []) zero p h lt at none = refl
   row_ends level low (x ∷ []) (suc k) p h lt at none = absurd (omega arith)

@@ -25,3 +25,5 @@ pub mod EntryLemmas
 pub mod RootLemmas
 pub mod RestartLemmas
 pub mod RebaseLemmas
+pub mod UnnamedLemmas
+pub mod ShapeLemmas

@@ -1,11 +1,12 @@
 -- The tree over leaves is lawful.
-use Rattle.std.specs.Prelude.{slice_get}
+use Rattle.std.specs.Prelude.{slice_get, slice_index}
 use Rattle.bw_chain.specs.Chains.{based, slot_of_word, Bases, link_of, linked_word, AllEnd}
 use Rattle.bw_page.specs.declared.pages.Page.{Page}
 use Rattle.std.proofs.Common.{◌≡◌, ℕ, zero, suc, ◌+◌, ◌-◌, ◌<◌, ◌≤◌, ◌^◌, true, false, cond, not, T, List, [], ◌∷◌, ◌++◌, length, map, Option, Some, None, Result, Ok, Err, IfOk, refl, sym, ap, ◌∙◌, subst, arith, nat_lt, length-append}
 use Rattle.std.specs.List.{Contains, AllByRecursion, IsDistinct}
 use Rattle.std.specs.FinMap.{from_entries}
 use Rattle.std.proofs.lemmas.List.{length-map}
+use Rattle.std.proofs.lemmas.Option.{slice_get-get_or}
 use Rattle.bw_key.specs.Order.{KeyBytes, key_cmp}
 use Rattle.bw_model.specs.Contents.{Contents}
 use Rattle.bw_model.specs.Values.{ValueBytes}
@@ -63,6 +64,9 @@ over_tree stamp bases levels small lawful none few =
         own = over_own bases;
         lawful = subst (AreLevels (over_slots bases) (length bases - 1)) (sym now) lawful;
         distinct = subst (λ (l : List (List ℕ)). HasDistinctStamps (row_writes (over_slots bases) (row l 0))) (sym now) (subst HasDistinctStamps (sym none) none_distinct);
+        placed = λ p lt high.
+            let at = counted_word 0 (length bases) p (slice_index (count_from 0 (length bases)) p) (slice_get-get_or (count_from 0 (length bases)) p 0 lt) in
+            absurd (omega (arith, high, few, at.0, at.1));
         few_records = omega arith;
         few_pages = omega (arith, few, counted_length 0 (length bases));
         few_bases = few;

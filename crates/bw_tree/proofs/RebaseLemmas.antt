@@ -15,9 +15,10 @@ use Rattle.bw_chain.proofs.ReadingLemmas.{slot_of_head}
 use Rattle.bw_chain.proofs.RowLemmas.{in_row}
 use Rattle.bw_tree.specs.Consolidation.{IsRebased}
 use Rattle.bw_tree.specs.Routing.{IsInnerPage}
-use Rattle.bw_tree.specs.Trees.{IsStanding, IsTree, StageWords, leaf_writes, view_of}
+use Rattle.bw_tree.specs.Trees.{ArePlaced, IsStanding, IsTree, StageWords, leaf_writes, view_of}
 use Rattle.bw_tree.specs.View.{StageView, TreeView}
 use Rattle.bw_tree.proofs.RoutingLemmas.{at_head, page_at_head}
+use Rattle.bw_tree.proofs.StandingLemmas.{placed_set}
 
 -- an inner page of a tree is sound
 pub inner_sound : (tree : TreeView) (root p : ℕ) → AreLevels tree.slots root tree.levels → IsInnerPage tree p → IsSoundInner (slot_at tree.slots p)
@@ -36,8 +37,8 @@ sound_there heads bases records root next bound staged tree p head is t inner re
     let lawful : AreLevels tree.slots root tree.levels = subst (λ (v : TreeView). AreLevels v.slots root v.levels) is t.lawful in
     subst IsSoundInner (page_at_head heads bases records root next bound staged tree p head is t inner.in_levels read).slot (inner_sound tree root p lawful inner)
 
--- Pages stand where one took the place of a chain, if their levels and writes do.
-module _ (heads : List ℕ) (bases : Bases) (records : Records) (root next : ℕ) (t : IsStanding heads bases records root next) (p word : ℕ) (at : slice_get heads p ≡ Some word) (page : Page) where
+-- Pages stand where one took the place of a chain and the levels are the same, if these levels and the writes are lawful.
+module _ (heads : List ℕ) (bases : Bases) (records : Records) (root next : ℕ) (t : IsStanding heads bases records root next) (p word : ℕ) (within : p < length heads) (at : slice_get heads p ≡ Some word) (page : Page) where
   abbrev heads_with : List ℕ
   heads_with = set heads p (base_under records word)
 
@@ -47,13 +48,16 @@ module _ (heads : List ℕ) (bases : Bases) (records : Records) (root next : ℕ
   abbrev slots_with : List Slot
   slots_with = slots_of heads_with bases_with records
 
-  pub stands_with : AreLevels slots_with root (levels_under slots_with root) → HasDistinctStamps (leaf_writes slots_with root) → AllByRecursion (λ w. w.stamp < next) (leaf_writes slots_with root) → IsStanding heads_with bases_with records root next
-  stands_with lawful distinct past = record {
+  pub stands_with : AreLevels slots_with root (levels_under slots_with root) → HasDistinctStamps (leaf_writes slots_with root) → AllByRecursion (λ w. w.stamp < next) (leaf_writes slots_with root) → levels_under slots_with root ≡ levels_under (slots_of heads bases records) root → IsStanding heads_with bases_with records root next
+  stands_with lawful distinct past same = record {
     ends = all_end heads bases records t.ends t.own p word at page;
     own = own_after heads bases records t.ends t.own p word at page;
     lawful = lawful;
     distinct = distinct;
     past = past;
+    placed = subst (ArePlaced heads_with) (sym same)
+        (placed_set heads (levels_under (slots_of heads bases records) root) p (base_under records word) within
+        (λ high. absurd (omega (arith, high, low heads bases records t.ends t.own p word at page))) t.placed);
     fits = t.fits;
     few_records = t.few_records;
     few_pages = omega (arith, t.few_pages, length-set heads p (base_under records word));
@@ -89,10 +93,11 @@ module _ (heads : List ℕ) (bases : Bases) (records : Records) (root next : ℕ
   kept = same_slots heads bases records t.ends t.own p word at_p page (sym (slot_of_head bases records heads p 0 within) ∙ made)
 
   standing : IsStanding heads' bases' records root next
-  standing = stands_with heads bases records root next t p word at_p page
+  standing = stands_with heads bases records root next t p word within at_p page
       (subst (λ (s : List Slot). AreLevels s root (levels_under s root)) (sym kept) t.lawful)
       (subst (λ (s : List Slot). HasDistinctStamps (leaf_writes s root)) (sym kept) t.distinct)
       (subst (λ (s : List Slot). AllByRecursion (λ w. w.stamp < next) (leaf_writes s root)) (sym kept) t.past)
+      (ap (λ (s : List Slot). levels_under s root) kept)
 
   abbrev viewed : List Slot → List ℕ → TreeView
   viewed slots words = record { slots = slots; root = root; levels = levels_under slots root; heads = words; records = length records; next = next; staged = None }

@@ -46,6 +46,17 @@ still_based bases records word low ends = by ends.0 ends.1.0 ends.1.1
     by [] e h = ([], (word, record { way = alone [] word low; short = omega arith; within = omega (arith, h.within, h.way.0); limit = low; shaped = tt }))
     by (w ∷ ws) e h = absurd (no_next (no_link records word low ∙ h.way.1.1))
 
+-- no write lies over a page whose mapping word names a base page
+pub none_on : (heads : List ℕ) (bases : Bases) (records : Records) (root next : ℕ) → IsStanding heads bases records root next → (p : ℕ) → slice_index heads p < 2 ^ 32 → writes_over (slot_at (slots_of heads bases records) p) ≡ []
+none_on heads bases records root next t p low = by (cases_lt p (length heads))
+  where
+    by : (p < length heads) ⊎ (length heads ≤ p) → writes_over (slot_at (slots_of heads bases records) p) ≡ []
+    by (inl lt) =
+        let word = slice_index heads p in
+        ap writes_over (slot_of_head bases records heads p 0 lt)
+        ∙ none_at_base bases records word (t.ends p word (slice_get-get_or heads p 0 lt)) (no_record records word low)
+    by (inr ge) = ap writes_over (slot_past (slot_of_word bases records) heads p ge)
+
 module _ (heads : List ℕ) (bases : Bases) (records : Records) (root next : ℕ) (t : IsStanding heads bases records root next) (plain : ArePlain heads) where
   abbrev old : List Slot
   old = slots_of heads bases records
@@ -63,12 +74,11 @@ module _ (heads : List ℕ) (bases : Bases) (records : Records) (root next : ℕ
   none_over p = by (cases_lt p (length heads))
     where
       by : (p < length heads) ⊎ (length heads ≤ p) → writes_over (slot_at old p) ≡ []
-      by (inl lt) =
-          let word = slice_index heads p in
-          let at : slice_get heads p ≡ Some word = slice_get-get_or heads p 0 lt in
-          ap writes_over (slot_of_head bases records heads p 0 lt)
-          ∙ none_at_base bases records word (t.ends p word at) (no_record records word (each_plain heads p word plain at))
+      by (inl lt) = none_on heads bases records root next t p (each_plain heads p (slice_index heads p) plain (slice_get-get_or heads p 0 lt))
       by (inr ge) = ap writes_over (slot_past (slot_of_word bases records) heads p ge)
+
+  none_new : (p : ℕ) → writes_over (slot_at (slots_of heads bases []) p) ≡ []
+  none_new p = ap (λ (s : List Slot). writes_over (slot_at s p)) same_slots ∙ none_over p
 
   none_in : (ps : List ℕ) → row_writes old ps ≡ []
   none_in [] = refl
@@ -89,6 +99,7 @@ module _ (heads : List ℕ) (bases : Bases) (records : Records) (root next : ℕ
     lawful = subst (λ (s : List Slot). AreLevels s root (levels_under s root)) (sym same_slots) t.lawful;
     distinct = subst (λ (s : List Slot). HasDistinctStamps (leaf_writes s root)) (sym same_slots) t.distinct;
     past = subst (λ (s : List Slot). AllByRecursion (λ w. w.stamp < 0) (leaf_writes s root)) (sym same_slots) (subst (λ (l : List WriteView). AllByRecursion (λ w. w.stamp < 0) l) (sym no_writes) tt);
+    placed = λ p lt high. absurd (omega (arith, high, each_plain heads p (slice_index heads p) plain (slice_get-get_or heads p 0 lt)));
     fits = omega arith;
     few_records = omega arith;
     few_pages = t.few_pages;
@@ -115,6 +126,7 @@ pub record IsRestarted (heads : List ℕ) (bases : Bases) (records : Records) (r
   pub tree_is : IsTree heads bases records root 0 staged
   pub view : view_of heads bases records root 0 staged ≡ record tree { records = 0; next = 0 }
   pub contents : (stamp : ℕ) → contents_at (view_of heads bases records root 0 staged) stamp ≡ contents_at tree tree.next
+  pub bare : (p : ℕ) → writes_over (slot_at (slots_of heads bases records) p) ≡ []
 
 none_taken : {X : Type 0} (xs : List X) → take 0 xs ≡ []
 none_taken [] = refl
@@ -128,6 +140,7 @@ restart_on heads bases records root next None tree t is none plain bases' record
       tree_is = record { now = standing heads bases records root next t.now plain_here; stage = tt };
       view = same_view heads bases records root next t.now plain_here;
       contents = same_contents heads bases records root next t.now plain_here;
+      bare = none_new heads bases records root next t.now plain_here;
     } in
     subst (λ (v : TreeView). IsRestarted heads bases' records' root None v) is
     (subst (λ (b : Bases). IsRestarted heads b records' root None (view_of heads bases records root next None)) (sym same_bases)

@@ -1,6 +1,7 @@
 -- A new root leaves a tree that holds the same.
 use Rattle.std.proofs.Common.{get_or, ◌≡◌, ℕ, suc, ◌-◌, ◌<◌, ◌^◌, true, List, [], ◌∷◌, ◌++◌, length, Option, Some, None, refl, sym, ap, ◌∙◌, subst, arith, length-append}
 use Rattle.std.proofs.lemmas.List.{length-map}
+use Rattle.std.specs.List.{Contains}
 use Rattle.std.specs.Option.{unwrap_or}
 use Rattle.std.specs.Ordering.{is_lt}
 use Rattle.std.specs.Prelude.{slice_index}
@@ -16,15 +17,15 @@ use Rattle.bw_chain.specs.Scans.{high_of}
 use Rattle.bw_chain.specs.Slots.{Slot, PageState, Free, Live, level_of, side_of_slot, slot_at, slot_level}
 use Rattle.bw_chain.proofs.AdditionLemmas.{get_last, page_all_end, page_others, page_own, page_there}
 use Rattle.bw_chain.proofs.LeafRowLemmas.{low_below}
-use Rattle.bw_chain.proofs.RootLemmas.{begins_row, levels_grow, two_sound}
+use Rattle.bw_chain.proofs.RootLemmas.{begins_row, levels_grow, row_before, two_sound}
 use Rattle.bw_chain.proofs.RouteLemmas.{held, row_first}
 use Rattle.bw_tree.specs.Roots.{HasNewRoot, IsOverRoot}
-use Rattle.bw_tree.specs.Trees.{IsStanding, IsTree, StageWords, view_of}
+use Rattle.bw_tree.specs.Trees.{ArePlaced, IsStanding, IsTree, StageWords, view_of}
 use Rattle.bw_tree.specs.View.{StageView, TreeView}
 use Rattle.bw_tree.proofs.AdoptLemmas.{slot_past}
 use Rattle.bw_tree.proofs.RoutingLemmas.{PageAt, at_head}
 use Rattle.bw_tree.proofs.SplitLemmas.{index_is}
-use Rattle.bw_tree.proofs.StandingLemmas.{contents_same, same_levels as levels_same, standing_kept}
+use Rattle.bw_tree.proofs.StandingLemmas.{contents_same, placed_added, same_levels as levels_same, standing_kept}
 
 not_free : {s : PageState} → Free ≡ Live s → ⊥
 not_free e = cc
@@ -99,6 +100,16 @@ module _ (heads : List ℕ) (bases : Bases) (records : Records) (root next : ℕ
   same_levels : new.levels ≡ levels_grown old.levels q
   same_levels = levels_same heads bases records root next t heads' bases' records q (levels_grown old.levels q) kept
 
+  -- a level stays with its pages under a further one
+  placed_new : ArePlaced heads' (levels_grown old.levels q)
+  placed_new = placed_added heads (levels_grown old.levels q) (length bases) few (λ r lt high.
+      let on = t.placed r lt high in
+      record {
+        level = on.level;
+        within = omega (arith, on.within, length-append old.levels ((q ∷ []) ∷ []));
+        in_level = subst (λ (ps : List ℕ). Contains ps r) (sym (row_before old.levels ((q ∷ []) ∷ []) on.level on.within)) on.in_level;
+      })
+
   pub standing_new : IsStanding heads' bases' records q next
   standing_new = standing_kept heads bases records root next t heads' bases' records q (levels_grown old.levels q) kept
       (page_all_end heads bases records t.ends t.own few page)
@@ -106,6 +117,7 @@ module _ (heads : List ℕ) (bases : Bases) (records : Records) (root next : ℕ
       t.few_records
       (omega (arith, few_pages, length-append heads (length bases ∷ [])))
       (omega (arith, few_bases, length-append bases (Some page ∷ [])))
+      placed_new
 
   word_there : slice_index heads' q ≡ length bases
   word_there = index_is heads' q ∙ ap (λ (x : Option ℕ). unwrap_or x 0) (get_last heads (length bases))

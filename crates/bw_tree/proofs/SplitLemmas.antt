@@ -15,7 +15,7 @@ use Rattle.bw_chain.specs.Laws.{KeepsAll}
 use Rattle.bw_chain.specs.Levels.{row}
 use Rattle.bw_chain.specs.Reading.{body_writes, writes_over}
 use Rattle.bw_chain.specs.Searches.{IsInLevels}
-use Rattle.bw_chain.specs.Splits.{IsParted, IsUpperHalf, entry_count, left_part, level_parted, right_part, separator, slot_entries, slot_right, slot_separator}
+use Rattle.bw_chain.specs.Splits.{IsParted, IsUpperHalf, entry_count, left_part, level_parted, put_behind, right_part, separator, slot_entries, slot_right, slot_separator}
 use Rattle.bw_chain.specs.Supports.{OwnBases}
 use Rattle.bw_chain.proofs.AdditionLemmas.{get_last, not_last, page_all_end, page_others, page_own, page_there, record_all_end, record_here, record_others, record_own}
 use Rattle.bw_chain.proofs.BaseLemmas.{get_set_other, get_set_same}
@@ -23,12 +23,12 @@ use Rattle.bw_chain.proofs.ChainLemmas.{no_record, on_base}
 use Rattle.bw_chain.proofs.ReadingLemmas.{no_writes_on_base, slot_of_head}
 use Rattle.bw_chain.proofs.RouteLemmas.{held}
 use Rattle.bw_chain.proofs.RowLemmas.{InRow, in_row}
-use Rattle.bw_chain.proofs.SplitLemmas.{below_is, parts_kept}
+use Rattle.bw_chain.proofs.SplitLemmas.{below_is, has_new, parts_kept}
 use Rattle.bw_tree.specs.Splits.{IsSplit, IsSplittable}
-use Rattle.bw_tree.specs.Trees.{IsStanding, IsTree, StageWords, view_of}
+use Rattle.bw_tree.specs.Trees.{ArePlaced, IsStanding, IsTree, StageWords, view_of}
 use Rattle.bw_tree.specs.View.{StageView, TreeView}
 use Rattle.bw_tree.proofs.AdoptLemmas.{slot_past}
-use Rattle.bw_tree.proofs.StandingLemmas.{contents_same, same_levels as levels_same, standing_kept}
+use Rattle.bw_tree.proofs.StandingLemmas.{contents_same, placed_added, placed_set, same_levels as levels_same, standing_kept}
 
 not_free : {s : PageState} → Free ≡ Live s → ⊥
 not_free e = cc
@@ -138,13 +138,29 @@ module _ (heads : List ℕ) (bases : Bases) (records : Records) (root next : ℕ
   same_levels : (level : ℕ) → level < length old.levels → Contains (row old.levels level) p → new.levels ≡ level_parted old.levels level p q
   same_levels level lt has = levels_same heads bases records root next t heads' bases' records' root (level_parted old.levels level p q) (kept level lt has)
 
+  abbrev after : List (List ℕ)
+  after = level_parted old.levels ok.level p q
+
+  still_in : (r : ℕ) → IsInLevels old.levels r → IsInLevels after r
+  still_in r on = record {
+    level = on.level;
+    within = omega (arith, on.within, length-set old.levels ok.level (put_behind p q (row old.levels ok.level)));
+    in_level = has_new old.slots new.slots root old.levels ok.level p q keep t.lawful ok.within ok.in_level parted on.level r on.in_level;
+  }
+
+  placed_new : ArePlaced heads' after
+  placed_new = placed_added heads1 after (length bases) few
+      (placed_set heads after p new_word within (λ high. still_in p (record { level = ok.level; within = ok.within; in_level = ok.in_level }))
+      (λ r lt high. still_in r (t.placed r lt high)))
+
   pub standing_new : IsStanding heads' bases' records' root next
-  standing_new = standing_kept heads bases records root next t heads' bases' records' root (level_parted old.levels ok.level p q) (kept ok.level ok.within ok.in_level)
+  standing_new = standing_kept heads bases records root next t heads' bases' records' root after (kept ok.level ok.within ok.in_level)
       (page_all_end heads1 bases records' ends1 own1 few right)
       (page_own heads1 bases records' ends1 own1 few right)
       (omega (arith, few_records, length-append records ((delta, word) ∷ [])))
       (omega (arith, few_pages, pages1, length-append heads1 (length bases ∷ [])))
       (omega (arith, few_bases, length-append bases (Some right ∷ [])))
+      placed_new
 
   word_at : (r : ℕ) (o : Option ℕ) → slice_get heads' r ≡ o → slice_index heads' r ≡ unwrap_or o 0
   word_at r o e = index_is heads' r ∙ ap (λ (x : Option ℕ). unwrap_or x 0) e

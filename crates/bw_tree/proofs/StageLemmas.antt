@@ -15,7 +15,7 @@ use Rattle.bw_chain.specs.Slots.{Slot}
 use Rattle.bw_chain.specs.Levels.{AreLevels, row, levels_under}
 use Rattle.bw_chain.specs.Chains.{Bases, Records, slot_of_word, slots_of}
 use Rattle.bw_chain.proofs.RecordLemmas.{unlinked_put, writes_unlinked}
-use Rattle.bw_tree.specs.Trees.{IsStanding, IsTree, StageWords, view_of}
+use Rattle.bw_tree.specs.Trees.{ArePlaced, IsStanding, IsTree, StageWords, view_of}
 use Rattle.bw_chain.specs.Records.{unlinked, writes_in}
 use Rattle.bw_tree.specs.Stages.{staged_on}
 use Rattle.bw_tree.specs.View.{TreeView, StageView, contents_at, contents_with}
@@ -36,6 +36,7 @@ stands_on heads bases old new root bound later t kept more le fits few = (
     lawful = subst (λ (s : List Slot). AreLevels s root (levels_under s root)) (sym same) t.lawful;
     distinct = subst (λ (s : List Slot). HasDistinctStamps (row_writes s (row (levels_under s root) 0))) (sym same) t.distinct;
     past = subst (λ (s : List Slot). AreBelow later (row_writes s (row (levels_under s root) 0))) (sym same) (below_all bound later (row_writes (slots_of heads bases old) (row (levels_under (slots_of heads bases old) root) 0)) le t.past);
+    placed = subst (λ (s : List Slot). ArePlaced heads (levels_under s root)) (sym same) t.placed;
     fits = fits;
     few_records = few;
     few_pages = t.few_pages;

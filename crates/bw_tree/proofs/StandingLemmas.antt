@@ -1,5 +1,8 @@
 -- A change of pages that leaves lawful levels and what they hold leaves a tree that holds the same.
-use Rattle.std.proofs.Common.{◌≡◌, ℕ, ◌<◌, ◌≤◌, ◌^◌, List, length, sym, ap, ◌∙◌, subst}
+use Rattle.std.proofs.Common.{inl, inr, ◌⊎◌, set, ◌≡◌, ℕ, zero, suc, ◌<◌, ◌≤◌, ◌^◌, List, [], ◌∷◌, ◌++◌, length, refl, sym, ap, ◌∙◌, subst, arith, length-append}
+use Rattle.std.proofs.lemmas.Bool.{cases_eq, cases_lt}
+use Rattle.std.proofs.lemmas.List.{get_or-set_other, get_or-set_same, length-set}
+use Rattle.std.specs.Prelude.{slice_index}
 use Rattle.std.specs.List.{AllByRecursion}
 use Rattle.bw_delta.specs.History.{HasDistinctStamps}
 use Rattle.bw_delta.specs.Writes.{WriteView}
@@ -7,10 +10,40 @@ use Rattle.bw_chain.specs.Chains.{AllEnd, Bases, Records, slots_of}
 use Rattle.bw_chain.specs.Laws.{KeepsAll}
 use Rattle.bw_chain.specs.Levels.{AreLevels, levels_under, row}
 use Rattle.bw_chain.specs.Reading.{contents_in, row_writes}
+use Rattle.bw_chain.specs.Searches.{IsInLevels}
 use Rattle.bw_chain.specs.Slots.{Slot}
 use Rattle.bw_chain.specs.Supports.{OwnBases}
 use Rattle.bw_chain.proofs.LevelLemmas.{levels_now}
-use Rattle.bw_tree.specs.Trees.{IsStanding}
+use Rattle.bw_tree.specs.Trees.{ArePlaced, IsStanding}
+
+-- pages with records still stand on a level where one page's word was set, if that page does
+pub placed_set : (heads : List ℕ) (levels : List (List ℕ)) (p word : ℕ) → p < length heads → (2 ^ 32 ≤ word → IsInLevels levels p) → ArePlaced heads levels → ArePlaced (set heads p word) levels
+placed_set heads levels p word within on placed r lt high = by (cases_eq r p)
+  where
+    by : (r ≡ p) ⊎ (r ≡ p → ⊥) → IsInLevels levels r
+    by (inl here) =
+        let now : slice_index (set heads p word) r ≡ word = ap (slice_index (set heads p word)) here ∙ get_or-set_same heads p word 0 within in
+        subst (IsInLevels levels) (sym here) (on (subst (λ w. 2 ^ 32 ≤ w) now high))
+    by (inr other) = placed r (omega (arith, lt, length-set heads p word)) (subst (λ w. 2 ^ 32 ≤ w) (get_or-set_other heads p r word 0 other) high)
+
+last_word : (heads : List ℕ) (word : ℕ) → slice_index (heads ++ word ∷ []) (length heads) ≡ word
+last_word [] word = refl
+last_word (h ∷ heads) word = last_word heads word
+
+word_before : (heads : List ℕ) (word p : ℕ) → p < length heads → slice_index (heads ++ word ∷ []) p ≡ slice_index heads p
+word_before [] word p lt = absurd (omega arith)
+word_before (h ∷ heads) word zero lt = refl
+word_before (h ∷ heads) word (suc p) lt = word_before heads word p (omega arith)
+
+-- so do they beside a page that is added without a record
+pub placed_added : (heads : List ℕ) (levels : List (List ℕ)) (word : ℕ) → word < 2 ^ 32 → ArePlaced heads levels → ArePlaced (heads ++ word ∷ []) levels
+placed_added heads levels word plain placed r lt high = by (cases_lt r (length heads))
+  where
+    by : (r < length heads) ⊎ (length heads ≤ r) → IsInLevels levels r
+    by (inl before) = placed r before (subst (λ w. 2 ^ 32 ≤ w) (word_before heads word r before) high)
+    by (inr behind) =
+        let last : r ≡ length heads = omega (arith, lt, behind, length-append heads (word ∷ [])) in
+        absurd (omega (arith, plain, high, ap (slice_index (heads ++ word ∷ [])) last ∙ last_word heads word))
 
 module _ (heads : List ℕ) (bases : Bases) (records : Records) (root next : ℕ) (t : IsStanding heads bases records root next) (heads' : List ℕ) (bases' : Bases) (records' : Records) (root' : ℕ) (levels' : List (List ℕ)) where
   abbrev old_slots : List Slot
@@ -28,8 +61,8 @@ module _ (heads : List ℕ) (bases : Bases) (records : Records) (root next : ℕ
   abbrev IsPast : WriteView → Type 0
   IsPast w = w.stamp < next
 
-  pub standing_kept : IsKept → AllEnd bases' records' heads' → OwnBases heads' bases' records' → length records' ≤ 2 ^ 32 → length heads' ≤ 2 ^ 32 → length bases' ≤ 2 ^ 32 → IsStanding heads' bases' records' root' next
-  standing_kept kept ends own few_records few_pages few_bases =
+  pub standing_kept : IsKept → AllEnd bases' records' heads' → OwnBases heads' bases' records' → length records' ≤ 2 ^ 32 → length heads' ≤ 2 ^ 32 → length bases' ≤ 2 ^ 32 → ArePlaced heads' levels' → IsStanding heads' bases' records' root' next
+  standing_kept kept ends own few_records few_pages few_bases placed =
       let same = same_levels kept in
       record {
         ends = ends;
@@ -37,6 +70,7 @@ module _ (heads : List ℕ) (bases : Bases) (records : Records) (root next : ℕ
         lawful = subst (AreLevels new_slots root') (sym same) kept.lawful;
         distinct = subst (λ (l : List (List ℕ)). HasDistinctStamps (row_writes new_slots (row l 0))) (sym same) (subst HasDistinctStamps (sym kept.writes) t.distinct);
         past = subst (λ (l : List (List ℕ)). AllByRecursion IsPast (row_writes new_slots (row l 0))) (sym same) (subst (AllByRecursion IsPast) (sym kept.writes) t.past);
+        placed = subst (ArePlaced heads') (sym same) placed;
         fits = t.fits;
         few_records = few_records;
         few_pages = few_pages;

@@ -1,7 +1,11 @@
 -- Index entries: an inner page names a page of the level below.
-use Rattle.std.specs.Prelude.{◌≡◌, ℕ, ◌+◌, ◌<◌, ◌≤◌, ◌^◌, None, slice_index, slice_set}
+use Rattle.std.specs.Prelude.{◌≡◌, ℕ, suc, ◌+◌, ◌<◌, ◌≤◌, ◌^◌, length, Some, None, slice_index, slice_set}
+use Rattle.std.specs.List.{Contains}
 use Rattle.bw_key.specs.Order.{KeyBytes}
-use Rattle.bw_chain.specs.Children.{FitsChild, HasChild}
+use Rattle.bw_chain.specs.Children.{FitsChild, HasChild, HasEntry}
+use Rattle.bw_chain.specs.Levels.{IsHomeAt, row}
+use Rattle.bw_chain.specs.Scans.{high_of}
+use Rattle.bw_chain.specs.Slots.{side_of, slot_at}
 use Rattle.bw_tree.specs.View.{TreeView, contents_at}
 
 -- the page is a base page by itself that may name the child
@@ -21,3 +25,18 @@ pub record IsNamed (old new : TreeView) (parent : ℕ) (sep : KeyBytes) (child :
   pub records : new.records ≡ old.records + 1
   pub next : new.next ≡ old.next
   pub staged : new.staged ≡ None
+
+-- The right neighbour q of the page p begins at this key, which on the level above is at home on a page that has no index
+-- entry at it.
+pub record IsUnnamed (tree : TreeView) (p parent : ℕ) (sep : KeyBytes) (q : ℕ) : Type 0 where
+  pub level : ℕ
+  pub within : level < length tree.levels
+  pub in_level : Contains (row tree.levels level) p
+  pub ends : high_of (slot_at tree.slots p) ≡ Some sep
+  pub linked : side_of tree.slots p ≡ Some q
+  pub home : IsHomeAt tree.slots tree.levels sep (suc level) parent
+  pub unnamed : HasEntry (slot_at tree.slots parent) sep → ⊥
+
+-- the page has no such right neighbour
+abbrev pub HasNoUnnamed : TreeView → ℕ → Type 0
+HasNoUnnamed tree p = (parent q : ℕ) (sep : KeyBytes) → IsUnnamed tree p parent sep q → ⊥

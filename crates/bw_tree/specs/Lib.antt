@@ -24,3 +24,4 @@ pub use Rattle.bw_chain.specs.Laws
 pub mod Splits
 pub mod Children
 pub mod Roots
+pub mod Shapes

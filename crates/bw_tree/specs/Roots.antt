@@ -15,9 +15,9 @@ pub record IsOverRoot (tree : TreeView) (inner : InnerView) : Type 0 where
   pub neighbour : IsNeighbour (slot_at tree.slots tree.root) level high side
   pub is : plain_inner inner ≡ Live (root_over (suc level) tree.root high side)
 
--- The root and its right neighbour are the children of a new page, whose identifier is the least that was free. It is the
--- root now, a base page by itself, alone on a level above the others. All other pages are as before, and so is what the
--- tree holds.
+-- The root and its right neighbour are the children of a new page, whose identifier is the one behind all others. It is
+-- the root now, a base page by itself, alone on a level above the others. All other pages are as before, and so is what
+-- the tree holds.
 pub record HasNewRoot (old new : TreeView) (t : ℕ) : Type 0 where
   pub grown : IsGrown old.slots new.slots old.root t
   pub levels : new.levels ≡ levels_grown old.levels t

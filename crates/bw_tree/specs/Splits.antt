@@ -15,7 +15,7 @@ pub record IsSplittable (tree : TreeView) (p keep : ℕ) : Type 0 where
   pub some : 0 < keep
   pub fewer : keep < slot_entries (slot_at tree.slots p)
 
--- The page has parted in two, and on its level the new page, whose identifier is the least that was free, stands right
+-- The page has parted in two, and on its level the new page, whose identifier is the one behind all others, stands right
 -- behind it. There is one record more. All other pages are as before, and so is what the tree holds.
 pub record IsSplit (old new : TreeView) (p keep q : ℕ) : Type 0 where
   pub parted : IsParted old.slots new.slots p q keep

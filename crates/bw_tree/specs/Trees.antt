@@ -1,5 +1,5 @@
 -- The rules that every tree keeps.
-use Rattle.std.specs.Prelude.{◌≡◌, ℕ, ◌+◌, ◌^◌, ◌<◌, ◌≤◌, List, ◌++◌, length, take, drop, Option, Some, None, is_some}
+use Rattle.std.specs.Prelude.{◌≡◌, ℕ, ◌+◌, ◌^◌, ◌<◌, ◌≤◌, List, ◌++◌, length, take, drop, Option, Some, None, is_some, slice_index}
 use Rattle.std.specs.List.{AllByRecursion}
 use Rattle.std.specs.Option.{option_map}
 use Rattle.bw_delta.specs.Writes.{WriteView}
@@ -10,6 +10,7 @@ use Rattle.bw_chain.specs.Levels.{AreLevels, row, levels_under}
 use Rattle.bw_chain.specs.Chains.{AllEnd, Bases, Records, slots_of}
 use Rattle.bw_chain.specs.Records.{put_records, writes_in}
 use Rattle.bw_chain.specs.Reading.{row_writes}
+use Rattle.bw_chain.specs.Searches.{IsInLevels}
 use Rattle.bw_chain.specs.Supports.{OwnBases}
 use Rattle.bw_tree.specs.View.{TreeView, StageView}
 use Rattle.bw_tree.specs.declared.words.WordsBefore.{WordsBefore}
@@ -19,6 +20,10 @@ use Rattle.bw_tree.specs.Words.{words_before}
 abbrev pub leaf_writes : List Slot → ℕ → List WriteView
 leaf_writes slots root = row_writes slots (row (levels_under slots root) 0)
 
+-- each page that has a record stands on a level
+abbrev pub ArePlaced : List ℕ → List (List ℕ) → Type 0
+ArePlaced heads levels = (p : ℕ) → p < length heads → 2 ^ 32 ≤ slice_index heads p → IsInLevels levels p
+
 -- Pages that form levels, each on base pages of its own, with writes whose stamps are distinct and below a bound.
 pub record IsStanding (heads : List ℕ) (bases : Bases) (records : Records) (root bound : ℕ) : Type 0 where
   pub ends : AllEnd bases records heads
@@ -26,6 +31,7 @@ pub record IsStanding (heads : List ℕ) (bases : Bases) (records : Records) (ro
   pub lawful : AreLevels (slots_of heads bases records) root (levels_under (slots_of heads bases records) root)
   pub distinct : HasDistinctStamps (leaf_writes (slots_of heads bases records) root)
   pub past : AllByRecursion (λ w. w.stamp < bound) (leaf_writes (slots_of heads bases records) root)
+  pub placed : ArePlaced heads (levels_under (slots_of heads bases records) root)
   pub fits : bound ≤ 2 ^ 40
   pub few_records : length records ≤ 2 ^ 32
   pub few_pages : length heads ≤ 2 ^ 32

@@ -15,7 +15,7 @@ mod words;
 pub use routes::Routes;
 pub use scans::Scans;
 pub use staging::Staged;
-pub use tree::Tree;
+pub use tree::{PageShape, Tree, Unnamed};
 
 /// What is read of a leaf.
 pub use bw_chain::LeafChain;

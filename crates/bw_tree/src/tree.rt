@@ -1,7 +1,8 @@
 // The tree.
-ghost use Rattle.std.specs.Prelude.{◌≡◌, ◌-◌, ◌≤◌, ◌^◌, [], ◌∷◌, None, length, IfOk};
+ghost use Rattle.std.specs.Prelude.{◌≡◌, ℕ, ◌-◌, ◌<◌, ◌≤◌, ◌^◌, [], ◌∷◌, None, length, slice_index, IfOk};
 ghost use Rattle.std.specs.FinMap.{empty};
 ghost use Rattle.bw_chain.specs.Levels.{AreLevels, row};
+ghost use Rattle.bw_chain.specs.Searches.{IsInLevels};
 ghost use Rattle.bw_delta.specs.History.{HasDistinctStamps};
 
 use crate::making::{base_pages, separators, words};
@@ -15,12 +16,17 @@ use std::marker::Model;
 mod batch;
 mod children;
 mod consolidation;
+mod counts;
 mod folding;
 mod reading;
 mod restart;
 mod roots;
 mod search;
+mod shape;
 mod splits;
+
+pub use children::Unnamed;
+pub use shape::PageShape;
 
 /// Pages, named by identifiers, whose present states are chains of delta records over base pages.
 ///
@@ -62,8 +68,9 @@ impl Model for Tree {
 }
 
 impl Tree {
-    ghost use Rattle.bw_chain.specs.Reading.{row_writes};
-    ghost use Rattle.bw_tree.specs.Trees.{IsTree};
+    ghost use Rattle.bw_chain.specs.Reading.{row_writes, writes_over};
+    ghost use Rattle.bw_chain.specs.Slots.{slot_at};
+    ghost use Rattle.bw_tree.specs.Trees.{ArePlaced, IsTree};
     ghost use Rattle.bw_tree.specs.View.{HomeIsOneIn, HomesHoldAll, LeavesHaveDistinctStamps, contents_at};
     ghost use Rattle.bw_tree.specs.Making.{AreAbutting, IsOverLeaves, count_from, tree_over};
 
@@ -172,6 +179,18 @@ impl Tree {
     pub fn know_levels(&self)
         ensures lawful { AreLevels self.now.slots self.now.root self.now.levels }
         ensures distinct { HasDistinctStamps (row_writes self.now.slots (row self.now.levels 0)) }
+    {
+        // A look at a field is what makes the type's rule known here.
+        let _ = &self.root;
+    }
+
+    /// What every tree keeps of its mapping words: a page of a level has one, a page that has records stands on a level, one
+    /// that has none has no writes, and each page has an identifier of 32 bits. A caller's proof knows it behind this call, which does nothing.
+    pub fn know_records(&self)
+        ensures there { (p : ℕ) → IsInLevels self.now.levels p → p < length self.now.heads }
+        ensures placed { ArePlaced self.now.heads self.now.levels }
+        ensures bare { (p : ℕ) → slice_index self.now.heads p < 2 ^ 32 → writes_over (slot_at self.now.slots p) ≡ [] }
+        ensures few { length self.now.heads ≤ 2 ^ 32 }
     {
         // A look at a field is what makes the type's rule known here.
         let _ = &self.root;

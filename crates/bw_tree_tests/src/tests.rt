@@ -8,5 +8,6 @@ mod pages;
 mod refused;
 mod routes;
 mod scans;
+mod shape;
 mod splits;
 mod trees;

@@ -101,7 +101,9 @@ fn fill<R: Abort>(rt: &R, alloc: Alloc) -> Vec<u8, Alloc> {
 fn a_batch_of_one_write_over_10000_leaves_takes_memory_for_one_of_them(rt: HostRuntime) {
     let alloc = heap(&rt, rt.alloc(), BYTES);
     let tree = tree_of(&rt, &Maker::on(&rt, alloc), 10_000, 1 << 16);
-    let mut index = Index::from_tree(alloc, Options::default(), tree);
+    let mut index = Index::from_tree(alloc, Options::default(), tree).expect(&rt, "an index");
+    // All pages are looked at behind the first batch, and those of a batch alone behind the others.
+    index.run(&rt, &[], &OpenGate).expect(&rt, "memory");
     let ops = [Op::Upsert(key(&rt, alloc), value(&rt, alloc, 8))];
     let _rest = fill(&rt, alloc);
     assert!(rt; Vec::<u8, Alloc>::with_capacity(alloc, LEFT as usize + 1).is_err());

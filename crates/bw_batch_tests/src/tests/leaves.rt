@@ -112,7 +112,7 @@ fn over_leaves<R: Abort>(
 {
     let tree = tree_of(rt, make, count, step);
     Compared {
-        index: Index::from_tree(make.alloc, options, tree),
+        index: Index::from_tree(make.alloc, options, tree).expect(rt, "an index"),
         map: map_of(rt, make, count, step),
     }
 }

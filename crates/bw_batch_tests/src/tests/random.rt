@@ -52,7 +52,7 @@ fn batch<R: Abort>(rt: &R, make: &Maker<R>, random: &mut Random) -> Vec<Op, Allo
 }
 
 // Runs batches that are drawn from a seed, some 1,800 writes on a few keys, with so many workers and pieces of so many
-// records: the chain is folded among them.
+// records: leaves are consolidated and split among them.
 fn compare<R: Abort + Threads + Sync>(
     rt: &R,
     make: &Maker<R>,

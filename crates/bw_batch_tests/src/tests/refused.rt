@@ -32,7 +32,9 @@ fn filled<R: Abort + Threads + Sync>(rt: &R, make: &Maker<R>, workers: u64) -> I
 // And one over three leaves, with the pairs that stand in them.
 fn filled_leaves<R: Abort + Threads + Sync>(rt: &R, make: &Maker<R>, workers: u64) -> Index {
     let tree = tree_of(rt, make, 3, 49);
-    let mut index = Index::from_tree(make.alloc, make.working(workers, 1), tree);
+    let mut index = Index::from_tree(make.alloc, make.working(workers, 1), tree).expect(
+        rt, "an index",
+    );
     fill(rt, make, &mut index);
     index
 }
@@ -117,9 +119,11 @@ fn run_refused<R: Abort + Threads + Sync>(
     let outcome = index.run(rt, &ops, &OpenGate);
     let was_refused = was_refused(make.alloc, growth);
     if let Ok(done) = outcome {
-        assert!(rt; !was_refused && growth > 5);
+        assert!(rt; growth > 5);
+        // A batch stands where tidying behind it was refused.
+        assert!(rt; was_refused == done.tidy.stopped);
         same(rt, done.replies.as_slice(), replies);
-        return false;
+        return was_refused;
     }
     assert!(rt; outcome.err() == Some(Refusal::Memory));
     assert!(rt; was_refused);
@@ -181,8 +185,8 @@ fn a_batch_over_leaves_meets_each_refusal(rt: HostRuntime) {
     refuse_in_turn_over_leaves(&rt, &make, 4);
 }
 
-// Has the plain program run a batch that was accepted, and compares the replies. Whether it was.
-fn was_accepted<R: Abort>(
+// Has the plain program run a batch that was accepted, and compares the replies. Whether it was, and was tidied too.
+fn was_tidied<R: Abort>(
     rt: &R,
     map: &mut ReferenceMap,
     ops: &[Op],
@@ -192,14 +196,17 @@ fn was_accepted<R: Abort>(
         Ok(done) => {
             let replies = map.run(ops).expect(rt, "memory");
             same(rt, done.replies.as_slice(), replies.as_slice());
+            !done.tidy.stopped
         }
-        Err(refusal) => assert!(rt; *refusal == Refusal::Memory),
+        Err(refusal) => {
+            assert!(rt; *refusal == Refusal::Memory);
+            false
+        }
     }
-    outcome.is_ok()
 }
 
 // Compares the replies and the pairs in the end with those of the plain program, which runs the accepted batches.
-// Answers how many were refused.
+// Answers how many were refused, or not tidied.
 fn follow<R: Abort>(
     rt: &R,
     make: &Maker<R>,
@@ -214,7 +221,7 @@ fn follow<R: Abort>(
     let mut refused = 0u64;
     assert_eq!(rt; outcomes.len(), batches.len());
     for (ops, outcome) in batches.iter().zip(outcomes) {
-        if !was_accepted(rt, &mut map, ops, outcome) {
+        if !was_tidied(rt, &mut map, ops, outcome) {
             refused = refused.saturating_add(1);
         }
     }

@@ -1,6 +1,6 @@
 // Batches with the replies that are expected to them.
 use super::maker::{Maker, Pair, WORKERS, same};
-use bw_batch::{Done, Index, Op, OpenGate, Options, Refusal, Reply, Tidy};
+use bw_batch::{Done, Index, Op, OpenGate, Options, Refusal, Reply};
 use bw_memory::Alloc;
 use std::process::Abort;
 use std::thread::Threads;
@@ -46,7 +46,7 @@ pub fn compare_done<R: Abort>(rt: &R, outcome: &Result<Done, Refusal>, expected:
     match outcome {
         Ok(done) => {
             same(rt, done.replies.as_slice(), expected);
-            assert!(rt; done.tidy == Tidy::default());
+            assert!(rt; !done.tidy.stopped);
         }
         Err(_) => panic!(rt; "the batch was refused"),
     }

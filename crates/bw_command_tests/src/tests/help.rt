@@ -14,11 +14,11 @@ Arguments:
 Options:
       --workers <N>     How many threads post the writes of a batch, and answer it, 1 to 64 [default: 4]
       --piece <N>       How many writes a worker takes at once, 1 to 4096 [default: 64]
-      --chain <N>       How many writes stand before a leaf's page until they are folded, 1 to 1024 [default: 8]
+      --chain <N>       How many writes stand before a leaf's page until it is consolidated, 1 to 1024 [default: 8]
       --page-max <N>    Above how many entries a page is split, 4 to 4096 [default: 64]
       --page-min <N>    Below how many entries a page is merged, 0 to half of page-max [default: 16]
       --batch-max <N>   How many operations a batch may have, 1 to 65536 [default: 65536]
-      --record-max <N>  How many writes are kept until all are folded, batch-max to 16777216 [default: 1048576]
+      --record-max <N>  How many records are kept until a sweep consolidates all, batch-max to 16777216 [default: 1048576]
   -h, --help            Print help
   -V, --version         Print version
 
@@ -35,7 +35,7 @@ A trace has one operation on a line:
 A line that begins with # is a comment. A key is spelled by letters, digits, _, . and -,
 or by % and hexadecimal digits. Behind a first line `bw 2` values are spelled so too.
 
-So far --workers, --piece and --batch-max alone have an effect.
+--page-min has no effect yet: no page is merged.
 
 Try it:
   printf 'upsert apple 7\\nget apple\\n' | bw_run run

@@ -6,7 +6,7 @@ use bw_fixtures::{are, key, pair};
 use bw_memory::Alloc;
 use bw_model::Pairs;
 use bw_page::Leaf;
-use bw_shape::{Did, Memory, PageId, Tree, consolidate, grow_root, split};
+use bw_shape::{Did, Memory, PageId, Tree, consolidate, finish_split, grow_root, split, sweep};
 use std::process::Abort;
 
 /// The word of the first record.
@@ -36,10 +36,28 @@ pub fn five<R: Abort>(rt: &R, alloc: Alloc) -> Tree
     Tree::from_level(alloc, leaves).expect(rt, "a tree")
 }
 
+/// A root over the leaves 0, 1, 3 and 4, which names the first three, the third one by a record. Leaf 3 was split.
+pub fn named_once<R: Abort>(rt: &R, alloc: Alloc) -> Tree
+    ensures { result.staged ≡ None }
+{
+    let mut tree = five(rt, alloc);
+    split_does(rt, &mut tree, 0, 2, Did::Done);
+    grow_does(rt, &mut tree, Did::Done);
+    split_does(rt, &mut tree, 1, 1, Did::Done);
+    finish_does(rt, &mut tree, 1, Did::Done);
+    split_does(rt, &mut tree, 3, 1, Did::Done);
+    tree
+}
+
 /// Compares the identifier of a tree's root, its mapping words, and what is read of it.
 pub fn stands<R: Abort>(rt: &R, alloc: Alloc, tree: &Tree, root: u32, heads: &[u64]) {
     assert!(rt; tree.root() == PageId(root));
     assert!(rt; tree.heads() == heads);
+    reads_all(rt, alloc, tree);
+}
+
+/// Compares all that is read of a tree.
+pub fn reads_all<R: Abort>(rt: &R, alloc: Alloc, tree: &Tree) {
     let from = key(alloc, b"").expect(rt, "a key");
     let pairs = tree.scan_at(&from, None, 9, 0).expect(rt, "the pairs");
     let wanted: [(&[u8], &[u8]); 5] = [
@@ -68,12 +86,30 @@ pub fn consolidate_does<R: Abort>(rt: &R, tree: &mut Tree, page: u32, wanted: Di
     assert!(rt; consolidate(tree, PageId(page)) == Ok(wanted));
 }
 
+/// Finishes the split of a page, and compares what that did.
+pub fn finish_does<R: Abort>(rt: &R, tree: &mut Tree, page: u32, wanted: Did)
+    requires { tree.old.staged ≡ None }
+    ensures { tree.new.staged ≡ None }
+{
+    assert!(rt; finish_split(tree, PageId(page)) == Ok(wanted));
+}
+
 /// Grows the root, and compares what that did.
 pub fn grow_does<R: Abort>(rt: &R, tree: &mut Tree, wanted: Did)
     requires { tree.old.staged ≡ None }
     ensures { tree.new.staged ≡ None }
 {
     assert!(rt; grow_root(tree) == Ok(wanted));
+}
+
+/// Sweeps a tree, and compares what is left of its records and stamps.
+pub fn sweep_does<R: Abort>(rt: &R, tree: &mut Tree)
+    requires { tree.old.staged ≡ None }
+    ensures { tree.new.staged ≡ None }
+{
+    assert!(rt; sweep(tree) == Ok(()));
+    assert!(rt; tree.records() == 0);
+    assert!(rt; tree.next_stamp() == 0);
 }
 
 /// Compares the page of a level whose range has a key.

@@ -1,8 +1,8 @@
 // Each growth of memory refused in turn.
-use super::making::{FLOOR, five, grow_does, split_does, stands};
+use super::making::{FLOOR, five, grow_does, named_once, split_does, stands};
 use bw_fixtures::{heap, was_refused};
 use bw_memory::Alloc;
-use bw_shape::{Did, Memory, PageId, consolidate, grow_root, split};
+use bw_shape::{Did, Memory, PageId, consolidate, finish_split, grow_root, split};
 use std::process::Abort;
 
 // Splits the leaf where this growth is refused, and compares the tree after that. Whether it was.
@@ -55,6 +55,47 @@ fn consolidation_refused<R: Abort>(rt: &R, alloc: Alloc, growth: u64) -> bool {
     assert!(rt; consolidated == Ok(Did::Done));
     stands(rt, alloc, &tree, 2, &[FLOOR, 1, 2, 3]);
     false
+}
+
+// Finishes a split where this growth is refused, and compares the tree after that. Whether it was.
+fn finish_refused<R: Abort>(rt: &R, alloc: Alloc, growth: u64) -> bool {
+    let mut tree = named_once(rt, alloc);
+    alloc.refuse(growth);
+    let finished = finish_split(&mut tree, PageId(3));
+    let refused = was_refused(alloc, growth);
+    if refused {
+        assert!(rt; finished == Err(Memory));
+        let above = if growth == 1 { FLOOR + 2 } else { 2 };
+        stands(
+            rt,
+            alloc,
+            &tree,
+            2,
+            &[FLOOR, FLOOR + 1, above, FLOOR + 3, 4],
+        );
+        return true;
+    }
+    assert!(rt; finished == Ok(Did::Done));
+    stands(
+        rt,
+        alloc,
+        &tree,
+        2,
+        &[FLOOR, FLOOR + 1, FLOOR + 4, FLOOR + 3, 4],
+    );
+    false
+}
+
+#[test]
+fn each_growth_of_an_index_entry_is_refused(rt: HostRuntime) {
+    let alloc = heap(rt.alloc()).expect(&rt, "memory");
+    for growth in 1..100 {
+        if !finish_refused(&rt, alloc, growth) {
+            assert!(rt; growth > 2);
+            return;
+        }
+    }
+    panic!(rt; "no run met no refusal")
 }
 
 #[test]

@@ -41,6 +41,7 @@ impl Tree {
         let head = self.heads[page.0 as usize];
         self.heads[page.0 as usize] = self.chains.replace_base(head, Page::Leaf(leaf));
     }
+
     /// Consolidates an inner page: what its chain makes of its base page takes the place of that page, so that the page
     /// has no record any more. No batch is staged.
     ///

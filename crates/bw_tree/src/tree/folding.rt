@@ -78,8 +78,8 @@ impl Tree {
     }
 }
 
-// The same end of a range again.
-fn copy_end(end: Option<&Key>) -> Result<Option<Key>, Memory>
+/// The same end of a range again.
+pub(super) fn copy_end(end: Option<&Key>) -> Result<Option<Key>, Memory>
     ensures { IfOk result (λ copy. copy ≡ option_copied end.entry) }
 {
     match end {

@@ -1,10 +1,11 @@
 // Searches of a tree.
-ghost use Rattle.std.specs.Prelude.{◌≡◌, ℕ, ◌<◌, ◌≤◌, [], true, T, length, IfSome, MatchOption};
+ghost use Rattle.std.specs.Prelude.{◌≡◌, ℕ, ◌<◌, ◌≤◌, [], true, T, length, is_some, IfSome, MatchOption};
 ghost use Rattle.std.specs.Option.{option_copied};
 ghost use Rattle.bw_model.specs.Contents.{is_below_end};
 ghost use Rattle.bw_chain.specs.Slots.{slot_at, slot_level, side_of, is_leaf};
 ghost use Rattle.bw_chain.specs.Levels.{IsHome, IsHomeAt};
 ghost use Rattle.bw_chain.specs.Before.{IsBefore};
+ghost use Rattle.bw_chain.specs.Roots.{IsNeighbour};
 ghost use Rattle.bw_chain.specs.Searches.{IsInLevels, IsSearching, plain_inner};
 ghost use Rattle.bw_chain.specs.Targets.{AreAtHome, IsLinked, IsTurnFor, StartsFrom, lies_from};
 ghost use Rattle.bw_tree.specs.Routing.{IsFoundEnd, IsInLevel, IsInNoLevel, IsInnerPage};
@@ -148,14 +149,24 @@ impl Tree {
         requires { IsInLevels self.now.levels page }
         ensures { result ≡ side_of self.now.slots page }
     {
-        let Some(found) = self.chains.neighbour(self.heads[page.0 as usize]) else {
+        let Some(found) = self.neighbour(page) else {
             return None;
         };
         Some(found.2)
     }
 
-    // The level of a page.
-    fn level(&self, page: PageId) -> u32
+    /// The level of a page of a level, where its range ends, and its right neighbour, if it has one.
+    pub(crate) fn neighbour(&self, page: PageId) -> Option<(u32, &Key, PageId)>
+        requires { IsInLevels self.now.levels page }
+        ensures there { is_some result ≡ is_some (side_of self.now.slots page) }
+        ensures page { IfSome result
+            (λ found. IsNeighbour (slot_at self.now.slots page) found.0 found.1.now found.2) }
+    {
+        self.chains.neighbour(self.heads[page.0 as usize])
+    }
+
+    /// The level of a page.
+    pub(crate) fn level(&self, page: PageId) -> u32
         requires { page < length self.now.slots }
         ensures { result ≡ slot_level (slot_at self.now.slots page) }
     {

@@ -1,7 +1,5 @@
 // Pages that part in two.
-ghost use Rattle.std.specs.Prelude.{◌≡◌, ◌<◌, ◌^◌, None, IfOk, OnErr, length, slice_index};
-ghost use Rattle.bw_chain.specs.Slots.{slot_at};
-ghost use Rattle.bw_chain.specs.Splits.{slot_entries};
+ghost use Rattle.std.specs.Prelude.{◌≡◌, None, IfOk, OnErr};
 
 use super::Tree;
 use bw_chain::FLOOR;
@@ -39,15 +37,5 @@ impl Tree {
         self.heads[page.0 as usize] = word;
         self.heads.push(number).unwrap();
         Ok(to)
-    }
-
-    /// How many entries a page has that is a base page by itself: the pairs of a leaf, or the children of an inner page. It
-    /// takes no memory.
-    pub fn entries(&self, page: PageId) -> usize
-        requires there { page < length self.now.heads }
-        requires plain { slice_index self.now.heads page < 2 ^ 32 }
-        ensures { result ≡ slot_entries (slot_at self.now.slots page) }
-    {
-        self.chains.entries(self.heads[page.0 as usize])
     }
 }

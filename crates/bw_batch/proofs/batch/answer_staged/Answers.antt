@@ -1,9 +1,11 @@
-use Rattle.std.proofs.Common.{ℕ, List, length, ap, ◌∙◌}
+use Rattle.std.proofs.Common.{ℕ, List, ◌++◌, length, reverse, ap, sym, subst, ◌∙◌}
 use Rattle.bw_tree.proofs.WordLemmas.{length_put}
 use Rattle.bw_group.proofs.SameHomes.{homes_stay}
 use Rattle.bw_model.specs.Model.{replies_of}
 use Rattle.bw_tree.specs.View.{contents_at}
-use Rattle.bw_batch.proofs.BatchLemmas.{same_leaves, start_adopted}
+use Rattle.bw_shape.specs.Tidying.{KeepsWithin}
+use Rattle.bw_batch.proofs.BatchLemmas.{start_adopted}
+use Rattle.bw_batch.proofs.DueLemmas.{within_posted}
 use Rattle.bw_batch.proofs.batch.answer_staged.Goals as goal
 
 pub replies-requires-clause-homes : goal.replies-requires-clause-homes
@@ -16,5 +18,9 @@ returns-clause-replies g c =
     c.in_ok-replies.ensures
     ∙ ap (replies_of c.args.batch.now.ops) (ap (contents_at c.adopt_on.new.self) c.next_stamp-base.ensures ∙ start_adopted c.args.tree.now c.adopt_on.new.self c.adopt_on.ensures.next c.adopt_on.ensures.contents)
 
-pub returns-clause-leaves : goal.returns-clause-leaves
-returns-clause-leaves g c = same_leaves c.args.tree.now c.adopt_on.new.self c.adopt_on.ensures.levels c.adopt_on.ensures.pages
+pub returns-clause-within : goal.returns-clause-within
+returns-clause-within g c =
+    subst (λ (l : List ℕ). KeepsWithin c.args.tree.now c.adopt_on.new.self c.args.due.now.pages l) (sym c.in_ok-add_written.ensures.ok)
+    (subst (λ (l : List ℕ). KeepsWithin c.args.tree.now c.adopt_on.new.self c.args.due.now.pages (reverse l ++ c.args.due.now.pages)) (sym (c.in_ok-written.ensures.items ∙ c.deref.ensures.value))
+    (within_posted c.args.tree.now c.adopt_on.new.self c.in_ok-homes.field-0.pages.items c.in_ok-homes.field-0.closed.heads c.in_ok-homes.field-0.closed.links c.args.due.now.pages c.in_ok-homes.ensures.posted
+    c.adopt_on.ensures.levels c.adopt_on.ensures.pages c.adopt_on.ensures.writes))

@@ -4,6 +4,7 @@ use Rattle.bw_model.specs.Model.{contents_after, replies_of}
 use Rattle.bw_model.specs.declared.operations.Op.{Op}
 use Rattle.bw_tree.specs.View.{TreeView, contents_with, staged_writes}
 use Rattle.bw_batch.proofs.BatchLemmas.{accepted_as, first_read, reads_on}
+use Rattle.bw_batch.proofs.DueLemmas.{within_batch}
 use Rattle.bw_batch.proofs.batch.run_batch.Goals as goal
 
 pub answer_staged-requires-clause-reads : goal.answer_staged-requires-clause-reads
@@ -23,24 +24,23 @@ returns-in-Ok-clause-lost g c = subst (λ n. c.in-Ok.answered.lost ≤ pairs_of 
 pub returns-in-Ok-clause-contents : goal.returns-in-Ok-clause-contents
 returns-in-Ok-clause-contents g c =
     (accepted_as c.args.tree.now c.stage.new.self c.answer_staged.new.tree c.accept.new.self c.args.ops.now c.in_ok-stage.ensures.ok c.in_ok-stage.ensures.reads
-    c.in-Ok.ensures.next c.in-Ok.ensures.recorded c.in-Ok.ensures.contents c.in-Ok.ensures.adopted c.in-Ok.ensures.count c.in-Ok.ensures.leaves c.accept.ensures).contents
+    c.in-Ok.ensures.next c.in-Ok.ensures.recorded c.in-Ok.ensures.contents c.in-Ok.ensures.adopted c.in-Ok.ensures.count c.accept.ensures).contents
 
 pub returns-in-Ok-clause-stamped : goal.returns-in-Ok-clause-stamped
 returns-in-Ok-clause-stamped g c =
     (accepted_as c.args.tree.now c.stage.new.self c.answer_staged.new.tree c.accept.new.self c.args.ops.now c.in_ok-stage.ensures.ok c.in_ok-stage.ensures.reads
-    c.in-Ok.ensures.next c.in-Ok.ensures.recorded c.in-Ok.ensures.contents c.in-Ok.ensures.adopted c.in-Ok.ensures.count c.in-Ok.ensures.leaves c.accept.ensures).next
+    c.in-Ok.ensures.next c.in-Ok.ensures.recorded c.in-Ok.ensures.contents c.in-Ok.ensures.adopted c.in-Ok.ensures.count c.accept.ensures).next
 
 pub returns-in-Ok-clause-none : goal.returns-in-Ok-clause-none
 returns-in-Ok-clause-none g c =
     (accepted_as c.args.tree.now c.stage.new.self c.answer_staged.new.tree c.accept.new.self c.args.ops.now c.in_ok-stage.ensures.ok c.in_ok-stage.ensures.reads
-    c.in-Ok.ensures.next c.in-Ok.ensures.recorded c.in-Ok.ensures.contents c.in-Ok.ensures.adopted c.in-Ok.ensures.count c.in-Ok.ensures.leaves c.accept.ensures).none
+    c.in-Ok.ensures.next c.in-Ok.ensures.recorded c.in-Ok.ensures.contents c.in-Ok.ensures.adopted c.in-Ok.ensures.count c.accept.ensures).none
 
 pub returns-in-Ok-clause-recorded : goal.returns-in-Ok-clause-recorded
 returns-in-Ok-clause-recorded g c =
     (accepted_as c.args.tree.now c.stage.new.self c.answer_staged.new.tree c.accept.new.self c.args.ops.now c.in_ok-stage.ensures.ok c.in_ok-stage.ensures.reads
-    c.in-Ok.ensures.next c.in-Ok.ensures.recorded c.in-Ok.ensures.contents c.in-Ok.ensures.adopted c.in-Ok.ensures.count c.in-Ok.ensures.leaves c.accept.ensures).records
+    c.in-Ok.ensures.next c.in-Ok.ensures.recorded c.in-Ok.ensures.contents c.in-Ok.ensures.adopted c.in-Ok.ensures.count c.accept.ensures).records
 
-pub returns-in-Ok-clause-leaves : goal.returns-in-Ok-clause-leaves
-returns-in-Ok-clause-leaves g c =
-    (accepted_as c.args.tree.now c.stage.new.self c.answer_staged.new.tree c.accept.new.self c.args.ops.now c.in_ok-stage.ensures.ok c.in_ok-stage.ensures.reads
-    c.in-Ok.ensures.next c.in-Ok.ensures.recorded c.in-Ok.ensures.contents c.in-Ok.ensures.adopted c.in-Ok.ensures.count c.in-Ok.ensures.leaves c.accept.ensures).leaves
+pub returns-in-Ok-clause-within : goal.returns-in-Ok-clause-within
+returns-in-Ok-clause-within g c =
+    within_batch c.args.tree.now c.stage.new.self c.answer_staged.new.tree c.accept.new.self c.args.ops.now c.args.due.now.pages c.answer_staged.new.due.pages c.in_ok-stage.ensures.ok c.accept.ensures c.in-Ok.ensures.within

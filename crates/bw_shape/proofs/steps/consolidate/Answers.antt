@@ -1,7 +1,6 @@
-use Rattle.std.proofs.Common.{arith}
 use Rattle.bw_shape.proofs.steps.consolidate.Goals as goal
 
-pub consolidate_inner-requires-clause-inner : goal.consolidate_inner-requires-clause-inner
-consolidate_inner-requires-clause-inner c =
-    let on = c.in-Some.ensures.level in
-    record { in_levels = record { level = c.in-Some.level; within = on.0; in_level = on.1 }; raised = omega (arith, c.if-level-eq0.false) }
+pub unreachable-requires : goal.unreachable-requires
+unreachable-requires c =
+    let on = c.know_records.ensures.placed c.args.page (c.has_record.ensures.there c.if-not-has_record.false) (c.has_record.ensures.yes c.if-not-has_record.false) in
+    c.in_default.ensures.level on.level (on.within, on.in_level)

@@ -1,8 +1,8 @@
 use Rattle.std.proofs.Common.{◌∙◌, sym, ap, is_ok, vec_len, arith}
 use Rattle.bw_batch.specs.View.{contents_of, settings_of, next_stamp_of}
 use Rattle.bw_batch.specs.Outcomes.{outcome_of, outcomes_of}
-use Rattle.bw_batch.proofs.FoldsLemmas.{changed_by, changes_more}
-use Rattle.bw_batch.proofs.OutcomesLemmas.{answered, left_done, pushed, pushed_len, outcomes_more, run_more, stamps_taken, stamps_more, told_by, told_more}
+use Rattle.bw_batch.proofs.ChangesLemmas.{changed_by, changes_more}
+use Rattle.bw_batch.proofs.OutcomesLemmas.{answered, left_done, pushed, pushed_len, outcomes_more, run_more, told_by, told_more}
 use Rattle.bw_batch.proofs.index.Index.run_all.Goals as goal
 
 pub loop-ops-preserved : goal.loop-ops-preserved
@@ -14,11 +14,10 @@ loop-ops-preserved g c =
     let most = (settings_of now).batch_max in
     let here = answered most c.deref.result.now (contents_of now) c.run-outcome.result said.replies said.too_long said.memory in
     let after = left_done c.deref.result.now now c.run-outcome.new.self c.run-outcome.result said.contents said.refused in
-    let changed = changed_by now c.run-outcome.new.self c.deref.result.now c.run-outcome.result said.settings said.contents said.stamped said.leaves said.recorded said.walked said.refused in
-    let told = told_by c.deref.result.now (next_stamp_of now) c.run-outcome.result said.tidy said.lost in
+    let changed = changed_by now c.run-outcome.new.self c.deref.result.now c.run-outcome.result said.settings said.contents said.stamped said.recorded said.tidied said.refused said.untried said.unswept in
+    let told = told_by c.deref.result.now (next_stamp_of now) c.run-outcome.result said.lost in
     let more = pushed c.loop-ops.outcomes.items c.push.new.self.items c.run-outcome.result (is_ok c.push.result) c.push.ensures.items (ap is_ok c.unwrap.ensures) in
     let grown = outcomes_more c.loop-ops.outcomes.items c.push.new.self.items c.run-outcome.result more in
-    let taken = stamps_taken c.deref.result.now now c.run-outcome.new.self c.run-outcome.result said.replies said.stamped said.refused in
     let both = run_more most c.args.batches.now c.loop-ops.ops-index v (contents_of c.args.self.now) (contents_of now) (contents_of c.run-outcome.new.self)
     (outcomes_of c.loop-ops.outcomes.items) (outcomes_of c.push.new.self.items) (outcome_of c.run-outcome.result) c.loop-ops-test.true c.ops-item.is
     grown
@@ -27,10 +26,8 @@ loop-ops-preserved g c =
       told = rw (← c.loop-ops.invariant.settings) both.0;
       left = both.1;
       settings = said.settings ∙ c.loop-ops.invariant.settings;
-      stamps = stamps_more (next_stamp_of c.args.self.now) (next_stamp_of now) (next_stamp_of c.run-outcome.new.self) (outcomes_of c.loop-ops.outcomes.items) (outcomes_of c.push.new.self.items) (outcome_of c.run-outcome.result) grown c.loop-ops.invariant.stamps taken;
       room = omega (arith, c.push.ensures.capacity, c.loop-ops.invariant.room);
       count = pushed_len (vec_len c.loop-ops.outcomes) (vec_len c.push.new.self) c.loop-ops.ops-index (is_ok c.push.result) c.push.ensures.len (ap is_ok c.unwrap.ensures) c.loop-ops.invariant.count;
       changes = changes_more c.args.self.now now c.run-outcome.new.self c.args.batches.now c.loop-ops.ops-index v c.loop-ops.outcomes.items c.push.new.self.items c.run-outcome.result c.loop-ops-test.true c.ops-item.is more c.loop-ops.invariant.changes (rw (sym same) changed);
-      leaves = said.leaves ∙ c.loop-ops.invariant.leaves;
       besides = told_more c.args.batches.now c.loop-ops.ops-index v c.loop-ops.outcomes.items c.push.new.self.items c.run-outcome.result c.loop-ops-test.true c.ops-item.is more c.loop-ops.invariant.besides (rw (sym same) told);
     }

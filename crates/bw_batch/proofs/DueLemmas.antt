@@ -1,0 +1,116 @@
+-- The leaves that a batch has written are due: all others are as they were.
+use Rattle.std.proofs.Common.{inl, inr, ◌⊎◌, ◌≡◌, ℕ, suc, ◌<◌, ◌≤◌, Bool, true, false, cond, List, [], ◌∷◌, ◌++◌, length, reverse, Option, Some, None, Result, Ok, Err, OnOk, OnErr, refl, sym, ap, ◌∙◌, subst, arith}
+use Rattle.std.specs.Prelude.{filter, slice_get}
+use Rattle.std.proofs.lemmas.Bool.{cases_eq, cases_lt}
+use Rattle.std.proofs.lemmas.List.Elements.{Contains-append_left, Contains-append_right}
+use Rattle.std.proofs.lemmas.List.Sorted.{Contains-permutation, IsPermutation-reverse, length_permutation}
+use Rattle.std.specs.List.{Contains}
+use Rattle.bw_core.specs.World.{times}
+use Rattle.bw_core.proofs.Lists.{one_other}
+use Rattle.bw_key.specs.Order.{KeyBytes}
+use Rattle.bw_page.proofs.Truths.{true_holds, left_of, right_of}
+use Rattle.bw_delta.specs.Writes.{WriteView}
+use Rattle.bw_chain.specs.Levels.{IsHome, row}
+use Rattle.bw_chain.specs.Reading.{pairs_under, writes_over}
+use Rattle.bw_chain.specs.Slots.{Slot, Body, Pairs, Children, Free, Gone, Live, slot_at, has_key}
+use Rattle.bw_chain.specs.Turns.{slot_without_writes}
+use Rattle.bw_model.specs.declared.operations.Op.{Op}
+use Rattle.bw_tree.specs.Stages.{LeavesHaveAll, accepted_tree, staged_on}
+use Rattle.bw_tree.specs.View.{StageView, TreeView, staged_writes}
+use Rattle.bw_tree.specs.Words.{IsPostedStageOn}
+use Rattle.bw_shape.specs.Limits.{LimitsView, AreWithinBut, IsWithin}
+use Rattle.bw_shape.specs.Tidying.{DueView, KeepsWithin}
+
+-- the pairs under the writes stay where pages differ in writes alone
+bare_pairs : (page : Slot) → pairs_under (slot_without_writes page) ≡ pairs_under page
+bare_pairs (Live s) = by s.body
+  where
+    by : (b : Body) → pairs_under (slot_without_writes (Live (record s { body = b }))) ≡ pairs_under (Live (record s { body = b }))
+    by (Pairs pairs writes) = refl
+    by (Children level children) = refl
+bare_pairs (Gone l) = refl
+bare_pairs Free = refl
+
+-- what is listed is there
+listed : (rs : List ℕ) (r : ℕ) → 0 < times r rs → Contains rs r
+listed [] r some = absurd (omega (arith, some))
+listed (q ∷ rs) r some = by (cases_eq q r) (listed rs r)
+  where
+    behind : Contains rs r → Contains (q ∷ rs) r
+    behind has = (suc has.0, omega (arith, has.1), has.2)
+
+    by : (q ≡ r) ⊎ (q ≡ r → ⊥) → (0 < times r rs → Contains rs r) → Contains (q ∷ rs) r
+    by (inl same) rest = (0, omega arith, same)
+    by (inr other) rest = behind (rest (omega (arith, some, one_other q r other)))
+
+-- where no write passes a test, none is left
+none_left : (f : WriteView → Bool) (ws : List WriteView) → ((r : ℕ) (w : WriteView) → slice_get ws r ≡ Some w → f w ≡ true → ⊥) → filter f ws ≡ []
+none_left f [] none = refl
+none_left f (w ∷ ws) none = by (f w) (none 0 w refl) (none_left f ws (λ r v at. none (suc r) v at))
+  where
+    by : (b : Bool) → (b ≡ true → ⊥) → filter f ws ≡ [] → cond b (w ∷ filter f ws) (filter f ws) ≡ []
+    by true not rest = absurd (not refl)
+    by false not rest = rest
+
+some_levels : (levels : List (List ℕ)) (p : ℕ) → Contains (row levels 0) p → 0 < length levels
+some_levels [] p has = absurd (omega (arith, has.1))
+some_levels (ps ∷ levels) p has = omega arith
+
+-- a key of a leaf's range is at home there
+own_home : (tree : TreeView) (p : ℕ) (key : KeyBytes) → Contains (row tree.levels 0) p → has_key (slot_at tree.slots p) key ≡ true → IsHome tree.slots tree.levels key p
+own_home tree p key leaf inside = by (slot_at tree.slots p) refl inside
+  where
+    by : (s : Slot) → slot_at tree.slots p ≡ s → has_key s key ≡ true → IsHome tree.slots tree.levels key p
+    by (Live s) is inside = record {
+      reached = record { within = some_levels tree.levels p leaf; in_level = leaf; state = s; is = is; from_low = left_of _ _ (true_holds _ inside) };
+      ends_above = right_of _ _ (true_holds _ inside);
+    }
+    by (Gone l) is inside = absurd (cc)
+    by Free is inside = absurd (cc)
+
+module _ (tree after : TreeView) (pages heads links due : List ℕ) (posted : IsPostedStageOn tree tree.staged pages heads links) (levels : after.levels ≡ tree.levels)
+    (bare : (p : ℕ) → slot_without_writes (slot_at after.slots p) ≡ slot_without_writes (slot_at tree.slots p)) (writes : LeavesHaveAll tree after) where
+  -- a page that was written to is one of those
+  was_posted : (o : Option StageView) → IsPostedStageOn tree o pages heads links → (r p : ℕ) (w : WriteView) → slice_get (staged_writes o) r ≡ Some w → IsHome tree.slots tree.levels w.key p → 0 < times p pages
+  was_posted None none r p w at home = absurd none
+  was_posted (Some stage) so r p w at home = so.1.homes r p w at home
+
+  same_writes : (p : ℕ) → Contains (row tree.levels 0) p → times p pages ≡ 0 → length (writes_over (slot_at after.slots p)) ≡ length (writes_over (slot_at tree.slots p))
+  same_writes p leaf none =
+      length_permutation _ _ (writes p leaf)
+      ∙ ap (λ (l : List WriteView). length (l ++ writes_over (slot_at tree.slots p)))
+      (none_left (λ (w : WriteView). has_key (slot_at tree.slots p) w.key) (staged_writes tree.staged)
+      (λ r w at inside. omega (arith, none, was_posted tree.staged posted r p w at (own_home tree p w.key leaf inside))))
+
+  same_pairs : (p : ℕ) → length (pairs_under (slot_at after.slots p)) ≡ length (pairs_under (slot_at tree.slots p))
+  same_pairs p = ap length (sym (bare_pairs (slot_at after.slots p)) ∙ ap pairs_under (bare p) ∙ bare_pairs (slot_at tree.slots p))
+
+  -- the pages that were written to are due, besides those that were
+  pub within_posted : KeepsWithin tree after due (reverse pages ++ due)
+  within_posted limits but p leaf = by (cases_lt 0 (times p pages)) (but p was_leaf)
+    where
+      was_leaf : Contains (row tree.levels 0) p
+      was_leaf = subst (λ (l : List (List ℕ)). Contains (row l 0) p) levels leaf
+
+      by : (0 < times p pages) ⊎ (times p pages ≤ 0) → Contains due p ⊎ IsWithin limits (slot_at tree.slots p) → Contains (reverse pages ++ due) p ⊎ IsWithin limits (slot_at after.slots p)
+      by (inl some) was = inl (Contains-append_left (reverse pages) due p (Contains-permutation pages (reverse pages) p (IsPermutation-reverse pages) (listed pages p some)))
+      by (inr none) (inl has) = inl (Contains-append_right (reverse pages) due p has)
+      by (inr none) (inr within) = inr (omega (arith, within.0, same_writes p was_leaf (omega (arith, none))), omega (arith, within.1, same_pairs p))
+
+-- and so behind the batch: to stage it and to accept it moves no page
+pub within_batch : (before tree now after : TreeView) (ops : List Op) (due due' : List ℕ) → tree ≡ staged_on before ops → after ≡ accepted_tree now now.staged → KeepsWithin tree now due due' → KeepsWithin before after due due'
+within_batch before tree now after ops due due' staged accepted kept limits =
+    λ but. accepted_within (kept limits (subst (λ (t : TreeView). AreWithinBut limits t due) (sym staged) but))
+  where
+    accepted_within : AreWithinBut limits now due' → AreWithinBut limits after due'
+    accepted_within but = subst (λ (t : TreeView). AreWithinBut limits t due') (sym accepted) (by now.staged)
+      where
+        by : (o : Option StageView) → AreWithinBut limits (accepted_tree now o) due'
+        by None = but
+        by (Some stage) = but
+
+-- whether the batch was accepted or not
+pub within_answered : {A E : Type 0} (outcome : Result A E) (limits : LimitsView) (old new : TreeView) (due due' : DueView) → OnOk outcome (KeepsWithin old new due.pages due'.pages) → OnErr outcome (new ≡ old) → OnErr outcome (due' ≡ due) →
+    AreWithinBut limits old due.pages → AreWithinBut limits new due'.pages
+within_answered (Ok answered) limits old new due due' kept tree same but = kept limits but
+within_answered (Err error) limits old new due due' kept tree same but = subst (λ (t : TreeView). AreWithinBut limits t due'.pages) (sym tree) (subst (λ (d : DueView). AreWithinBut limits old d.pages) (sym same) but)

@@ -1,0 +1,8 @@
+use Rattle.bw_batch.specs.Settings.{limits_of}
+use Rattle.bw_batch.proofs.index.Index.make_room.Goals as goal
+
+pub invariant_of-self : goal.invariant_of-self
+invariant_of-self c = (c.in_ok-sweep_due.ensures.ok.staged, c.sweep_due.ensures.within (limits_of c.self.inside.options) c.self.invariant.1)
+
+pub invariant_of-self-in_err-sweep_due : goal.invariant_of-self-in_err-sweep_due
+invariant_of-self-in_err-sweep_due c = (c.in_err-sweep_due.ensures.err.staged, c.sweep_due.ensures.within (limits_of c.self.inside.options) c.self.invariant.1)

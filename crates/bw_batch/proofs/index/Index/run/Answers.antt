@@ -1,0 +1,19 @@
+use Rattle.std.proofs.Common.{arith, subst, ◌≤◌}
+use Rattle.bw_core.specs.Keeping.{pairs_of}
+use Rattle.bw_batch.specs.View.{next_stamp_of}
+use Rattle.bw_batch.proofs.OutcomesLemmas.{same_writes}
+use Rattle.bw_batch.proofs.index.Index.run.Goals as goal
+
+pub returns-clause-recorded : goal.returns-clause-recorded
+returns-clause-recorded g c =
+    omega (
+      arith,
+      c.tidy-tidy.ensures.records,
+      c.in_ok-replies.ensures.recorded,
+      c.in_ok-make_room.ensures.records,
+      same_writes c.args.ops.now (next_stamp_of c.make_room.new.self) 0,
+    )
+
+pub returns-clause-lost : goal.returns-clause-lost
+returns-clause-lost g c =
+    subst (λ n. c.in_ok-replies.field-0.lost ≤ pairs_of n) (same_writes c.args.ops.now (next_stamp_of c.make_room.new.self) (next_stamp_of c.args.self.now)) c.in_ok-replies.ensures.lost

@@ -1,0 +1,4 @@
+pub mod Keys
+pub mod Pages
+pub mod Layout
+pub mod Pictures

@@ -1,0 +1,32 @@
+-- A page above that is left as a base page by itself, and then names one more page.
+use Rattle.std.proofs.Common.{ℕ, ◌∙◌, subst, slice_index, arith}
+use Rattle.std.proofs.lemmas.List.{set-set}
+use Rattle.bw_key.specs.Order.{KeyBytes}
+use Rattle.bw_chain.specs.Children.{FitsChild}
+use Rattle.bw_tree.specs.Children.{IsNamed}
+use Rattle.bw_tree.specs.Consolidation.{IsRebased}
+use Rattle.bw_tree.specs.Routing.{IsInnerPage}
+use Rattle.bw_tree.specs.View.{TreeView}
+
+-- a page that may name one of the level below is an inner page
+pub fits_inner : (tree : TreeView) (parent : ℕ) (sep : KeyBytes) (child : ℕ) → FitsChild tree.slots tree.levels parent sep child → IsInnerPage tree parent
+fits_inner tree parent sep child fits = record {
+  in_levels = record { level = _; within = fits.within; in_level = fits.in_level };
+  raised = omega arith;
+}
+
+-- what the page names on top of that, it names over all
+pub named_over : (old mid new : TreeView) (p : ℕ) (sep : KeyBytes) (child : ℕ) → IsRebased old mid p → IsNamed mid new p sep child → IsNamed old new p sep child
+named_over old mid new p sep child rebased named =
+    let on = subst (λ (v : TreeView). IsNamed v new p sep child) rebased.view named in
+    record {
+      named = on.named;
+      levels = on.levels;
+      contents = on.contents;
+      heads = on.heads ∙ set-set old.heads p (slice_index mid.heads p) (slice_index new.heads p);
+      changed = on.changed;
+      root = on.root;
+      records = on.records;
+      next = on.next;
+      staged = on.staged;
+    }

@@ -1,0 +1,122 @@
+-- A sweep goes from page to page, and each that it passes has no record any more.
+use Rattle.std.proofs.Common.{inl, inr, ◌⊎◌, ◌≡◌, ℕ, suc, ◌+◌, ◌<◌, ◌≤◌, ◌^◌, List, [], ◌∷◌, length, None, refl, sym, ap, ◌∙◌, subst, arith}
+use Rattle.std.proofs.lemmas.Bool.{cases_eq, cases_lt}
+use Rattle.std.proofs.lemmas.List.{get_or-set_other, length-set}
+use Rattle.std.specs.List.{AllByRecursion}
+use Rattle.std.specs.Prelude.{slice_index}
+use Rattle.bw_chain.specs.Reading.{writes_over}
+use Rattle.bw_chain.specs.Slots.{slot_at}
+use Rattle.bw_tree.specs.Consolidation.{IsConsolidated, IsRebased}
+use Rattle.bw_tree.specs.View.{TreeView, contents_at}
+use Rattle.bw_shape.specs.Steps.{HasLostChain, IsConsolidationStep}
+use Rattle.bw_shape.specs.Sweeps.{ArePlainBelow, HoldsSame, IsPlainAt, IsSwept, KeepsPlain}
+use Rattle.bw_shape.specs.declared.steps.Did.{Did}
+use Rattle.bw_shape.specs.declared.steps.Did.TheVariants.{Done, NotNeeded}
+
+pub holds_itself : (tree : TreeView) → tree.staged ≡ None → HoldsSame tree tree
+holds_itself tree none = record { contents = refl; levels = refl; root = refl; next = refl; records = refl; staged = none; pages = refl }
+
+holds_on : (first old new : TreeView) → HoldsSame first old → HoldsSame old new → HoldsSame first new
+holds_on first old new a b = record {
+  contents = b.contents ∙ a.contents;
+  levels = b.levels ∙ a.levels;
+  root = b.root ∙ a.root;
+  next = b.next ∙ a.next;
+  records = b.records ∙ a.records;
+  staged = b.staged;
+  pages = b.pages ∙ a.pages;
+}
+
+module _ (old new : TreeView) (p : ℕ) where
+  leaf_plain : 2 ^ 32 ≤ slice_index old.heads p → IsConsolidated old new p → IsPlainAt old new p
+  leaf_plain had k = record {
+    same = record {
+      contents = k.contents;
+      levels = k.levels;
+      root = k.root;
+      next = k.next;
+      records = k.records;
+      staged = k.staged;
+      pages = ap length k.heads ∙ length-set old.heads p (slice_index new.heads p);
+    };
+    plain = k.plain;
+    others = λ q other. ap (λ (ws : List ℕ). slice_index ws q) k.heads ∙ get_or-set_other old.heads p q (slice_index new.heads p) 0 other;
+    kept = λ q low. k.others q (λ same. omega (arith, had, subst (λ r. slice_index old.heads r < 2 ^ 32) same low));
+  }
+
+  inner_plain : old.staged ≡ None → IsRebased old new p → IsPlainAt old new p
+  inner_plain none k = record {
+    same = record {
+      contents = ap (λ (v : TreeView). contents_at v v.next) k.view;
+      levels = ap (λ (v : TreeView). v.levels) k.view;
+      root = ap (λ (v : TreeView). v.root) k.view;
+      next = ap (λ (v : TreeView). v.next) k.view;
+      records = ap (λ (v : TreeView). v.records) k.view;
+      staged = ap (λ (v : TreeView). v.staged) k.view ∙ none;
+      pages = ap (λ (v : TreeView). length v.heads) k.view ∙ length-set old.heads p (slice_index new.heads p);
+    };
+    plain = k.plain;
+    others = λ q other. ap (λ (v : TreeView). slice_index v.heads q) k.view ∙ get_or-set_other old.heads p q (slice_index new.heads p) 0 other;
+    kept = λ q low. ap (λ (v : TreeView). slot_at v.slots q) k.view;
+  }
+
+  pub chain_plain : old.staged ≡ None → HasLostChain old new p → IsPlainAt old new p
+  chain_plain none lost = by (cases_lt 0 lost.level)
+    where
+      by : (0 < lost.level) ⊎ (lost.level ≤ 0) → IsPlainAt old new p
+      by (inl raised) = inner_plain none (lost.inner raised)
+      by (inr lowest) = leaf_plain lost.had (lost.leaf (omega (arith, lowest)))
+
+  pub still_plain : old.staged ≡ None → new ≡ old → slice_index old.heads p < 2 ^ 32 → IsPlainAt old new p
+  still_plain none is plain = subst (λ (v : TreeView). IsPlainAt old v p) (sym is) (record { same = holds_itself old none; plain = plain; others = λ q other. refl; kept = λ q low. refl })
+
+  -- a step leaves the page without a record
+  pub step_plain : (did : Did) → old.staged ≡ None → IsConsolidationStep old new p did → IsPlainAt old new p
+  step_plain Done none lost = chain_plain none lost
+  step_plain NotNeeded none (is, plain) = still_plain none is plain
+
+-- pages that had no record have none still, and are as they were
+pub record KeepsAllPlain (first now : TreeView) : Type 0 where
+  pub still : (p : ℕ) → slice_index first.heads p < 2 ^ 32 → slice_index now.heads p < 2 ^ 32
+  pub kept : KeepsPlain first now
+
+pub plain_itself : (tree : TreeView) → KeepsAllPlain tree tree
+plain_itself tree = record { still = λ p low. low; kept = λ p low. refl }
+
+-- one page more
+pub more_plain : (first old new : TreeView) (n : ℕ) → HoldsSame first old → ArePlainBelow old n → IsPlainAt old new n → HoldsSame first new × ArePlainBelow new (n + 1)
+more_plain first old new n held below at = (holds_on first old new held at.same, λ p lt. by p lt (cases_lt p n))
+  where
+    by : (p : ℕ) → p < n + 1 → (p < n) ⊎ (n ≤ p) → slice_index new.heads p < 2 ^ 32
+    by p lt (inl before) = subst (λ w. w < 2 ^ 32) (sym (at.others p (λ e. omega (arith, before, e)))) (below p before)
+    by p lt (inr behind) =
+        let last : p ≡ n = omega (arith, lt, behind) in
+        subst (λ q. slice_index new.heads q < 2 ^ 32) (sym last) at.plain
+
+pub plain_on : (first old new : TreeView) (n : ℕ) → KeepsAllPlain first old → IsPlainAt old new n → KeepsAllPlain first new
+plain_on first old new n keeps at = record {
+  still = λ p low. by p low (cases_eq p n);
+  kept = λ p low. at.kept p (keeps.still p low) ∙ keeps.kept p low;
+}
+  where
+    by : (p : ℕ) → slice_index first.heads p < 2 ^ 32 → (p ≡ n) ⊎ (p ≡ n → ⊥) → slice_index new.heads p < 2 ^ 32
+    by p low (inl same) = subst (λ q. slice_index new.heads q < 2 ^ 32) (sym same) at.plain
+    by p low (inr other) = subst (λ w. w < 2 ^ 32) (sym (at.others p other)) (keeps.still p low)
+
+pub all_plain : (ws : List ℕ) → ((p : ℕ) → p < length ws → slice_index ws p < 2 ^ 32) → AllByRecursion (λ w. w < 2 ^ 32) ws
+all_plain [] each = tt
+all_plain (w ∷ ws) each = (each 0 (omega arith), all_plain ws (λ p lt. each (suc p) (omega (arith, lt))))
+
+-- the tree that was started over, once no page has a record
+pub swept_all : (old tree new : TreeView) → HoldsSame old tree → AllByRecursion (λ w. w < 2 ^ 32) tree.heads → new ≡ record tree { records = 0; next = 0 } → ((stamp : ℕ) → contents_at new stamp ≡ contents_at tree tree.next) → ((p : ℕ) → writes_over (slot_at new.slots p) ≡ []) → IsSwept old new
+swept_all old tree new held plain view contents bare = record {
+  contents = λ stamp. contents stamp ∙ held.contents;
+  plain = subst (λ (v : TreeView). AllByRecursion (λ w. w < 2 ^ 32) v.heads) (sym view) plain;
+  bare = bare;
+  levels = ap (λ (v : TreeView). v.levels) view ∙ held.levels;
+  root = ap (λ (v : TreeView). v.root) view ∙ held.root;
+  pages = ap (λ (v : TreeView). length v.heads) view ∙ held.pages;
+  records = ap (λ (v : TreeView). v.records) view;
+  next = ap (λ (v : TreeView). v.next) view;
+  staged = ap (λ (v : TreeView). v.staged) view ∙ held.staged;
+}

@@ -1,0 +1,352 @@
+-- What tidying keeps, step by step: what the tree holds, and which leaves are within the limits.
+use Rattle.std.proofs.Common.{inl, inr, ◌⊎◌, ◌≡◌, ℕ, zero, suc, ◌+◌, ◌<◌, ◌≤◌, ◌^◌, List, [], ◌∷◌, ◌++◌, length, None, refl, sym, ap, ◌∙◌, subst, arith, Bool, true, false, cond, filter, map, nat_eq, reverse, Result, Ok, Err, OnOk, OnErr}
+use Rattle.std.proofs.lemmas.Bool.{cases_eq, cases_lt}
+use Rattle.std.proofs.lemmas.List.{get_or-set_same, get_or-set_other, length-set, length-append}
+use Rattle.std.proofs.lemmas.List.Elements.{Contains-append_left, Contains-append_right, Contains-push, Contains-push_cases}
+use Rattle.std.proofs.lemmas.List.Sorted.{Contains-permutation, IsPermutation-reverse}
+use Rattle.std.specs.List.{Contains}
+use Rattle.std.specs.Prelude.{slice_index}
+use Rattle.bw_key.specs.Order.{KeyBytes}
+use Rattle.bw_chain.specs.Children.{state_with_child}
+use Rattle.bw_chain.specs.Chains.{body_with_child}
+use Rattle.bw_chain.specs.Levels.{row}
+use Rattle.bw_chain.specs.Reading.{body_pairs, body_writes, pairs_under, writes_over}
+use Rattle.bw_chain.specs.Roots.{levels_grown}
+use Rattle.bw_chain.specs.Searches.{IsInLevels}
+use Rattle.bw_chain.specs.Slots.{Slot, PageState, Body, Pairs, Children, Free, Gone, Live, slot_at}
+use Rattle.bw_chain.specs.Splits.{level_parted, put_behind, slot_entries}
+use Rattle.bw_chain.proofs.SplitLemmas.{had}
+use Rattle.bw_tree.specs.Children.{IsNamed}
+use Rattle.bw_tree.specs.Roots.{HasNewRoot}
+use Rattle.bw_tree.specs.Splits.{IsSplit, IsSplittable}
+use Rattle.bw_tree.specs.View.{TreeView, contents_at}
+use Rattle.bw_shape.specs.Limits.{LimitsView, AreWithinBut, IsWithin}
+use Rattle.bw_shape.specs.Sweeps.{HoldsSame, KeepsPlain}
+use Rattle.bw_shape.specs.Tidying.{HoldsAll, IsBare, IsNext, IsSplitNext, KeepsWithin, leaf_pages}
+use Rattle.bw_tree.specs.Shapes.{level_shape, levels_shape, page_shape, shape_of}
+use Rattle.bw_tree.specs.declared.tree.shape.PageShape.{PageShape}
+use Rattle.bw_shape.specs.Steps.{HasLostChain, IsFinishStep, IsFinished, IsRootStep, IsSameOver}
+use Rattle.bw_tree.specs.Consolidation.{IsRebased}
+use Rattle.bw_shape.specs.declared.steps.Did.{Did}
+use Rattle.bw_shape.specs.declared.steps.Did.TheVariants.{Done, NotNeeded}
+use Rattle.bw_shape.proofs.SweepLemmas.{chain_plain, still_plain}
+
+-- what the tree holds
+pub holds_itself : (tree : TreeView) → tree.staged ≡ None → HoldsAll tree tree
+holds_itself tree none = record { contents = refl; next = refl; records = omega arith; staged = none }
+
+pub holds_on : (first old new : TreeView) → HoldsAll first old → HoldsAll old new → HoldsAll first new
+holds_on first old new a b = record {
+  contents = b.contents ∙ a.contents;
+  next = b.next ∙ a.next;
+  records = omega (arith, a.records, b.records);
+  staged = b.staged;
+}
+
+pub holds_same : (old new : TreeView) → HoldsSame old new → HoldsAll old new
+holds_same old new h = record { contents = h.contents; next = h.next; records = omega (arith, h.records); staged = h.staged }
+
+-- where a step keeps what it holds as of every stamp
+held_at : (old new : TreeView) → new.next ≡ old.next → ((stamp : ℕ) → contents_at new stamp ≡ contents_at old stamp) → contents_at new new.next ≡ contents_at old old.next
+held_at old new next contents = ap (contents_at new) next ∙ contents old.next
+
+pub holds_split : (old new : TreeView) (p keep q : ℕ) → IsSplit old new p keep q → HoldsAll old new
+holds_split old new p keep q h = record { contents = held_at old new h.next h.contents; next = h.next; records = omega (arith, h.records); staged = h.staged }
+
+pub holds_named : (old new : TreeView) (parent : ℕ) (sep : KeyBytes) (child : ℕ) → IsNamed old new parent sep child → HoldsAll old new
+holds_named old new parent sep child h = record { contents = held_at old new h.next h.contents; next = h.next; records = omega (arith, h.records); staged = h.staged }
+
+pub holds_root : (old new : TreeView) (t : ℕ) → HasNewRoot old new t → HoldsAll old new
+holds_root old new t h = record { contents = held_at old new h.next h.contents; next = h.next; records = omega (arith, h.records); staged = h.staged }
+
+pub next_due : (due : List ℕ) (p : ℕ) → IsNext due p → Contains due p
+next_due due p next = subst (λ (l : List ℕ). Contains l p) (sym next.1) (Contains-push next.0 p)
+
+-- the next page was looked at: it is no leaf that is over a limit
+pub within_pass : (limits : LimitsView) (tree : TreeView) (due due' : List ℕ) (p : ℕ) → due ≡ due' ++ p ∷ [] → (Contains (row tree.levels 0) p → IsWithin limits (slot_at tree.slots p)) → AreWithinBut limits tree due → AreWithinBut limits tree due'
+within_pass limits tree due due' p is fine but r leaf = by (but r leaf)
+  where
+    or_it : Contains due' r ⊎ (p ≡ r) → Contains due' r ⊎ IsWithin limits (slot_at tree.slots r)
+    or_it (inl has) = inl has
+    or_it (inr same) = inr (subst (λ q. IsWithin limits (slot_at tree.slots q)) same (fine (subst (Contains (row tree.levels 0)) (sym same) leaf)))
+
+    by : Contains due r ⊎ IsWithin limits (slot_at tree.slots r) → Contains due' r ⊎ IsWithin limits (slot_at tree.slots r)
+    by (inl has) = or_it (Contains-push_cases due' p r (subst (λ (l : List ℕ). Contains l r) is has))
+    by (inr within) = inr within
+
+-- the next page has no record any more
+pub within_bare : (old new : TreeView) (due : List ℕ) (p : ℕ) → IsBare old new p → IsNext due p → KeepsWithin old new due due
+within_bare old new due p bare next limits but r leaf = by (cases_eq r p)
+  where
+    or_as : (r ≡ p → ⊥) → Contains due r ⊎ IsWithin limits (slot_at old.slots r) → Contains due r ⊎ IsWithin limits (slot_at new.slots r)
+    or_as other (inl has) = inl has
+    or_as other (inr within) = inr (subst (IsWithin limits) (sym (bare.others r other)) within)
+
+    by : (r ≡ p) ⊎ (r ≡ p → ⊥) → Contains due r ⊎ IsWithin limits (slot_at new.slots r)
+    by (inl same) = inl (subst (Contains due) (sym same) (next_due due p next))
+    by (inr other) = or_as other (but r (subst (λ (l : List (List ℕ)). Contains (row l 0) r) bare.same.levels leaf))
+
+-- the next page has parted in two
+module _ (old new : TreeView) (due due' : List ℕ) (p keep : ℕ) (able : IsSplittable old p keep) (h : IsSplitNext old new due due' p keep) where
+  abbrev q : ℕ
+  q = h.right
+
+  was_leaf : (r : ℕ) → Contains (row new.levels 0) r → Contains (row old.levels 0) r ⊎ (r ≡ q)
+  was_leaf r leaf = by (cases_eq 0 able.level)
+    where
+      parted : List (List ℕ)
+      parted = level_parted old.levels able.level p q
+
+      there : Contains (row parted 0) r
+      there = subst (λ (l : List (List ℕ)). Contains (row l 0) r) (h.split.levels able.level able.within able.in_level) leaf
+
+      or_new : Contains (row old.levels able.level) r ⊎ ((r ≡ q) × Contains (row old.levels able.level) p) → able.level ≡ 0 → Contains (row old.levels 0) r ⊎ (r ≡ q)
+      or_new (inl has) lowest = inl (subst (λ n. Contains (row old.levels n) r) lowest has)
+      or_new (inr new_one) lowest = inr new_one.0
+
+      by : (0 ≡ able.level) ⊎ (0 ≡ able.level → ⊥) → Contains (row old.levels 0) r ⊎ (r ≡ q)
+      by (inl lowest) =
+          or_new (had p q r (row old.levels able.level)
+          (subst (λ (l : List ℕ). Contains l r) (get_or-set_same old.levels able.level (put_behind p q (row old.levels able.level)) [] able.within) (subst (λ n. Contains (row parted n) r) lowest there))) (sym lowest)
+      by (inr raised) = inl (subst (λ (l : List ℕ). Contains l r) (get_or-set_other old.levels able.level 0 (put_behind p q (row old.levels able.level)) [] raised) there)
+
+  due_still : (r : ℕ) → Contains due r → Contains due' r
+  due_still r has = subst (λ (l : List ℕ). Contains l r) (sym h.is) (by (Contains-push_cases h.rest p r (subst (λ (l : List ℕ). Contains l r) h.was has)))
+    where
+      by : Contains h.rest r ⊎ (p ≡ r) → Contains (h.rest ++ q ∷ p ∷ []) r
+      by (inl before) = Contains-append_left h.rest (q ∷ p ∷ []) r before
+      by (inr same) = Contains-append_right h.rest (q ∷ p ∷ []) r (1, omega arith, same)
+
+  due_new : Contains due' q
+  due_new = subst (λ (l : List ℕ). Contains l q) (sym h.is) (Contains-append_right h.rest (q ∷ p ∷ []) q (0, omega arith, refl))
+
+  due_page : Contains due' p
+  due_page = subst (λ (l : List ℕ). Contains l p) (sym h.is) (Contains-append_right h.rest (q ∷ p ∷ []) p (1, omega arith, refl))
+
+  pub within_split : KeepsWithin old new due due'
+  within_split limits but r leaf = by (cases_eq r p) (cases_eq r q)
+    where
+      or_as : (r ≡ p → ⊥) → (r ≡ q → ⊥) → Contains due r ⊎ IsWithin limits (slot_at old.slots r) → Contains due' r ⊎ IsWithin limits (slot_at new.slots r)
+      or_as other other' (inl has) = inl (due_still r has)
+      or_as other other' (inr within) = inr (subst (IsWithin limits) (sym (h.split.parted.others r other other')) within)
+
+      old_one : (r ≡ p → ⊥) → (r ≡ q → ⊥) → Contains (row old.levels 0) r ⊎ (r ≡ q) → Contains due' r ⊎ IsWithin limits (slot_at new.slots r)
+      old_one other other' (inl was) = or_as other other' (but r was)
+      old_one other other' (inr same) = absurd (other' same)
+
+      by : (r ≡ p) ⊎ (r ≡ p → ⊥) → (r ≡ q) ⊎ (r ≡ q → ⊥) → Contains due' r ⊎ IsWithin limits (slot_at new.slots r)
+      by (inl same) its = inl (subst (Contains due') (sym same) due_page)
+      by (inr other) (inl same) = inl (subst (Contains due') (sym same) due_new)
+      by (inr other) (inr other') = old_one other other' (was_leaf r leaf)
+
+  split_heads : length new.heads ≡ length old.heads + 1
+  split_heads = h.split.pages
+
+  pub split_due : length due' ≡ length due + 1
+  split_due = omega (arith, ap length h.was, ap length h.is, length-append h.rest (p ∷ []), length-append h.rest (q ∷ p ∷ []))
+
+-- an inner page names one page more
+child_within : (limits : LimitsView) (sep : KeyBytes) (child : ℕ) (s : PageState) → IsWithin limits (Live s) → IsWithin limits (Live (state_with_child sep child s))
+child_within limits sep child s = by s.body
+  where
+    by : (b : Body) → (length (body_writes b) ≤ limits.chain_max) × (length (body_pairs b) ≤ limits.page_max) →
+        (length (body_writes (body_with_child sep child b)) ≤ limits.chain_max) × (length (body_pairs (body_with_child sep child b)) ≤ limits.page_max)
+    by (Pairs pairs writes) within = within
+    by (Children level children) within = within
+
+pub within_named : (old new : TreeView) (due : List ℕ) (parent : ℕ) (sep : KeyBytes) (child : ℕ) → IsNamed old new parent sep child → KeepsWithin old new due due
+within_named old new due parent sep child h limits but r leaf = by (cases_eq r parent) (but r (subst (λ (l : List (List ℕ)). Contains (row l 0) r) h.levels leaf))
+  where
+    by : (r ≡ parent) ⊎ (r ≡ parent → ⊥) → Contains due r ⊎ IsWithin limits (slot_at old.slots r) → Contains due r ⊎ IsWithin limits (slot_at new.slots r)
+    by which (inl has) = inl has
+    by (inr other) (inr within) = inr (subst (IsWithin limits) (sym (h.named.others r other)) within)
+    by (inl same) (inr within) =
+        inr (subst (IsWithin limits) (sym (ap (slot_at new.slots) same ∙ h.named.now))
+        (child_within limits sep child h.named.was (subst (IsWithin limits) (ap (slot_at old.slots) same ∙ h.named.is) within)))
+
+-- the root grows
+row_grown : (levels : List (List ℕ)) (t r : ℕ) → Contains (row (levels_grown levels t) 0) r → Contains (row levels 0) r ⊎ (r ≡ t)
+row_grown [] t r (zero, lt, at) = inr (sym at)
+row_grown [] t r (suc i, lt, at) = absurd (omega (arith, lt))
+row_grown (ps ∷ levels) t r has = inl has
+
+pub within_root : (old new : TreeView) (due : List ℕ) (t : ℕ) → HasNewRoot old new t → KeepsWithin old new due due
+within_root old new due t h limits but r leaf = by (cases_eq r t) (row_grown old.levels t r (subst (λ (l : List (List ℕ)). Contains (row l 0) r) h.levels leaf))
+  where
+    or_as : (r ≡ t → ⊥) → Contains due r ⊎ IsWithin limits (slot_at old.slots r) → Contains due r ⊎ IsWithin limits (slot_at new.slots r)
+    or_as other (inl has) = inl has
+    or_as other (inr within) = inr (subst (IsWithin limits) (sym (h.grown.others r other)) within)
+
+    by : (r ≡ t) ⊎ (r ≡ t → ⊥) → Contains (row old.levels 0) r ⊎ (r ≡ t) → Contains due r ⊎ IsWithin limits (slot_at new.slots r)
+    by (inl same) was = inr (subst (IsWithin limits) (sym (ap (slot_at new.slots) same ∙ h.grown.top)) (omega arith, omega arith))
+    by (inr other) (inr same) = absurd (other same)
+    by (inr other) (inl was) = or_as other (but r was)
+
+-- there are no more pairs than entries
+few_pairs : (slot : Slot) → length (pairs_under slot) ≤ slot_entries slot
+few_pairs (Live s) = by s.body
+  where
+    by : (b : Body) → length (body_pairs b) ≤ slot_entries (Live (record s { body = b }))
+    by (Pairs pairs writes) = omega arith
+    by (Children level children) = omega arith
+few_pairs (Gone l) = omega arith
+few_pairs Free = omega arith
+
+-- a page with few writes and few entries is within the limits
+pub few_within : (limits : LimitsView) (slot : Slot) → length (writes_over slot) ≤ limits.chain_max → slot_entries slot ≤ limits.page_max → IsWithin limits slot
+few_within limits slot writes entries = (writes, omega (arith, few_pairs slot, entries))
+
+-- more pages are due
+pub within_more : (limits : LimitsView) (tree : TreeView) (due due' : List ℕ) → ((p : ℕ) → Contains due p → Contains due' p) → AreWithinBut limits tree due → AreWithinBut limits tree due'
+within_more limits tree due due' kept but r leaf = by (but r leaf)
+  where
+    by : Contains due r ⊎ IsWithin limits (slot_at tree.slots r) → Contains due' r ⊎ IsWithin limits (slot_at tree.slots r)
+    by (inl has) = inl (kept r has)
+    by (inr within) = inr within
+
+-- what a step that finishes a split keeps, whatever became of it
+pub record KeepsTidy (old new : TreeView) : Type 0 where
+  pub holds : HoldsAll old new
+  pub within : (due : List ℕ) → KeepsWithin old new due due
+  pub more : length old.heads ≤ length new.heads
+
+tidy_still : (old new : TreeView) → old.staged ≡ None → new ≡ old → KeepsTidy old new
+tidy_still old new none is = subst (KeepsTidy old) (sym is) (record { holds = holds_itself old none; within = λ due limits but. but; more = omega arith })
+
+tidy_rebased : (old new : TreeView) (p : ℕ) → old.staged ≡ None → IsRebased old new p → KeepsTidy old new
+tidy_rebased old new p none h = subst (KeepsTidy old) (sym h.view) (record {
+  holds = record { contents = refl; next = refl; records = omega arith; staged = none };
+  within = λ due limits but. but;
+  more = omega (arith, length-set old.heads p (slice_index new.heads p));
+})
+
+pub tidy_same : (old new : TreeView) → old.staged ≡ None → IsSameOver old new → KeepsTidy old new
+tidy_same old new none (inl is) = tidy_still old new none is
+tidy_same old new none (inr page) = tidy_rebased old new page.0 none page.1
+
+pub tidy_named : (old new : TreeView) (p parent : ℕ) → IsFinished old new p parent → KeepsTidy old new
+tidy_named old new p parent h = record {
+  holds = holds_named old new parent h.sep h.side h.named;
+  within = λ due. within_named old new due parent h.sep h.side h.named;
+  more = omega (arith, ap length h.named.heads, length-set old.heads parent (slice_index new.heads parent));
+}
+
+tidy_root : (old new : TreeView) (did : Did) → old.staged ≡ None → IsRootStep old new did → KeepsTidy old new
+tidy_root old new Done none h = record {
+  holds = holds_root old new h.0 h.1;
+  within = λ due. within_root old new due h.0 h.1;
+  more = omega (arith, ap length h.1.heads, length-append old.heads (slice_index new.heads h.0 ∷ []));
+}
+tidy_root old new NotNeeded none h = tidy_still old new none h.0
+
+-- a root that grows where nothing was left to be named
+pub tidy_after : (old mid new : TreeView) (did : Did) → old.staged ≡ None → mid ≡ old → IsRootStep mid new did → KeepsTidy old new
+tidy_after old mid new did none is step = subst (λ (v : TreeView). KeepsTidy v new) is (tidy_root mid new did (ap (λ (v : TreeView). v.staged) is ∙ none) step)
+
+-- a page that was consolidated
+pub bare_lost : (old new : TreeView) (p : ℕ) → old.staged ≡ None → HasLostChain old new p → IsBare old new p
+bare_lost old new p none lost =
+    let at = chain_plain old new p none lost in
+    record { same = at.same; plain = at.plain; others = by (cases_lt 0 lost.level) }
+  where
+    by : (0 < lost.level) ⊎ (lost.level ≤ 0) → (q : ℕ) → (q ≡ p → ⊥) → slot_at new.slots q ≡ slot_at old.slots q
+    by (inl raised) q other = ap (λ (v : TreeView). slot_at v.slots q) (lost.inner raised).view
+    by (inr lowest) q other = (lost.leaf (omega (arith, lowest))).others q other
+
+-- a page that had no record
+pub bare_still : (tree : TreeView) (p : ℕ) → tree.staged ≡ None → slice_index tree.heads p < 2 ^ 32 → IsBare tree tree p
+bare_still tree p none plain =
+    let at = still_plain tree tree p none refl plain in
+    record { same = at.same; plain = at.plain; others = λ q other. refl }
+
+-- a leaf stands on a level
+pub leaf_level : (levels : List (List ℕ)) (p : ℕ) → Contains (row levels 0) p → IsInLevels levels p
+leaf_level [] p has = absurd (omega (arith, has.1))
+leaf_level (ps ∷ levels) p has = record { level = 0; within = omega arith; in_level = has }
+
+pub tidy_finish : (old new : TreeView) (p : ℕ) (did : Did) → old.staged ≡ None → IsFinishStep old new p did → KeepsTidy old new
+tidy_finish old new p Done none h = tidy_named old new p h.0 h.1
+tidy_finish old new p NotNeeded none h = tidy_still old new none h.0
+
+-- a leaf among listed pages is among the leaves
+in_leaf_pages : (shape : List PageShape) (s : PageShape) → Contains shape s → nat_eq s.level 0 ≡ true → Contains (leaf_pages shape) s.page
+in_leaf_pages [] s has leaf = absurd (omega (arith, has.1))
+in_leaf_pages (x ∷ shape) s (zero, lt, at) leaf =
+    subst (λ b. Contains (map (λ (t : PageShape). t.page) (cond b (x ∷ filter (λ (t : PageShape). nat_eq t.level 0) shape) (filter (λ (t : PageShape). nat_eq t.level 0) shape))) s.page)
+    (sym (ap (λ (t : PageShape). nat_eq t.level 0) at ∙ leaf)) (0, omega arith, ap (λ (t : PageShape). t.page) at)
+in_leaf_pages (x ∷ shape) s (suc i, lt, at) leaf = by (nat_eq x.level 0) (in_leaf_pages shape s (i, omega (arith, lt), at) leaf)
+  where
+    others : List PageShape
+    others = filter (λ (t : PageShape). nat_eq t.level 0) shape
+
+    by : (b : Bool) → Contains (leaf_pages shape) s.page → Contains (map (λ (t : PageShape). t.page) (cond b (x ∷ others) others)) s.page
+    by true rest = (suc rest.0, omega (arith, rest.1), rest.2)
+    by false rest = rest
+
+in_level_shape : (tree : TreeView) (ps : List ℕ) (p : ℕ) → Contains ps p → Contains (map (page_shape tree 0) ps) (page_shape tree 0 p)
+in_level_shape tree [] p has = absurd (omega (arith, has.1))
+in_level_shape tree (x ∷ ps) p (zero, lt, at) = (0, omega arith, ap (page_shape tree 0) at)
+in_level_shape tree (x ∷ ps) p (suc i, lt, at) =
+    let rest = in_level_shape tree ps p (i, omega (arith, lt), at) in
+    (suc rest.0, omega (arith, rest.1), rest.2)
+
+in_levels_shape : (tree : TreeView) (n p : ℕ) → 0 < n → Contains (row tree.levels 0) p → Contains (levels_shape tree n) (page_shape tree 0 p)
+in_levels_shape tree zero p some has = absurd (omega (arith, some))
+in_levels_shape tree (suc zero) p some has = in_level_shape tree (row tree.levels 0) p has
+in_levels_shape tree (suc (suc n)) p some has =
+    Contains-append_left (levels_shape tree (suc n)) (level_shape tree (suc n)) (page_shape tree 0 p) (in_levels_shape tree (suc n) p (omega arith) has)
+
+some_levels : (levels : List (List ℕ)) (p : ℕ) → Contains (row levels 0) p → 0 < length levels
+some_levels [] p has = absurd (omega (arith, has.1))
+some_levels (ps ∷ levels) p has = omega arith
+
+-- each leaf is listed
+pub leaf_listed : (tree : TreeView) (p : ℕ) → Contains (row tree.levels 0) p → Contains (leaf_pages (shape_of tree)) p
+leaf_listed tree p has = in_leaf_pages (shape_of tree) (page_shape tree 0 p) (in_levels_shape tree (length tree.levels) p (some_levels tree.levels p has) has) refl
+
+-- of the pages before a place those that have records are listed, and so they are with the page at it
+pub changed_more : (heads listed more : List ℕ) (n : ℕ) → more ≡ listed ++ n ∷ [] → ((p : ℕ) → p < n → 2 ^ 32 ≤ slice_index heads p → Contains listed p) → (p : ℕ) → p < n + 1 → 2 ^ 32 ≤ slice_index heads p → Contains more p
+changed_more heads listed more n is before p lt high = subst (λ (l : List ℕ). Contains l p) (sym is) (by (cases_lt p n))
+  where
+    by : (p < n) ⊎ (n ≤ p) → Contains (listed ++ n ∷ []) p
+    by (inl less) = Contains-append_left listed (n ∷ []) p (before p less high)
+    by (inr ge) = let last : n ≡ p = omega (arith, lt, ge) in subst (Contains (listed ++ n ∷ [])) last (Contains-push listed n)
+
+pub changed_still : (heads listed more : List ℕ) (n : ℕ) → more ≡ listed → slice_index heads n < 2 ^ 32 → ((p : ℕ) → p < n → 2 ^ 32 ≤ slice_index heads p → Contains listed p) → (p : ℕ) → p < n + 1 → 2 ^ 32 ≤ slice_index heads p → Contains more p
+changed_still heads listed more n is low before p lt high = subst (λ (l : List ℕ). Contains l p) (sym is) (by (cases_lt p n))
+  where
+    by : (p < n) ⊎ (n ≤ p) → Contains listed p
+    by (inl less) = before p less high
+    by (inr ge) = let last : p ≡ n = omega (arith, lt, ge) in absurd (omega (arith, low, subst (λ q. 2 ^ 32 ≤ slice_index heads q) last high))
+
+-- behind a sweep a leaf that had no record is as it was, and the others are due
+pub within_swept : (old new : TreeView) (due due' : List ℕ) → ((p : ℕ) → IsInLevels old.levels p → p < length old.heads) → new.levels ≡ old.levels → KeepsPlain old new → ((p : ℕ) → Contains due p → Contains due' p) → ((p : ℕ) → p < length old.heads → 2 ^ 32 ≤ slice_index old.heads p → Contains due' p) → KeepsWithin old new due due'
+within_swept old new due due' there levels keeps kept changed limits but r leaf = by (cases_lt (slice_index old.heads r) (2 ^ 32))
+  where
+    was : Contains (row old.levels 0) r
+    was = subst (λ (l : List (List ℕ)). Contains (row l 0) r) levels leaf
+
+    or_as : slice_index old.heads r < 2 ^ 32 → Contains due r ⊎ IsWithin limits (slot_at old.slots r) → Contains due' r ⊎ IsWithin limits (slot_at new.slots r)
+    or_as low (inl has) = inl (kept r has)
+    or_as low (inr within) = inr (subst (IsWithin limits) (sym (keeps r low)) within)
+
+    by : (slice_index old.heads r < 2 ^ 32) ⊎ (2 ^ 32 ≤ slice_index old.heads r) → Contains due' r ⊎ IsWithin limits (slot_at new.slots r)
+    by (inl low) = or_as low (but r was)
+    by (inr high) = inl (changed r (there r (leaf_level old.levels r was)) high)
+
+-- pages that were added are due, and so are those that were before
+on_ok : {X Y : Type 0} {A B : Type 0} (r : Result X Y) → OnOk r A → (A → B) → OnOk r B
+on_ok (Ok x) a f = f a
+on_ok (Err y) a f = tt
+
+module _ {X Y : Type 0} (r : Result X Y) (due due' more : List ℕ) (ok : OnOk r (due' ≡ reverse more ++ due)) where
+  pub added_due : {P Q : ℕ → Type 0} → ((p : ℕ) → P p → Q p → Contains more p) → OnOk r ((p : ℕ) → P p → Q p → Contains due' p)
+  added_due each = on_ok r ok (λ is p has has'.
+      subst (λ (l : List ℕ). Contains l p) (sym is) (Contains-append_left (reverse more) due p (Contains-permutation more (reverse more) p (IsPermutation-reverse more) (each p has has'))))
+
+  pub still_due : OnErr r (due' ≡ due) → (p : ℕ) → Contains due p → Contains due' p
+  still_due err p has = by r ok err
+    where
+      by : (s : Result X Y) → OnOk s (due' ≡ reverse more ++ due) → OnErr s (due' ≡ due) → Contains due' p
+      by (Ok x) is not = subst (λ (l : List ℕ). Contains l p) (sym is) (Contains-append_right (reverse more) due p has)
+      by (Err y) not is = subst (λ (l : List ℕ). Contains l p) (sym is) has

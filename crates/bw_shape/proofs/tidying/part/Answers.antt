@@ -1,0 +1,27 @@
+use Rattle.std.proofs.Common.{◌≤◌, [], ◌∷◌, length, ap, arith}
+use Rattle.std.proofs.lemmas.List.{length-append}
+use Rattle.bw_chain.specs.Reading.{writes_over}
+use Rattle.bw_chain.specs.Slots.{slot_at}
+use Rattle.bw_chain.specs.Splits.{slot_entries}
+use Rattle.bw_shape.proofs.TidyLemmas.{few_within, within_pass}
+use Rattle.bw_shape.proofs.tidying.part.Goals as goal
+
+pub entries-count-requires : goal.entries-count-requires
+entries-count-requires c = c.know_records.ensures.there c.args.page c.requires.page
+
+pub returns-then-count-page_max-clause-within : goal.returns-then-count-page_max-clause-within
+returns-then-count-page_max-clause-within c =
+    let tree = c.args.tree.now in
+    let limits = c.args.limits.now in
+    let slot = slot_at tree.slots c.args.page in
+    let bare = c.know_records.ensures.bare c.args.page c.requires.plain in
+    let writes : length (writes_over slot) ≤ limits.chain_max = omega (arith, ap length bare) in
+    let entries : slot_entries slot ≤ limits.page_max = omega (arith, c.entries-count.ensures, c.page_max.ensures.value, c.if-count-page_max.true) in
+    within_pass limits tree c.args.due.now.pages c.pass.new.self.pages c.args.page (c.pass.ensures.pages c.args.page c.requires.next) (λ leaf. few_within limits slot writes entries) c.requires.within
+
+pub returns-then-count-page_max-clause-less : goal.returns-then-count-page_max-clause-less
+returns-then-count-page_max-clause-less c =
+    omega (arith, ap length (c.pass.ensures.pages c.args.page c.requires.next), length-append c.pass.new.self.pages (c.args.page ∷ []), ap length c.pass.ensures.above)
+
+pub returns-clause-within : goal.returns-clause-within
+returns-clause-within c = c.halve.ensures.within c.args.limits.now c.requires.within

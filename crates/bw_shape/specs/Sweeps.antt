@@ -1,0 +1,44 @@
+-- What a sweep does, on its way and at its end.
+use Rattle.std.specs.Prelude.{◌≡◌, ℕ, ◌<◌, ◌^◌, [], None, length, slice_index}
+use Rattle.std.specs.List.{AllByRecursion}
+use Rattle.bw_chain.specs.Reading.{writes_over}
+use Rattle.bw_chain.specs.Slots.{slot_at}
+use Rattle.bw_tree.specs.View.{TreeView, contents_at}
+
+-- the tree holds what it held as of its next stamp, which is the same, on the same levels, and nothing is staged
+pub record HoldsSame (old new : TreeView) : Type 0 where
+  pub contents : contents_at new new.next ≡ contents_at old old.next
+  pub levels : new.levels ≡ old.levels
+  pub root : new.root ≡ old.root
+  pub next : new.next ≡ old.next
+  pub records : new.records ≡ old.records
+  pub staged : new.staged ≡ None
+  pub pages : length new.heads ≡ length old.heads
+
+-- pages that have no record are as they were
+abbrev pub KeepsPlain : TreeView → TreeView → Type 0
+KeepsPlain old new = (p : ℕ) → slice_index old.heads p < 2 ^ 32 → slot_at new.slots p ≡ slot_at old.slots p
+
+-- the page has no record; the words of all others are as before, and so are pages that had no record
+pub record IsPlainAt (old new : TreeView) (p : ℕ) : Type 0 where
+  pub same : HoldsSame old new
+  pub plain : slice_index new.heads p < 2 ^ 32
+  pub others : (q : ℕ) → (q ≡ p → ⊥) → slice_index new.heads q ≡ slice_index old.heads q
+  pub kept : KeepsPlain old new
+
+-- the pages below a number have no records
+abbrev pub ArePlainBelow : TreeView → ℕ → Type 0
+ArePlainBelow tree n = (p : ℕ) → p < n → slice_index tree.heads p < 2 ^ 32
+
+-- As of every stamp the tree holds what it held as of its next one. There is no record, so no page has one, nor a write
+-- over it, and the next stamp is 0.
+pub record IsSwept (old new : TreeView) : Type 0 where
+  pub contents : (stamp : ℕ) → contents_at new stamp ≡ contents_at old old.next
+  pub plain : AllByRecursion (λ w. w < 2 ^ 32) new.heads
+  pub bare : (p : ℕ) → writes_over (slot_at new.slots p) ≡ []
+  pub levels : new.levels ≡ old.levels
+  pub root : new.root ≡ old.root
+  pub pages : length new.heads ≡ length old.heads
+  pub records : new.records ≡ 0
+  pub next : new.next ≡ 0
+  pub staged : new.staged ≡ None

@@ -1,0 +1,171 @@
+// The pages that tidying is to look at.
+ghost use Rattle.std.specs.Prelude.{◌≡◌, ℕ, ◌+◌, ◌<◌, ◌≤◌, ◌^◌, Bool, true, false, [], ◌∷◌, ◌++◌, None, length, reverse, slice_index, MatchOption, OnOk, OnErr};
+ghost use Rattle.std.specs.List.{Contains};
+ghost use Rattle.bw_tree.specs.Splits.{IsSplittable};
+ghost use Rattle.bw_shape.specs.Tidying.{HasNoneDue, HoldsAll, IsNext, IsSplitNext, KeepsWithin};
+
+use crate::steps::{grow_root, has_record, name_right};
+use bw_key::Memory;
+use bw_memory::Alloc;
+use bw_page::PageId;
+use bw_tree::Tree;
+use std::marker::Model;
+use std::mem;
+
+/// The pages that are due: those that a batch has written, and those that tidying didn't come to.
+#[derive(Debug, Drop)]
+pub struct Due {
+    // the next one last, so that what a split adds is looked at next
+    pages: Vec<PageId, Alloc>,
+    // inner pages to look at behind those, the first one first
+    above: Vec<PageId, Alloc>,
+    // whether tidying stopped at the next page, before its right neighbour was named
+    unfinished: bool,
+}
+
+impl Model for Due {
+    ghost use Rattle.bw_shape.specs.Tidying.{DueView};
+
+    ghost Value = { DueView };
+
+    ghost view = { λ d. record { pages = d.pages.items; above = d.above.items; unfinished = d.unfinished } };
+}
+
+impl Due {
+    /// No page.
+    pub fn new(alloc: Alloc) -> Due
+        ensures { result ≡ record { pages = []; above = []; unfinished = false } }
+    {
+        Due {
+            pages: Vec::new(alloc),
+            above: Vec::new(alloc),
+            unfinished: false,
+        }
+    }
+
+    /// These leaves and, once they were looked at, these inner pages.
+    pub(crate) fn from_levels(mut leaves: Vec<PageId, Alloc>, inner: Vec<PageId, Alloc>) -> Due
+        ensures pages { result.pages ≡ reverse leaves.entry.items }
+        ensures above { result.above ≡ inner.entry.items }
+        ensures unfinished { result.unfinished ≡ false }
+    {
+        leaves.reverse();
+        Due {
+            pages: leaves,
+            above: inner,
+            unfinished: false,
+        }
+    }
+
+    /// Adds pages, which are looked at in their order, behind those that are due already. It costs a step for each page that
+    /// is due then. After `Memory` all is as before.
+    pub fn add(&mut self, mut pages: Vec<PageId, Alloc>) -> Result<(), Memory>
+        ensures ok { OnOk result (self.new.pages ≡ reverse pages.entry.items ++ self.old.pages) }
+        ensures rest { (self.new.above ≡ self.old.above) × (self.new.unfinished ≡ self.old.unfinished) }
+        ensures err { OnErr result (self.new.pages ≡ self.old.pages) }
+    {
+        pages.reverse();
+        pages.extend_from_slice(&self.pages)?;
+        self.pages = pages;
+        Ok(())
+    }
+
+    /// Adds the pages of a tree that have records. It costs a look at each mapping word. After `Memory` all is as before.
+    pub(crate) fn add_changed(&mut self, tree: &Tree) -> Result<(), Memory>
+        requires { length tree.now.heads ≤ 2 ^ 32 }
+        ensures changed { OnOk result ((p : ℕ) → p < length tree.now.heads →
+            2 ^ 32 ≤ slice_index tree.now.heads p → Contains self.new.pages p) }
+        ensures kept { (p : ℕ) → Contains self.old.pages p → Contains self.new.pages p }
+        ensures err { OnErr result (self.new.pages ≡ self.old.pages) }
+    {
+        let mut changed = Vec::new(*self.pages.allocator());
+        for page in 0..tree.heads().len() {
+            if has_record(tree, PageId(page as u32)) {
+                changed.push(PageId(page as u32))?;
+            }
+        }
+        self.add(changed)
+    }
+
+    /// The next page: where no page is left, those above are next that were given a child.
+    pub(crate) fn next(&mut self) -> Option<PageId>
+        ensures next { MatchOption result (HasNoneDue self.new) (IsNext self.new.pages) }
+        ensures kept { (p : ℕ) → Contains self.old.pages p → Contains self.new.pages p }
+        ensures count { length self.new.pages + length self.new.above
+            ≡ length self.old.pages + length self.old.above }
+    {
+        if self.pages.is_empty() {
+            mem::swap(&mut self.pages, &mut self.above);
+            self.pages.reverse();
+        }
+        self.pages.last().copied()
+    }
+
+    /// The next page was looked at.
+    pub(crate) fn pass(&mut self)
+        ensures pages { (p : ℕ) → IsNext self.old.pages p → self.old.pages ≡ self.new.pages ++ p ∷ [] }
+        ensures above { self.new.above ≡ self.old.above }
+    {
+        self.pages.pop();
+    }
+
+    /// Whether the split of the next page may be unfinished.
+    pub(crate) fn is_unfinished(&self) -> bool
+        ensures { result ≡ self.now.unfinished }
+    {
+        self.unfinished
+    }
+
+    /// Tidying stops at the next page, or goes on behind it.
+    pub(crate) fn set_unfinished(&mut self, unfinished: bool)
+        ensures pages { self.new.pages ≡ self.old.pages }
+        ensures above { self.new.above ≡ self.old.above }
+        ensures unfinished { self.new.unfinished ≡ unfinished }
+    {
+        self.unfinished = unfinished;
+    }
+
+    /// Splits the next page in two, which are the next ones then, the left one first.
+    pub(crate) fn split_next(
+        &mut self,
+        tree: &mut Tree,
+        page: PageId,
+        keep: usize,
+    ) -> Result<(), Memory>
+        requires none { tree.old.staged ≡ None }
+        requires page { IsSplittable tree.old page keep }
+        requires next { IsNext self.old.pages page }
+        ensures ok { OnOk result (IsSplitNext tree.old tree.new self.old.pages self.new.pages page keep) }
+        ensures err { OnErr result (tree.new ≡ tree.old) }
+        ensures pages { OnErr result (self.new.pages ≡ self.old.pages) }
+        ensures above { self.new.above ≡ self.old.above }
+    {
+        self.pages.reserve(1)?;
+        let right = tree.set_split(page, keep)?;
+        self.pages.pop();
+        self.pages.push(right).unwrap();
+        self.pages.push(page).unwrap();
+        Ok(())
+    }
+
+    /// Finishes the split of a page: its right neighbour is named above it, or a root that was split gets one above it.
+    pub(crate) fn finish(&mut self, tree: &mut Tree, page: PageId) -> Result<(), Memory>
+        requires { tree.old.staged ≡ None }
+        ensures holds { HoldsAll tree.old tree.new }
+        ensures within { KeepsWithin tree.old tree.new self.old.pages self.new.pages }
+        ensures pages { self.new.pages ≡ self.old.pages }
+        ensures above { length self.new.above ≤ length self.old.above + 1 }
+        ensures more { length tree.old.heads ≤ length tree.new.heads }
+    {
+        self.above.reserve(1)?;
+        if let Some(parent) = name_right(tree, page)? {
+            // The children of one page come one after another.
+            if self.above.last().copied() != Some(parent) {
+                self.above.push(parent).unwrap();
+            }
+            return Ok(());
+        }
+        grow_root(tree)?;
+        Ok(())
+    }
+}

@@ -1,0 +1,65 @@
+// A sweep: every chain is consolidated, and records and stamps start over.
+ghost use Rattle.std.specs.Prelude.{◌≡◌, ◌<◌, None, OnOk, OnErr, length};
+ghost use Rattle.bw_shape.specs.Tidying.{KeepsWithin};
+ghost use Rattle.bw_shape.specs.Sweeps.{ArePlainBelow, HoldsSame, IsPlainAt, IsSwept, KeepsPlain};
+
+use crate::due::Due;
+use crate::steps::consolidate;
+use bw_key::Memory;
+use bw_page::PageId;
+use bw_tree::Tree;
+
+/// Starts records and stamps over: every chain is consolidated, there is no record any more, and the next stamp is 0. What
+/// the tree holds is the same, as of every stamp. No batch is staged.
+///
+/// It costs a look at each mapping word, what `consolidate` does for each page that has records, and a step for each
+/// record. After `Memory` the tree holds the same as of the same next stamp, and some pages may have been consolidated.
+pub fn sweep(tree: &mut Tree) -> Result<(), Memory>
+    requires { tree.old.staged ≡ None }
+    ensures ok { OnOk result (IsSwept tree.old tree.new) }
+    ensures err { OnErr result (HoldsSame tree.old tree.new) }
+    ensures kept { KeepsPlain tree.old tree.new }
+    ensures levels { tree.new.levels ≡ tree.old.levels }
+{
+    consolidate_all(tree)?;
+    tree.restart();
+    Ok(())
+}
+
+/// The same, with the pages that had records among those that are due: consolidated leaves may have too many pairs. After
+/// `Memory` some of them may be due already.
+pub fn sweep_due(tree: &mut Tree, due: &mut Due) -> Result<(), Memory>
+    requires { tree.old.staged ≡ None }
+    ensures ok { OnOk result (IsSwept tree.old tree.new) }
+    ensures err { OnErr result (HoldsSame tree.old tree.new) }
+    ensures within { KeepsWithin tree.old tree.new due.old.pages due.new.pages }
+{
+    tree.know_records();
+    due.add_changed(tree)?;
+    sweep(tree)
+}
+
+// Consolidates every page that has records.
+fn consolidate_all(tree: &mut Tree) -> Result<(), Memory>
+    requires { tree.old.staged ≡ None }
+    ensures same { HoldsSame tree.old tree.new }
+    ensures kept { KeepsPlain tree.old tree.new }
+    ensures plain { OnOk result (ArePlainBelow tree.new (length tree.new.heads)) }
+{
+    for page in 0..tree.heads().len() {
+        consolidate_at(tree, page)?;
+    }
+    Ok(())
+}
+
+// Consolidates the page of this mapping word where it has records.
+fn consolidate_at(tree: &mut Tree, place: usize) -> Result<(), Memory>
+    requires none { tree.old.staged ≡ None }
+    requires there { place < length tree.old.heads }
+    ensures ok { OnOk result (IsPlainAt tree.old tree.new place) }
+    ensures err { OnErr result (tree.new ≡ tree.old) }
+{
+    tree.know_records();
+    consolidate(tree, PageId(place as u32))?;
+    Ok(())
+}

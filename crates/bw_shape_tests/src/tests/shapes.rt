@@ -1,0 +1,60 @@
+// What tests compare the pages of a tree with.
+use bw_key::Key;
+use bw_shape::{PageId, Tree};
+use bw_tree::PageShape;
+use std::process::Abort;
+
+/// A page: its identifier and level, where its range begins and ends, its pairs or children, and its writes.
+pub type Wanted = (u32, u32, &'static [u8], Option<&'static [u8]>, usize, usize);
+
+// Whether a range ends there.
+fn ends(high: Option<&Key>, wanted: Option<&'static [u8]>) -> bool {
+    match (high, wanted) {
+        (Some(high), Some(bytes)) => high.bytes() == bytes,
+        (None, None) => true,
+        _ => false,
+    }
+}
+
+// Whether a page is listed so.
+fn is(page: &PageShape, wanted: &Wanted) -> bool {
+    page.page == PageId(wanted.0)
+        && page.level == wanted.1
+        && page.low.bytes() == wanted.2
+        && ends(page.high.as_ref(), wanted.3)
+        && page.pairs == wanted.4
+        && page.writes == wanted.5
+}
+
+/// Compares the pages of a tree.
+pub fn has_pages<R: Abort>(rt: &R, tree: &Tree, wanted: &[Wanted]) {
+    let pages = tree.shape().expect(rt, "the pages");
+    assert_eq!(rt; pages.len(), wanted.len());
+    for (page, wanted) in pages.iter().zip(wanted) {
+        assert!(rt; is(page, wanted));
+    }
+}
+
+// Whether a page begins where the one before it ends, or at the least key where there is none before it on its level.
+fn follows(page: &PageShape, end: Option<&Key>) -> bool {
+    match end {
+        Some(end) => page.low == *end,
+        None => page.low.bytes().is_empty(),
+    }
+}
+
+/// Whether the pages of each level abut, over all keys, and have no more entries than so many.
+pub fn abut_within(pages: &[PageShape], most: usize) -> bool {
+    let mut level = 0u32;
+    let mut end = None;
+    for page in pages {
+        if page.level != level || !follows(page, end) || page.pairs > most {
+            return false;
+        }
+        end = page.high.as_ref();
+        if end.is_none() {
+            level = level.saturating_add(1);
+        }
+    }
+    end.is_none()
+}

@@ -1,0 +1,318 @@
+// Tidying of trees whose pages have too many entries: up to four are within the limits.
+ghost use Rattle.std.specs.Prelude.{◌≡◌, ◌<◌, ◌⊎◌, true, None, reverse, length};
+ghost use Rattle.std.specs.List.{Contains};
+ghost use Rattle.bw_tree.specs.Levels.{row};
+ghost use Rattle.bw_tree.specs.Slots.{slot_at};
+ghost use Rattle.bw_shape.specs.Limits.{AreWithinBut, IsWithin};
+
+use super::leaves::{reads_numbers, tree_of};
+use super::making::{five, reads_all};
+use super::shapes::{Wanted, abut_within, has_pages};
+use bw_fixtures::{heap, was_refused};
+use bw_memory::Alloc;
+use bw_shape::{Due, Limits, PageId, Tidy, Tree, tidy_due};
+use std::process::Abort;
+
+// The number whose key is this letter, or the one behind it.
+const A: u16 = 97;
+
+const BEHIND_B: u16 = 99;
+
+const BEHIND_D: u16 = 101;
+
+const BEHIND_E: u16 = 102;
+
+const BEHIND_H: u16 = 105;
+
+const BEHIND_J: u16 = 107;
+
+const BEHIND_L: u16 = 109;
+
+const BEHIND_Q: u16 = 114;
+
+// What five pairs become.
+const FIVE: [Wanted; 3] = [
+    (0, 0, b"", Some(b"c"), 2, 0),
+    (1, 0, b"c", None, 3, 0),
+    (2, 1, b"", None, 2, 0),
+];
+
+// What the pairs of the 17 keys from `a` to `q` become.
+const SEVENTEEN: [Wanted; 8] = [
+    (0, 0, b"", Some(b"e"), 4, 0),
+    (3, 0, b"e", Some(b"i"), 4, 0),
+    (1, 0, b"i", Some(b"m"), 4, 0),
+    (4, 0, b"m", Some(b"o"), 2, 0),
+    (5, 0, b"o", None, 3, 0),
+    (2, 1, b"", Some(b"i"), 2, 0),
+    (6, 1, b"i", None, 3, 0),
+    (7, 2, b"", None, 2, 0),
+];
+
+// The limits of all these tests.
+fn four_pairs() -> Limits {
+    Limits::new(1, 4, 1)
+}
+
+// Whether a page is one of these, or keeps to the limits of a leaf.
+fn is_due_or_within(tree: &Tree, limits: &Limits, pages: &[PageId], page: PageId) -> bool
+    requires { page < length tree.now.heads }
+    ensures { result ≡ true → Contains (row tree.now.levels 0) page →
+        Contains (reverse pages.now) page ⊎ IsWithin limits.now (slot_at tree.now.slots page) }
+{
+    pages.contains(&page)
+        || (tree.count_writes(page) as u64 <= limits.chain_max()
+            && tree.entries(page) as u64 <= limits.page_max())
+}
+
+// Whether each page is one of these, or keeps to the limits of a leaf.
+fn are_within_but(tree: &Tree, limits: &Limits, pages: &[PageId]) -> bool
+    ensures { result ≡ true → AreWithinBut limits.now tree.now (reverse pages.now) }
+{
+    tree.know_records();
+    for page in 0..tree.heads().len() {
+        if !is_due_or_within(tree, limits, pages, PageId(page as u32)) {
+            return false;
+        }
+    }
+    true
+}
+
+// These pages, the first one next.
+fn due_of<R: Abort>(rt: &R, alloc: Alloc, pages: &[PageId]) -> Due
+    ensures { result.pages ≡ reverse pages.now }
+{
+    let mut list = Vec::new(alloc);
+    list.extend_from_slice(pages).expect(rt, "a list");
+    let mut due = Due::new(alloc);
+    due.add(list).expect(rt, "a list");
+    due
+}
+
+// What tidying did that wasn't stopped.
+fn did(consolidated: u64, splits: u64) -> Tidy {
+    Tidy {
+        consolidated,
+        splits,
+        merges: 0,
+        stopped: false,
+    }
+}
+
+// Tidies a tree where these pages are due, and compares what that did.
+fn tidy_does<R: Abort>(rt: &R, alloc: Alloc, tree: &mut Tree, pages: &[PageId], wanted: Tidy)
+    requires { tree.old.staged ≡ None }
+    ensures { tree.new.staged ≡ None }
+{
+    let limits = four_pairs();
+    assert!(rt; are_within_but(tree, &limits, pages));
+    let mut due = due_of(rt, alloc, pages);
+    assert!(rt; tidy_due(tree, &limits, &mut due) == wanted);
+}
+
+#[test]
+fn a_leaf_of_five_pairs_is_split_once(rt: HostRuntime) {
+    let alloc = heap(rt.alloc()).expect(&rt, "memory");
+    let mut tree = five(&rt, alloc);
+    tidy_does(&rt, alloc, &mut tree, &[PageId(0)], did(0, 1));
+    has_pages(&rt, &tree, &FIVE);
+    reads_all(&rt, alloc, &tree);
+    tidy_does(&rt, alloc, &mut tree, &[PageId(0), PageId(1)], did(0, 0));
+    has_pages(&rt, &tree, &FIVE);
+    reads_all(&rt, alloc, &tree);
+}
+
+#[test]
+fn a_leaf_of_seventeen_pairs_is_split_level_by_level(rt: HostRuntime) {
+    let alloc = heap(rt.alloc()).expect(&rt, "memory");
+    let mut tree = tree_of(&rt, alloc, A, &[BEHIND_Q]);
+    tidy_does(&rt, alloc, &mut tree, &[PageId(0)], did(1, 5));
+    has_pages(&rt, &tree, &SEVENTEEN);
+    reads_numbers(&rt, alloc, &tree, A, BEHIND_Q);
+}
+
+#[test]
+fn of_three_leaves_that_are_due_one_is_split(rt: HostRuntime) {
+    let alloc = heap(rt.alloc()).expect(&rt, "memory");
+    let mut tree = tree_of(&rt, alloc, A, &[BEHIND_B, BEHIND_H, BEHIND_J]);
+    let due = [PageId(0), PageId(1), PageId(2)];
+    tidy_does(&rt, alloc, &mut tree, &due, did(0, 1));
+    has_pages(
+        &rt,
+        &tree,
+        &[
+            (0, 0, b"", Some(b"c"), 2, 0),
+            (1, 0, b"c", Some(b"f"), 3, 0),
+            (4, 0, b"f", Some(b"i"), 3, 0),
+            (2, 0, b"i", None, 2, 0),
+            (3, 1, b"", None, 4, 0),
+        ],
+    );
+    reads_numbers(&rt, alloc, &tree, A, BEHIND_J);
+}
+
+#[test]
+fn a_root_with_a_fifth_child_is_split_too(rt: HostRuntime) {
+    let alloc = heap(rt.alloc()).expect(&rt, "memory");
+    let mut tree = tree_of(&rt, alloc, A, &[BEHIND_B, BEHIND_H, BEHIND_J, BEHIND_L]);
+    let due = [PageId(0), PageId(1), PageId(2), PageId(3)];
+    tidy_does(&rt, alloc, &mut tree, &due, did(0, 2));
+    has_pages(
+        &rt,
+        &tree,
+        &[
+            (0, 0, b"", Some(b"c"), 2, 0),
+            (1, 0, b"c", Some(b"f"), 3, 0),
+            (5, 0, b"f", Some(b"i"), 3, 0),
+            (2, 0, b"i", Some(b"k"), 2, 0),
+            (3, 0, b"k", None, 2, 0),
+            (4, 1, b"", Some(b"f"), 2, 0),
+            (6, 1, b"f", None, 3, 0),
+            (7, 2, b"", None, 2, 0),
+        ],
+    );
+    reads_numbers(&rt, alloc, &tree, A, BEHIND_L);
+}
+
+#[test]
+fn a_leaf_of_four_pairs_stays(rt: HostRuntime) {
+    let alloc = heap(rt.alloc()).expect(&rt, "memory");
+    let mut tree = tree_of(&rt, alloc, A, &[BEHIND_D]);
+    tidy_does(&rt, alloc, &mut tree, &[PageId(0), PageId(9)], did(0, 0));
+    has_pages(&rt, &tree, &[(0, 0, b"", None, 4, 0)]);
+    reads_numbers(&rt, alloc, &tree, A, BEHIND_D);
+}
+
+// Both outcomes as one.
+fn both(before: Tidy, after: Tidy) -> Tidy {
+    Tidy {
+        consolidated: before.consolidated.saturating_add(after.consolidated),
+        splits: before.splits.saturating_add(after.splits),
+        merges: before.merges.saturating_add(after.merges),
+        stopped: after.stopped,
+    }
+}
+
+// Tidies a tree of one leaf where this growth is refused, and where it was, tidies it again without a refusal. Compares what
+// that did in all, and what is read in between. Whether the growth was refused.
+fn tidy_refused<R: Abort>(
+    rt: &R,
+    alloc: Alloc,
+    tree: &mut Tree,
+    growth: u64,
+    end: u16,
+    wanted: Tidy,
+) -> bool
+    requires { tree.old.staged ≡ None }
+{
+    let limits = four_pairs();
+    let pages = [PageId(0)];
+    assert!(rt; are_within_but(tree, &limits, &pages));
+    let mut due = due_of(rt, alloc, &pages);
+    alloc.refuse(growth);
+    let mut did = tidy_due(tree, &limits, &mut due);
+    let refused = was_refused(alloc, growth);
+    assert!(rt; did.stopped == refused);
+    reads_numbers(rt, alloc, tree, A, end);
+    if refused {
+        did = both(did, tidy_due(tree, &limits, &mut due));
+    }
+    assert!(rt; did == wanted);
+    refused
+}
+
+// Tidies a leaf of five pairs where this growth is refused. Whether it was.
+fn five_refused<R: Abort>(rt: &R, alloc: Alloc, growth: u64) -> bool {
+    let mut tree = tree_of(rt, alloc, A, &[BEHIND_E]);
+    let refused = tidy_refused(rt, alloc, &mut tree, growth, BEHIND_E, did(0, 1));
+    has_pages(rt, &tree, &FIVE);
+    reads_numbers(rt, alloc, &tree, A, BEHIND_E);
+    refused
+}
+
+#[test]
+fn each_growth_of_a_split_leaf_is_refused(rt: HostRuntime) {
+    let alloc = heap(rt.alloc()).expect(&rt, "memory");
+    for growth in 1..1000 {
+        if !five_refused(&rt, alloc, growth) {
+            assert!(rt; growth > 6);
+            return;
+        }
+    }
+    panic!(rt; "no run met no refusal")
+}
+
+// Tidies a leaf of 17 pairs where this growth is refused. Whether it was.
+fn seventeen_refused<R: Abort>(rt: &R, alloc: Alloc, growth: u64) -> bool {
+    let mut tree = tree_of(rt, alloc, A, &[BEHIND_Q]);
+    let refused = tidy_refused(rt, alloc, &mut tree, growth, BEHIND_Q, did(1, 5));
+    has_pages(rt, &tree, &SEVENTEEN);
+    reads_numbers(rt, alloc, &tree, A, BEHIND_Q);
+    refused
+}
+
+#[test]
+fn each_growth_of_leaves_and_pages_above_is_refused(rt: HostRuntime) {
+    let alloc = heap(rt.alloc()).expect(&rt, "memory");
+    for growth in 1..1000 {
+        if !seventeen_refused(&rt, alloc, growth) {
+            assert!(rt; growth > 12);
+            return;
+        }
+    }
+    panic!(rt; "no run met no refusal")
+}
+
+// Tidies a leaf of five pairs where this growth is refused. Where that leaves two leaves without a root over them, all pairs
+// are read, and tidying again puts it there. Whether it left them so.
+fn root_refused<R: Abort>(rt: &R, alloc: Alloc, growth: u64) -> bool {
+    let limits = four_pairs();
+    let mut tree = five(rt, alloc);
+    assert!(rt; are_within_but(&tree, &limits, &[PageId(0)]));
+    let mut due = due_of(rt, alloc, &[PageId(0)]);
+    alloc.refuse(growth);
+    let stopped = tidy_due(&mut tree, &limits, &mut due);
+    alloc.refuse(0);
+    if !stopped.stopped || tree.heads().len() != 2 {
+        return false;
+    }
+    assert!(rt; (stopped.consolidated, stopped.splits) == (0, 1));
+    has_pages(
+        rt,
+        &tree,
+        &[(0, 0, b"", Some(b"c"), 2, 0), (1, 0, b"c", None, 3, 0)],
+    );
+    reads_all(rt, alloc, &tree);
+    assert!(rt; tidy_due(&mut tree, &limits, &mut due) == did(0, 0));
+    has_pages(rt, &tree, &FIVE);
+    reads_all(rt, alloc, &tree);
+    true
+}
+
+#[test]
+fn a_refused_root_is_put_there_by_the_next_tidying(rt: HostRuntime) {
+    let alloc = heap(rt.alloc()).expect(&rt, "memory");
+    let mut runs = 0u64;
+    for growth in 1..100 {
+        if root_refused(&rt, alloc, growth) {
+            runs = runs.saturating_add(1);
+        }
+    }
+    assert!(rt; runs > 0);
+}
+
+// How many pairs the largest leaf has, from this number on, each of whose keys has two bytes.
+const MANY: u16 = 4096;
+
+const FROM: u16 = 4096;
+
+#[test]
+fn a_leaf_of_many_pairs_becomes_levels_of_small_pages(rt: HostRuntime) {
+    let alloc = heap(rt.alloc()).expect(&rt, "memory");
+    let mut tree = tree_of(&rt, alloc, FROM, &[FROM + MANY]);
+    tidy_does(&rt, alloc, &mut tree, &[PageId(0)], did(511, 1359));
+    let pages = tree.shape().expect(&rt, "the pages");
+    assert!(rt; pages.len() == 1365);
+    assert!(rt; abut_within(&pages, 4));
+    reads_numbers(&rt, alloc, &tree, FROM, FROM + MANY);
+}

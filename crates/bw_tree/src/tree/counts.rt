@@ -1,0 +1,28 @@
+// How much a page has.
+ghost use Rattle.std.specs.Prelude.{◌≡◌, ◌<◌, length};
+ghost use Rattle.bw_chain.specs.Reading.{writes_over};
+ghost use Rattle.bw_chain.specs.Slots.{slot_at};
+ghost use Rattle.bw_chain.specs.Splits.{slot_entries};
+
+use super::Tree;
+use bw_page::PageId;
+
+impl Tree {
+    /// How many entries a page has under its writes: the pairs of a leaf, or the children of an inner page. It costs a walk
+    /// along the page's chain and, where the page was split or given a child, a binary search. It takes no memory.
+    pub fn entries(&self, page: PageId) -> usize
+        requires { page < length self.now.heads }
+        ensures { result ≡ slot_entries (slot_at self.now.slots page) }
+    {
+        self.chains.count_entries(self.heads[page.0 as usize])
+    }
+
+    /// How many writes a page has over its base page; an inner page has none. It costs a walk along the page's chain, and
+    /// takes no memory.
+    pub fn count_writes(&self, page: PageId) -> usize
+        requires { page < length self.now.heads }
+        ensures { result ≡ length (writes_over (slot_at self.now.slots page)) }
+    {
+        self.chains.count_writes(self.heads[page.0 as usize])
+    }
+}
