@@ -5,3 +5,4 @@ pub mod Stages
 pub mod View
 pub mod Sweeps
 pub mod Outcomes
+pub mod Trees

@@ -14,7 +14,7 @@ use bw_memory::Alloc;
 use bw_model::{Op, Pairs, Refusal, Replies};
 use bw_post::Gate;
 use bw_shape::{Due, Tidy, all_pages, sweep_due, tidy_due};
-use bw_tree::{Leaf, Tree};
+use bw_tree::{Leaf, PageShape, Tree};
 use std::marker::Model;
 use std::thread::Threads;
 
@@ -83,6 +83,7 @@ impl Index {
     ghost use Rattle.bw_batch.specs.View.{contents_of, settings_of, next_stamp_of};
     ghost use Rattle.bw_batch.specs.Sweeps.{base_of, is_sweep_due, records_before};
     ghost use Rattle.bw_batch.specs.Outcomes.{batches_of, outcomes_of, AreCounted, ChangesInTurn};
+    ghost use Rattle.bw_batch.specs.Trees.{IsShapeOf, IsTreeOf};
     ghost use Rattle.bw_model.specs.Model.{replies_of, contents_after};
     ghost use Rattle.bw_model.specs.Runs.{AnswersInTurn, left_in_turn};
 
@@ -107,7 +108,7 @@ impl Index {
     }
 
     /// The index over a tree, with what it holds. The tree has no staged batch. All its pages are due, so the next batch that
-    /// is accepted has them looked at; this costs the list of all pages (`Tree::shape`). After `Memory` the tree is gone.
+    /// is accepted has them looked at; this costs the list of all pages. After `Memory` the tree is gone.
     ///
     /// The tree, its keys and its values should be made on `alloc` too: they stay where they were made, and so do their
     /// copies.
@@ -294,6 +295,18 @@ impl Index {
         pairs_from(&self.tree, &from)
     }
 
+    /// The pages of the tree on which the index stands: those of all levels, the lowest level first, each level in the order
+    /// of keys. How the pairs lie on pages depends on the limits and on what memory was left for tidying.
+    ///
+    /// It is for people and tests, and costs what `Tree::shape` does: all pairs are copied, a page's at a time. `Memory` is
+    /// answered where a list, a map or a copy finds none.
+    pub fn shape(&self) -> Result<Vec<PageShape, Alloc>, Memory>
+        ensures { IfOk result (λ shape. IsShapeOf self.now shape.items) }
+    {
+        self.tree.know_levels();
+        self.tree.shape()
+    }
+
     /// The tree on which the index stands, which has no staged batch: to see its pages and how long chains are, and to read as
     /// of its next stamp. Each leaf that isn't due is within the limits.
     pub fn tree(&self) -> &Tree
@@ -303,7 +316,9 @@ impl Index {
         ensures records { result.now.records ≡ self.now.records }
         ensures staged { result.now.staged ≡ None }
         ensures within { AreWithinBut (limits_of (settings_of self.now)) result.now self.now.due }
+        ensures whole { IsTreeOf self.now result.now }
     {
+        self.tree.know_levels();
         &self.tree
     }
 }

@@ -4,8 +4,10 @@
 //! which are drawn from a seed: gets, then gets and upserts in equal parts, and then scans of 32 pairs and upserts in equal
 //! parts. With no word there are few keys, and how many replies of the two are the same is printed. With the word `time`
 //! there are 10,000 keys and 1,000,000, and batches of 65,536 operations: then the times in the middle are printed, and the
-//! ratio of the index's to the map's. Beside it stands the ratio of all times together, since the index folds its chains
-//! after some batches only. With the word `small` batches of 1, 8, 64 and 1,024 operations are timed in the same way.
+//! ratio of the index's to the map's. Beside it stands the ratio of all times together. With the word `small` batches of 1,
+//! 8, 64 and 1,024 operations are timed in the same way. With the word `insert` an empty index and an empty map get
+//! 1,048,576 keys, rising ones and scattered ones, by batches of 65,536 and of 64; then the time of the
+//! slowest batch is printed, too.
 #![tactic(auto)]
 
 ghost use Rattle.std.specs.Prelude.{◌<◌};
@@ -20,7 +22,7 @@ use std::env;
 use std::num::nearest_u64_to_f64;
 use std::thread::Threads;
 use std::time::{Clock, Duration, Instant};
-use workload::{Kind, Random, answer, drawn, leaves_for, upserts};
+use workload::{Kind, Order, Random, answer, drawn, leaves_for, upserts};
 
 // Operations of the longest batch.
 const BATCH: u64 = 65_536;
@@ -55,6 +57,25 @@ const LARGE: Load = Load {
 const SIZES: [u64; 4] = [1, 8, 64, 1024];
 
 const SMALL_ROUNDS: u64 = 1001;
+
+// How many keys are put in an empty index.
+const FRESH: u64 = 1 << 20;
+
+// So many records that no sweep is due while they are put, and so few that some are.
+const RECORDS: u64 = 1 << 24;
+
+const FEW_RECORDS: u64 = 1 << 18;
+
+// So many keys, once each, by batches of so many.
+fn fresh(keys: u64, operations: u64) -> Load
+    requires { 0 < operations }
+{
+    Load {
+        keys,
+        operations,
+        rounds: keys.div_ceil(operations),
+    }
+}
 
 /// An index and a map with the same pairs.
 #[derive(Drop)]
@@ -119,7 +140,8 @@ fn filled<R: Threads + Clock + Sync>(
     for place in 0..keys.div_ceil(BATCH) {
         let from = place.saturating_mul(BATCH);
         let to = from.saturating_add(BATCH).min(keys);
-        run_batch(rt, alloc, &mut both, &upserts(alloc, from, to)?, &mut runs)?;
+        let ops = upserts(alloc, Order::Rising, from, to)?;
+        run_batch(rt, alloc, &mut both, &ops, &mut runs)?;
     }
     Ok(both)
 }
@@ -132,6 +154,18 @@ fn nanoseconds(times: &mut Vec<Duration, Alloc>, operations: u64) -> Result<(f64
     let all = times.iter().fold(0.0, |sum, time| sum + time.as_secs_f64());
     let mean = all / nearest_u64_to_f64(times.len() as u64);
     Ok((middle.as_secs_f64() * each, mean * each))
+}
+
+// Prints the times of batches, in nanoseconds an operation.
+fn print_times<R: Print>(rt: &R, runs: &mut Runs, operations: u64) -> Result<()> {
+    let (index, index_mean) = nanoseconds(&mut runs.index, operations)?;
+    let (map, map_mean) = nanoseconds(&mut runs.map, operations)?;
+    println!(rt; "    middle {index:7.1} / {map:7.1} = {:.2}", index / map)?;
+    println!(rt;
+        "    mean   {index_mean:7.1} / {map_mean:7.1} = {:.2}",
+        index_mean / map_mean
+    )?;
+    Ok(())
 }
 
 // Runs batches of one kind, and prints what came of them.
@@ -155,13 +189,7 @@ fn print_kind<R: Threads + Clock + Sync + Print>(
     let all = load.rounds.saturating_mul(load.operations);
     println!(rt; "  {words}: {} of {all} replies are the map's", runs.same)?;
     if is_timed {
-        let (index, index_mean) = nanoseconds(&mut runs.index, load.operations)?;
-        let (map, map_mean) = nanoseconds(&mut runs.map, load.operations)?;
-        println!(rt; "    middle {index:7.1} / {map:7.1} = {:.2}", index / map)?;
-        println!(rt;
-            "    mean   {index_mean:7.1} / {map_mean:7.1} = {:.2}",
-            index_mean / map_mean
-        )?;
+        print_times(rt, &mut runs, load.operations)?;
     }
     Ok(())
 }
@@ -203,11 +231,86 @@ fn print_small<R: Threads + Clock + Sync + Print>(rt: &R, alloc: Alloc, keys: u6
     Ok(())
 }
 
+// Puts keys in an empty index and an empty map, by batches of so many, and answers what came of them.
+fn inserted<R: Threads + Clock + Sync>(
+    rt: &R,
+    alloc: Alloc,
+    order: Order,
+    load: Load,
+    record_max: u64,
+) -> Result<Runs> {
+    let options = Options::new(1, 64, 8, 64, 16, BATCH, record_max)?;
+    let mut both = Both {
+        index: Index::new(alloc, options)?,
+        map: BTreeMap::new(alloc),
+    };
+    let mut runs = no_runs(alloc);
+    for place in 0..load.rounds {
+        let from = place.saturating_mul(load.operations);
+        let to = from.saturating_add(load.operations).min(load.keys);
+        let ops = upserts(alloc, order, from, to)?;
+        run_batch(rt, alloc, &mut both, &ops, &mut runs)?;
+    }
+    Ok(runs)
+}
+
+// The longest of some times, in milliseconds.
+fn longest(times: &[Duration]) -> f64 {
+    times
+        .iter()
+        .fold(0.0, |most, time| time.as_secs_f64().max(most))
+        * 1e3
+}
+
+// Puts keys in one order, and prints what came of it.
+fn print_inserts<R: Threads + Clock + Sync + Print>(
+    rt: &R,
+    alloc: Alloc,
+    order: Order,
+    load: Load,
+    record_max: u64,
+    is_timed: bool,
+) -> Result<()> {
+    let words = order.words();
+    println!(rt;
+        "{} fresh keys, {words}, batches of {}, at most {record_max} records:",
+        load.keys, load.operations
+    )?;
+    let mut runs = inserted(rt, alloc, order, load, record_max)?;
+    println!(rt; "  {} of {} replies are the map's", runs.same, load.keys)?;
+    if is_timed {
+        let (index_longest, map_longest) = (longest(&runs.index), longest(&runs.map));
+        print_times(rt, &mut runs, load.operations)?;
+        println!(rt; "    longest {index_longest:.2} ms / {map_longest:.2} ms")?;
+    }
+    Ok(())
+}
+
+// Puts many keys in an empty index, in both orders.
+fn print_all_inserts<R: Threads + Clock + Sync + Print>(rt: &R, alloc: Alloc) -> Result<()> {
+    for order in [Order::Rising, Order::Scattered] {
+        print_inserts(rt, alloc, order, fresh(FRESH, BATCH), RECORDS, true)?;
+        print_inserts(rt, alloc, order, fresh(FRESH, 64), RECORDS, true)?;
+        print_inserts(rt, alloc, order, fresh(FRESH, BATCH), FEW_RECORDS, true)?;
+    }
+    Ok(())
+}
+
 fn main(rt: HostRuntime) -> Result<()> {
     let alloc = Heap::new(rt.alloc()).leak(rt.alloc())?;
     let words = env::args(&rt)?.skip(1).collect::<Vec<String>>(rt.alloc())?;
     match words.as_slice() {
-        [] => print_load(&rt, alloc, BRIEF, false),
+        [] => {
+            print_load(&rt, alloc, BRIEF, false)?;
+            print_inserts(
+                &rt,
+                alloc,
+                Order::Scattered,
+                fresh(1000, 64),
+                RECORDS,
+                false,
+            )
+        }
         [word] if word.as_str() == "time" => {
             print_load(&rt, alloc, SMALL, true)?;
             print_load(&rt, alloc, LARGE, true)
@@ -216,6 +319,7 @@ fn main(rt: HostRuntime) -> Result<()> {
             print_small(&rt, alloc, SMALL.keys)?;
             print_small(&rt, alloc, LARGE.keys)
         }
-        _ => bail!("usage: bw_batch_bench [time|small]"),
+        [word] if word.as_str() == "insert" => print_all_inserts(&rt, alloc),
+        _ => bail!("usage: bw_batch_bench [time|small|insert]"),
     }
 }

@@ -89,11 +89,36 @@ pub fn leaves_for(alloc: Alloc, keys: u64) -> Result<Vec<Leaf, Alloc>>
     Ok(leaves)
 }
 
-/// Upserts of the keys of the numbers from `from` on and below `to`.
-pub fn upserts(alloc: Alloc, from: u64, to: u64) -> Result<Vec<Op, Alloc>> {
+/// The order in which keys come.
+#[derive(Clone, Copy, PartialEq, Eq)]
+pub enum Order {
+    Rising,
+    Scattered,
+}
+
+impl Order {
+    /// Its words in what is printed.
+    pub fn words(self) -> &'static str {
+        match self {
+            Order::Rising => "rising",
+            Order::Scattered => "scattered",
+        }
+    }
+
+    // The number of the key that comes at a place. No two places have one.
+    fn number(self, place: u64) -> u64 {
+        match self {
+            Order::Rising => place,
+            Order::Scattered => place.wrapping_mul(0x9e37_79b9_7f4a_7c15),
+        }
+    }
+}
+
+/// Upserts of the keys that come from place `from` on and before `to`.
+pub fn upserts(alloc: Alloc, order: Order, from: u64, to: u64) -> Result<Vec<Op, Alloc>> {
     let mut ops = Vec::new(alloc);
-    for number in from..to {
-        ops.push(upsert(alloc, number, number)?)?;
+    for place in from..to {
+        ops.push(upsert(alloc, order.number(place), place)?)?;
     }
     Ok(ops)
 }

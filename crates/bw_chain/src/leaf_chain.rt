@@ -37,9 +37,9 @@ impl<'a> LeafChain<'a> {
         Replay::new(alloc, &[self.base], self.end, &self.writes)
     }
 
-    /// The pairs as of a stamp, from a key on and below another: a copy of those of the base page, in an ordered map, in
-    /// which the writes have their effects in the order of their stamps. `Memory` is answered where a list, the map or a
-    /// copy finds none.
+    /// The pairs as of a stamp, from a key on and below another: those of the base page, merged with the writes below the
+    /// stamp. The m writes in that range are sorted, in about m log2 m key comparisons, and each pair is copied once.
+    /// `Memory` is answered where a list or a copy finds none.
     pub fn pairs_as_of(
         &self,
         alloc: Alloc,

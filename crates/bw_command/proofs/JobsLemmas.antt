@@ -6,9 +6,10 @@ use Rattle.std.specs.Io.KnownBytes.{Appends, Consumes, IsAtEnd}
 use Rattle.bw_batch.specs.Settings.{Settings}
 use Rattle.bw_model.specs.Runs.{Outcome}
 use Rattle.bw_command.specs.Jobs.{IsOutOfMemory}
+use Rattle.bw_trace.specs.Ends.{IsEndText}
 use Rattle.bw_trace.specs.Grammar.{first_place}
 use Rattle.bw_trace.specs.Running.{IsRun, left_by_run, summary_of}
-use Rattle.bw_trace.specs.Texts.{batches_text, end_text}
+use Rattle.bw_trace.specs.Texts.{batches_text}
 use Rattle.bw_trace.specs.Traces.{trace_from, no_trace}
 use Rattle.bw_trace.specs.declared.faults.TraceFault.{TraceFault}
 use Rattle.bw_trace.specs.declared.places.Place.{Place}
@@ -19,7 +20,8 @@ use Rattle.bw_trace.specs.declared.summaries.Summary.{Summary}
 abbrev IsDoneFrom : Settings → Job → Place → List ℕ → Option (List ℕ) → Option (List ℕ) → Summary → Type 0
 IsDoneFrom settings job place bytes old new summary =
     (outcomes : List Outcome) × ((run : IsRun settings.batch_max (trace_from place bytes) outcomes no_trace)
-    × (summary ≡ summary_of outcomes) × Appends old new (batches_text job outcomes ++ end_text job (left_by_run run)))
+    × (summary ≡ summary_of outcomes) × ((end : List ℕ) × IsEndText job settings.page_max (left_by_run run) end
+    × Appends old new (batches_text job outcomes ++ end)))
 
 of_all : (settings : Settings) (job : Job) (place : Place) (read : List ℕ) (input now old new : Option (List ℕ)) (summary : Summary) → place ≡ first_place →
     Consumes input now read → IsAtEnd now → IsDoneFrom settings job place read old new summary → IfSome input (λ bytes. IsDoneFrom settings job first_place bytes old new summary)

@@ -16,7 +16,7 @@ pub some_words : JobWords
 some_words = record {
   words = record {
     ref_ptr = (0, 0);
-    now = record { ref_ptr = (0, 0); now = codes "run" } ∷ record { ref_ptr = (0, 0); now = codes "dump" } ∷ [];
+    now = record { ref_ptr = (0, 0); now = codes "run" } ∷ record { ref_ptr = (0, 0); now = codes "dump" } ∷ record { ref_ptr = (0, 0); now = codes "shape" } ∷ record { ref_ptr = (0, 0); now = codes "picture" } ∷ [];
   };
   are = refl;
 }

@@ -6,7 +6,7 @@ use Rattle.std.specs.Str.Parse.{digits_value, without_leading_plus}
 use Rattle.bw_command.specs.declared.request.Limits.{Limits}
 use Rattle.bw_command.specs.declared.request.Request.{Request}
 use Rattle.bw_trace.specs.declared.jobs.Job.{Job}
-use Rattle.bw_trace.specs.declared.jobs.Job.TheVariants.{Run, Dump}
+use Rattle.bw_trace.specs.declared.jobs.Job.TheVariants.{Run, Dump, Shape, Picture}
 use Rattle.clap.specs.Words.{App, Kinds, Row, Rule, Text, fault_of, first_of, matches_of, new_app, new_rule, one_of}
 use Rattle.clap.specs.ValueTests.{is_unsigned_in}
 use Rattle.clap.specs.declared.builder.value_parser.ValueParser.TheVariants as vp
@@ -18,9 +18,9 @@ use Rattle.clap.specs.declared.error.kind.ErrorKind.TheVariants as kind
 -- the words that stand for a job, somewhere in memory
 pub record JobWords : Type 0 where
   pub words : Bor (List (Bor Text))
-  pub are : map (λ w. w.now) words.now ≡ codes "run" ∷ codes "dump" ∷ []
+  pub are : map (λ w. w.now) words.now ≡ codes "run" ∷ codes "dump" ∷ codes "shape" ∷ codes "picture" ∷ []
 
--- the job: `run` or `dump`, which may not be left out
+-- the job, which may not be left out
 abbrev pub job_rule : JobWords → Rule
 job_rule jobs = record (new_rule (codes "JOB")) { required = true; parser = Some (vp.Names jobs.words) }
 
@@ -74,7 +74,10 @@ values_in jobs words = matches_of (program_of jobs) words
 
 abbrev pub job_named : Option Text → Job
 job_named None = Run
-job_named (Some word) = if bytes_eq word (codes "dump") then Dump else Run
+job_named (Some word) = if bytes_eq word (codes "dump") then Dump
+    else if bytes_eq word (codes "shape") then Shape
+    else if bytes_eq word (codes "picture") then Picture
+    else Run
 
 abbrev pub job_of : List Row → Job
 job_of values = job_named (first_of (codes "JOB") values)

@@ -5,10 +5,11 @@ use Rattle.std.specs.Io.KnownBytes.{Appends}
 use Rattle.bw_batch.specs.Settings.{Settings}
 use Rattle.bw_model.specs.Runs.{Outcome}
 use Rattle.bw_trace.specs.Counts.{HasRisenBy}
+use Rattle.bw_trace.specs.Ends.{IsEndText}
 use Rattle.bw_trace.specs.Grammar.{first_place}
 use Rattle.bw_trace.specs.Running.{IsRun, left_by_run, summary_of}
 use Rattle.bw_trace.specs.Statuses.{status_of}
-use Rattle.bw_trace.specs.Texts.{batches_text, end_text}
+use Rattle.bw_trace.specs.Texts.{batches_text}
 use Rattle.bw_trace.specs.Traces.{Trace, trace_from, cut_trace_from, no_trace, faulty}
 use Rattle.bw_trace.specs.Writing.{IsFront, TakesFront}
 use Rattle.bw_trace.specs.declared.faults.Cause.{Cause}
@@ -16,11 +17,12 @@ use Rattle.bw_trace.specs.declared.jobs.Job.{Job}
 use Rattle.bw_trace.specs.declared.summaries.Summary.{Summary}
 
 -- The bytes are a trace without a fault, its batches had outcomes of which this is the summary, and the job's texts of
--- them were written.
+-- them and of what they left were written.
 abbrev pub IsDone : Settings → Job → List ℕ → Option (List ℕ) → Option (List ℕ) → Summary → Type 0
 IsDone settings job bytes old new summary =
     (outcomes : List Outcome) × ((run : IsRun settings.batch_max (trace_from first_place bytes) outcomes no_trace)
-    × (summary ≡ summary_of outcomes) × Appends old new (batches_text job outcomes ++ end_text job (left_by_run run)))
+    × (summary ≡ summary_of outcomes) × ((end : List ℕ) × IsEndText job settings.page_max (left_by_run run) end
+    × Appends old new (batches_text job outcomes ++ end)))
 
 -- The line of this number is their first faulty one, and the job's texts of the batches before it were written.
 abbrev pub IsFaulty : Settings → Job → List ℕ → Option (List ℕ) → Option (List ℕ) → ℕ → Cause → Type 0

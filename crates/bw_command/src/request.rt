@@ -55,14 +55,26 @@ pub struct Request<'a> {
     pub file: Option<&'a str>,
 }
 
-static JOBS: [&str; 2] = ["run", "dump"];
+static JOBS: [&str; 4] = ["run", "dump", "shape", "picture"];
 
 const USAGE: &str = "bw_run run [OPTIONS] [FILE]
-       bw_run dump [OPTIONS] [FILE]";
+       bw_run dump [OPTIONS] [FILE]
+       bw_run shape [OPTIONS] [FILE]
+       bw_run picture [OPTIONS] [FILE]";
 
 const ABOUT: &str = "Runs a trace of operations on an ordered index from keys to values.";
 
-const AFTER: &str = "A trace has one operation on a line:
+const AFTER: &str = "The jobs:
+  run      prints the reply to each operation, batch by batch
+  dump     prints at the end how many pairs the index holds, and the pairs in key order
+  shape    prints at the end a line for each page of the index, the leaves first:
+             leaf LOW HIGH PAIRS WRITES     the pairs from LOW on and below HIGH, and how
+                                            many writes stand before the leaf's page
+             inner LEVEL LOW HIGH CHILDREN  a page so many levels above the leaves
+           A HIGH of * is no end.
+  picture  writes at the end a picture of these pages to standard output, an SVG text
+
+A trace has one operation on a line:
   upsert apple 7      puts the value 7 at the key apple
   insert apple 7      puts it where the key has none
   update apple 8      puts it where the key has one
@@ -79,6 +91,7 @@ or by % and hexadecimal digits. Behind a first line `bw 2` values are spelled so
 
 Try it:
   printf 'upsert apple 7\\nget apple\\n' | bw_run run
+  bw_run picture trace > tree.svg
 
 The status is 0 where all went well, 1 where reading, writing or memory failed, 2 for other
 words, 3 at a faulty line, and 4 where a batch was refused.";
@@ -123,7 +136,15 @@ fn job_in(matches: &ArgMatches<'_>) -> Job
 fn job_named(word: &str) -> Job
     ensures { result ≡ job_named (Some word.now) }
 {
-    if word == "dump" { Job::Dump } else { Job::Run }
+    if word == "dump" {
+        Job::Dump
+    } else if word == "shape" {
+        Job::Shape
+    } else if word == "picture" {
+        Job::Picture
+    } else {
+        Job::Run
+    }
 }
 
 fn file_in<'a>(matches: &ArgMatches<'a>) -> Option<&'a str>
@@ -167,7 +188,7 @@ fn program<'a>(global: Global) -> Result<Command<'a>, AllocError>
         .required(true)
         .value_parser(JOBS.as_slice())
         .help(
-            "run prints the reply to each operation; dump prints at the end what the index holds",
+            "What is printed: the replies, what the index holds at the end, its pages, or a picture of them",
         );
     let file = Arg::new(global, "FILE")
         .default_value("-")

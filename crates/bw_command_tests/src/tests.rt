@@ -2,6 +2,7 @@
 // and its statuses, which the contracts state in part.
 mod asker;
 mod commands;
+mod ends;
 mod examples;
 mod faults;
 mod files;
@@ -10,6 +11,8 @@ mod hostile;
 mod lines;
 mod memory;
 mod options;
+mod pictures;
 mod ports;
+mod shapes;
 mod traces;
 mod words;

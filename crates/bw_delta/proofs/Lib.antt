@@ -9,3 +9,5 @@ pub mod ContentsAsOf
 pub mod Readings
 pub mod Replays
 pub mod Stagings
+pub mod Merges
+pub mod Dues

@@ -52,8 +52,12 @@ impl<'a> Entries<'a> {
     }
 }
 
-// Adds a copy of a pair to a list.
-fn push_copy(read: &mut Vec<(Key, Value), Alloc>, key: &Key, value: &Value) -> Result<(), Memory>
+/// Adds a copy of a pair to a list.
+pub(crate) fn push_copy(
+    read: &mut Vec<(Key, Value), Alloc>,
+    key: &Key,
+    value: &Value,
+) -> Result<(), Memory>
     ensures added { OnOk result (read.new.items ≡ read.old.items ++ (key.now, value.now) ∷ []) }
     ensures same { OnErr result (read.new.items ≡ read.old.items) }
 {

@@ -1,17 +1,20 @@
 // The pairs of a page as of a stamp.
-ghost use Rattle.std.specs.Prelude.{◌≡◌, ◌≤◌, T, true, false, drop, length, map, filter, IfOk, OnOk, Some, None, if◌then◌else◌};
+ghost use Rattle.std.specs.Prelude.{◌≡◌, ◌≤◌, ◌++◌, T, true, false, [], ◌∷◌, drop, length, map, filter, IfOk, OnOk, Option, Some, None, if◌then◌else◌};
 ghost use Rattle.std.specs.Option.{option_copied, option_or};
 ghost use Rattle.std.specs.FinMap.{find, is_sorted};
 ghost use Rattle.std.specs.BTreeMap as tree;
 ghost use Rattle.bw_key.specs.Order.{KeyBytes, key_cmp, key_eq};
 ghost use Rattle.bw_model.specs.Contents.{is_in_range, is_pair_in_range};
 ghost use Rattle.bw_model.specs.Actions.{effect};
+ghost use Rattle.bw_model.specs.Values.{ValueBytes};
 ghost use Rattle.bw_delta.specs.Batches.{writes_to};
 ghost use Rattle.bw_delta.specs.History.{history, action_at, pointed_to, HasDistinctStamps};
+ghost use Rattle.bw_delta.specs.Merging.{after_writes, is_due, AreFrom};
 ghost use Rattle.bw_delta.specs.Pairs.{ArePairsAsOf, parts_of, value_in_parts};
 ghost use Rattle.bw_delta.specs.Readings.{from_stamp};
 ghost use Rattle.bw_delta.specs.Rising.{HasRisingStamps};
 
+use crate::merging::merged;
 use crate::reading::{copied, in_order};
 use crate::writes::Write;
 use bw_key::{Key, Memory};
@@ -24,10 +27,48 @@ use std::collections::BTreeMap;
 /// value, with it. A key's value is that of the first part that has the key, under the writes of the key with a
 /// smaller stamp, applied in the order of their stamps. The slice of writes may have any order.
 ///
-/// The n pairs of the range and m writes go through an ordered map, in about (n + m) log (n + m) key comparisons; a pair
-/// outside the range costs two. The value of each pair of the range is copied once, and once more for each write that
-/// leaves one. `Memory` is answered where the map, a copy or the list finds none.
+/// The writes of the range below the stamp are sorted by key, and merged with the pairs of one part. For m of them and n
+/// pairs that takes about m log2 m + m log2 n key comparisons, and a pair outside the range none of its own. Each pair is
+/// copied once, with the last value of its key, into a list whose memory is taken at once. Several parts and the writes
+/// go through an ordered map, in about (n + m) log2 (n + m) key comparisons, with a copy for each value that is put.
+/// `Memory` is answered where a list, a map or a copy finds none.
 pub fn leaf_as_of(
+    alloc: Alloc,
+    parts: &[&Leaf],
+    low: &Key,
+    high: Option<&Key>,
+    writes: &[&Write],
+    stamp: u64,
+) -> Result<Pairs, Memory>
+    requires { HasDistinctStamps (pointed_to writes.now) }
+    ensures { IfOk result (λ pairs. ArePairsAsOf (parts_of parts.now) low.now (option_copied high.entry)
+        (pointed_to writes.now) stamp pairs) }
+{
+    if parts.len() == 1 {
+        return leaf_under_writes(alloc, parts[0], low, high, writes, stamp);
+    }
+    parts_under_writes(alloc, parts, low, high, writes, stamp)
+}
+
+// The pairs of one part, merged with the writes.
+fn leaf_under_writes(
+    alloc: Alloc,
+    leaf: &Leaf,
+    low: &Key,
+    high: Option<&Key>,
+    writes: &[&Write],
+    stamp: u64,
+) -> Result<Pairs, Memory>
+    requires { HasDistinctStamps (pointed_to writes.now) }
+    ensures { IfOk result (λ pairs. ArePairsAsOf (leaf.now ∷ []) low.now (option_copied high.entry)
+        (pointed_to writes.now) stamp pairs) }
+{
+    let due = due_by_key(alloc, writes, low, high, stamp)?;
+    merged(alloc, leaf.between(low, high), &due)
+}
+
+// The pairs of any number of parts, in a map in which the writes have their effects.
+fn parts_under_writes(
     alloc: Alloc,
     parts: &[&Leaf],
     low: &Key,
@@ -44,6 +85,61 @@ pub fn leaf_as_of(
     put_parts(&mut values, parts, low, high)?;
     put_writes(&mut values, &ordered, stamp)?;
     in_range(alloc, values, low, high)
+}
+
+// The writes of a range below a stamp, sorted by key, and those of one key by their stamps. One after another they have
+// the effects that the history tells, without a look at stamps.
+fn due_by_key<'a>(
+    alloc: Alloc,
+    writes: &[&'a Write],
+    low: &Key,
+    high: Option<&Key>,
+    stamp: u64,
+) -> Result<Vec<&'a Write, Alloc>, Memory>
+    requires { HasDistinctStamps (pointed_to writes.now) }
+    ensures ordered { IfOk result (λ due. AreFrom [] (pointed_to due.items)) }
+    ensures values { IfOk result (λ due. (q : KeyBytes) (start : Option ValueBytes) →
+        after_writes start (writes_to q (pointed_to due.items)) ≡ (if is_in_range low.now (option_copied high.entry) q
+        then history start (action_at (writes_to q (pointed_to writes.now))) stamp else start)) }
+{
+    let mut due = due_writes(alloc, writes, low, high, stamp)?;
+    due.sort_unstable_by(|a, b| a.key.cmp(&b.key).then(a.stamp.cmp(&b.stamp)));
+    Ok(due)
+}
+
+// The writes of a range below a stamp.
+fn due_writes<'a>(
+    alloc: Alloc,
+    writes: &[&'a Write],
+    low: &Key,
+    high: Option<&Key>,
+    stamp: u64,
+) -> Result<Vec<&'a Write, Alloc>, Memory>
+    ensures { IfOk result (λ due. pointed_to due.items
+        ≡ filter (is_due low.now (option_copied high.entry) stamp) (pointed_to writes.now)) }
+{
+    let mut due = Vec::with_capacity(alloc, writes.len())?;
+    for write in writes {
+        push_due(&mut due, write, low, high, stamp)?;
+    }
+    Ok(due)
+}
+
+// Adds a write, where it is below a stamp and its key in a range.
+fn push_due<'a>(
+    due: &mut Vec<&'a Write, Alloc>,
+    write: &'a Write,
+    low: &Key,
+    high: Option<&Key>,
+    stamp: u64,
+) -> Result<(), Memory>
+    ensures { OnOk result (pointed_to due.new.items ≡ pointed_to due.old.items
+        ++ filter (is_due low.now (option_copied high.entry) stamp) (write.now ∷ [])) }
+{
+    if write.stamp < stamp && is_within(&write.key, low, high) {
+        due.push(write)?;
+    }
+    Ok(())
 }
 
 /// Puts the pairs of the parts whose keys are in a range in a map, of two with one key that of the first part.

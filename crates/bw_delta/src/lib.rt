@@ -10,6 +10,7 @@ mod deltas;
 mod entries;
 mod folding;
 mod laws;
+mod merging;
 mod present;
 mod reading;
 mod replay;

@@ -3,6 +3,7 @@
 mod arenas;
 mod drops;
 mod making;
+mod merges;
 mod readings;
 mod refused;
 mod replays;

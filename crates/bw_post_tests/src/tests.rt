@@ -1,5 +1,5 @@
 // Batches posted to the pages of a tree, adopted, and then accepted or undone.
-mod folding;
+mod consolidation;
 mod half_done;
 mod making;
 mod rows;

@@ -1,3 +1,6 @@
 pub mod FinishLemmas
 pub mod SweepLemmas
+pub mod NamingLemmas
+pub mod PartLemmas
 pub mod TidyLemmas
+pub mod WholeLemmas

@@ -1,5 +1,5 @@
 -- What tidying keeps, step by step: what the tree holds, and which leaves are within the limits.
-use Rattle.std.proofs.Common.{inl, inr, ◌⊎◌, ◌≡◌, ℕ, zero, suc, ◌+◌, ◌<◌, ◌≤◌, ◌^◌, List, [], ◌∷◌, ◌++◌, length, None, refl, sym, ap, ◌∙◌, subst, arith, Bool, true, false, cond, filter, map, nat_eq, reverse, Result, Ok, Err, OnOk, OnErr}
+use Rattle.std.proofs.Common.{inl, inr, ◌⊎◌, ◌≡◌, ℕ, zero, suc, ◌+◌, ◌<◌, ◌≤◌, ◌^◌, List, [], ◌∷◌, ◌++◌, length, None, refl, sym, ap, ◌∙◌, subst, arith, reverse, Result, Ok, Err, OnOk, OnErr}
 use Rattle.std.proofs.lemmas.Bool.{cases_eq, cases_lt}
 use Rattle.std.proofs.lemmas.List.{get_or-set_same, get_or-set_other, length-set, length-append}
 use Rattle.std.proofs.lemmas.List.Elements.{Contains-append_left, Contains-append_right, Contains-push, Contains-push_cases}
@@ -16,15 +16,14 @@ use Rattle.bw_chain.specs.Searches.{IsInLevels}
 use Rattle.bw_chain.specs.Slots.{Slot, PageState, Body, Pairs, Children, Free, Gone, Live, slot_at}
 use Rattle.bw_chain.specs.Splits.{level_parted, put_behind, slot_entries}
 use Rattle.bw_chain.proofs.SplitLemmas.{had}
-use Rattle.bw_tree.specs.Children.{IsNamed}
+use Rattle.bw_tree.specs.Children.{AreNamed, IsNamed, state_with_children}
 use Rattle.bw_tree.specs.Roots.{HasNewRoot}
 use Rattle.bw_tree.specs.Splits.{IsSplit, IsSplittable}
 use Rattle.bw_tree.specs.View.{TreeView, contents_at}
 use Rattle.bw_shape.specs.Limits.{LimitsView, AreWithinBut, IsWithin}
+use Rattle.bw_shape.specs.Naming.{AreFinished}
 use Rattle.bw_shape.specs.Sweeps.{HoldsSame, KeepsPlain}
-use Rattle.bw_shape.specs.Tidying.{HoldsAll, IsBare, IsNext, IsSplitNext, KeepsWithin, leaf_pages}
-use Rattle.bw_tree.specs.Shapes.{level_shape, levels_shape, page_shape, shape_of}
-use Rattle.bw_tree.specs.declared.tree.shape.PageShape.{PageShape}
+use Rattle.bw_shape.specs.Tidying.{HoldsAll, IsBare, IsNext, IsSplitNext, KeepsWithin, ListsChanged}
 use Rattle.bw_shape.specs.Steps.{HasLostChain, IsFinishStep, IsFinished, IsRootStep, IsSameOver}
 use Rattle.bw_tree.specs.Consolidation.{IsRebased}
 use Rattle.bw_shape.specs.declared.steps.Did.{Did}
@@ -164,6 +163,21 @@ within_named old new due parent sep child h limits but r leaf = by (cases_eq r p
         inr (subst (IsWithin limits) (sym (ap (slot_at new.slots) same ∙ h.named.now))
         (child_within limits sep child h.named.was (subst (IsWithin limits) (ap (slot_at old.slots) same ∙ h.named.is) within)))
 
+children_within : (limits : LimitsView) (es : List (KeyBytes × ℕ)) (s : PageState) → IsWithin limits (Live s) → IsWithin limits (Live (state_with_children es s))
+children_within limits [] s within = within
+children_within limits (e ∷ es) s within = children_within limits es (state_with_child e.0 e.1 s) (child_within limits e.0 e.1 s within)
+
+-- or several pages more
+within_all_named : (old new : TreeView) (due : List ℕ) (parent : ℕ) (es : List (KeyBytes × ℕ)) → AreNamed old new parent es → KeepsWithin old new due due
+within_all_named old new due parent es h limits but r leaf = by (cases_eq r parent) (but r (subst (λ (l : List (List ℕ)). Contains (row l 0) r) h.levels leaf))
+  where
+    by : (r ≡ parent) ⊎ (r ≡ parent → ⊥) → Contains due r ⊎ IsWithin limits (slot_at old.slots r) → Contains due r ⊎ IsWithin limits (slot_at new.slots r)
+    by which (inl has) = inl has
+    by (inr other) (inr within) = inr (subst (IsWithin limits) (sym (h.named.others r other)) within)
+    by (inl same) (inr within) =
+        inr (subst (IsWithin limits) (sym (ap (slot_at new.slots) same ∙ h.named.now))
+        (children_within limits es h.named.was (subst (IsWithin limits) (ap (slot_at old.slots) same ∙ h.named.is) within)))
+
 -- the root grows
 row_grown : (levels : List (List ℕ)) (t r : ℕ) → Contains (row (levels_grown levels t) 0) r → Contains (row levels 0) r ⊎ (r ≡ t)
 row_grown [] t r (zero, lt, at) = inr (sym at)
@@ -231,6 +245,13 @@ tidy_named old new p parent h = record {
   more = omega (arith, ap length h.named.heads, length-set old.heads parent (slice_index new.heads parent));
 }
 
+pub tidy_all_named : (old new : TreeView) (p parent : ℕ) → AreFinished old new p parent → KeepsTidy old new
+tidy_all_named old new p parent h = record {
+  holds = record { contents = held_at old new h.named.next h.named.contents; next = h.named.next; records = omega (arith, h.named.records); staged = h.named.staged };
+  within = λ due. within_all_named old new due parent h.entries h.named;
+  more = omega (arith, ap length h.named.heads, length-set old.heads parent (slice_index new.heads parent));
+}
+
 tidy_root : (old new : TreeView) (did : Did) → old.staged ≡ None → IsRootStep old new did → KeepsTidy old new
 tidy_root old new Done none h = record {
   holds = holds_root old new h.0 h.1;
@@ -268,60 +289,24 @@ pub tidy_finish : (old new : TreeView) (p : ℕ) (did : Did) → old.staged ≡ 
 tidy_finish old new p Done none h = tidy_named old new p h.0 h.1
 tidy_finish old new p NotNeeded none h = tidy_still old new none h.0
 
--- a leaf among listed pages is among the leaves
-in_leaf_pages : (shape : List PageShape) (s : PageShape) → Contains shape s → nat_eq s.level 0 ≡ true → Contains (leaf_pages shape) s.page
-in_leaf_pages [] s has leaf = absurd (omega (arith, has.1))
-in_leaf_pages (x ∷ shape) s (zero, lt, at) leaf =
-    subst (λ b. Contains (map (λ (t : PageShape). t.page) (cond b (x ∷ filter (λ (t : PageShape). nat_eq t.level 0) shape) (filter (λ (t : PageShape). nat_eq t.level 0) shape))) s.page)
-    (sym (ap (λ (t : PageShape). nat_eq t.level 0) at ∙ leaf)) (0, omega arith, ap (λ (t : PageShape). t.page) at)
-in_leaf_pages (x ∷ shape) s (suc i, lt, at) leaf = by (nat_eq x.level 0) (in_leaf_pages shape s (i, omega (arith, lt), at) leaf)
+-- with a page that has a record, those that have one are listed still, and so they are without a page that has none
+pub changed_more : (heads pages listed more : List ℕ) (n : ℕ) → more ≡ listed ++ n ∷ [] → ListsChanged heads pages listed → ListsChanged heads (pages ++ n ∷ []) more
+changed_more heads pages listed more n is before p has high = subst (λ (l : List ℕ). Contains l p) (sym is) (by (Contains-push_cases pages n p has))
   where
-    others : List PageShape
-    others = filter (λ (t : PageShape). nat_eq t.level 0) shape
+    by : Contains pages p ⊎ (n ≡ p) → Contains (listed ++ n ∷ []) p
+    by (inl one) = Contains-append_left listed (n ∷ []) p (before p one high)
+    by (inr last) = subst (Contains (listed ++ n ∷ [])) last (Contains-push listed n)
 
-    by : (b : Bool) → Contains (leaf_pages shape) s.page → Contains (map (λ (t : PageShape). t.page) (cond b (x ∷ others) others)) s.page
-    by true rest = (suc rest.0, omega (arith, rest.1), rest.2)
-    by false rest = rest
-
-in_level_shape : (tree : TreeView) (ps : List ℕ) (p : ℕ) → Contains ps p → Contains (map (page_shape tree 0) ps) (page_shape tree 0 p)
-in_level_shape tree [] p has = absurd (omega (arith, has.1))
-in_level_shape tree (x ∷ ps) p (zero, lt, at) = (0, omega arith, ap (page_shape tree 0) at)
-in_level_shape tree (x ∷ ps) p (suc i, lt, at) =
-    let rest = in_level_shape tree ps p (i, omega (arith, lt), at) in
-    (suc rest.0, omega (arith, rest.1), rest.2)
-
-in_levels_shape : (tree : TreeView) (n p : ℕ) → 0 < n → Contains (row tree.levels 0) p → Contains (levels_shape tree n) (page_shape tree 0 p)
-in_levels_shape tree zero p some has = absurd (omega (arith, some))
-in_levels_shape tree (suc zero) p some has = in_level_shape tree (row tree.levels 0) p has
-in_levels_shape tree (suc (suc n)) p some has =
-    Contains-append_left (levels_shape tree (suc n)) (level_shape tree (suc n)) (page_shape tree 0 p) (in_levels_shape tree (suc n) p (omega arith) has)
-
-some_levels : (levels : List (List ℕ)) (p : ℕ) → Contains (row levels 0) p → 0 < length levels
-some_levels [] p has = absurd (omega (arith, has.1))
-some_levels (ps ∷ levels) p has = omega arith
-
--- each leaf is listed
-pub leaf_listed : (tree : TreeView) (p : ℕ) → Contains (row tree.levels 0) p → Contains (leaf_pages (shape_of tree)) p
-leaf_listed tree p has = in_leaf_pages (shape_of tree) (page_shape tree 0 p) (in_levels_shape tree (length tree.levels) p (some_levels tree.levels p has) has) refl
-
--- of the pages before a place those that have records are listed, and so they are with the page at it
-pub changed_more : (heads listed more : List ℕ) (n : ℕ) → more ≡ listed ++ n ∷ [] → ((p : ℕ) → p < n → 2 ^ 32 ≤ slice_index heads p → Contains listed p) → (p : ℕ) → p < n + 1 → 2 ^ 32 ≤ slice_index heads p → Contains more p
-changed_more heads listed more n is before p lt high = subst (λ (l : List ℕ). Contains l p) (sym is) (by (cases_lt p n))
+pub changed_still : (heads pages listed more : List ℕ) (n : ℕ) → more ≡ listed → slice_index heads n < 2 ^ 32 → ListsChanged heads pages listed → ListsChanged heads (pages ++ n ∷ []) more
+changed_still heads pages listed more n is low before p has high = subst (λ (l : List ℕ). Contains l p) (sym is) (by (Contains-push_cases pages n p has))
   where
-    by : (p < n) ⊎ (n ≤ p) → Contains (listed ++ n ∷ []) p
-    by (inl less) = Contains-append_left listed (n ∷ []) p (before p less high)
-    by (inr ge) = let last : n ≡ p = omega (arith, lt, ge) in subst (Contains (listed ++ n ∷ [])) last (Contains-push listed n)
-
-pub changed_still : (heads listed more : List ℕ) (n : ℕ) → more ≡ listed → slice_index heads n < 2 ^ 32 → ((p : ℕ) → p < n → 2 ^ 32 ≤ slice_index heads p → Contains listed p) → (p : ℕ) → p < n + 1 → 2 ^ 32 ≤ slice_index heads p → Contains more p
-changed_still heads listed more n is low before p lt high = subst (λ (l : List ℕ). Contains l p) (sym is) (by (cases_lt p n))
-  where
-    by : (p < n) ⊎ (n ≤ p) → Contains listed p
-    by (inl less) = before p less high
-    by (inr ge) = let last : p ≡ n = omega (arith, lt, ge) in absurd (omega (arith, low, subst (λ q. 2 ^ 32 ≤ slice_index heads q) last high))
+    by : Contains pages p ⊎ (n ≡ p) → Contains listed p
+    by (inl one) = before p one high
+    by (inr last) = absurd (omega (arith, low, subst (λ q. 2 ^ 32 ≤ slice_index heads q) (sym last) high))
 
 -- behind a sweep a leaf that had no record is as it was, and the others are due
-pub within_swept : (old new : TreeView) (due due' : List ℕ) → ((p : ℕ) → IsInLevels old.levels p → p < length old.heads) → new.levels ≡ old.levels → KeepsPlain old new → ((p : ℕ) → Contains due p → Contains due' p) → ((p : ℕ) → p < length old.heads → 2 ^ 32 ≤ slice_index old.heads p → Contains due' p) → KeepsWithin old new due due'
-within_swept old new due due' there levels keeps kept changed limits but r leaf = by (cases_lt (slice_index old.heads r) (2 ^ 32))
+pub within_swept : (old new : TreeView) (due due' : List ℕ) → new.levels ≡ old.levels → KeepsPlain old new → ((p : ℕ) → Contains due p → Contains due' p) → ListsChanged old.heads (row old.levels 0) due' → KeepsWithin old new due due'
+within_swept old new due due' levels keeps kept changed limits but r leaf = by (cases_lt (slice_index old.heads r) (2 ^ 32))
   where
     was : Contains (row old.levels 0) r
     was = subst (λ (l : List (List ℕ)). Contains (row l 0) r) levels leaf
@@ -332,7 +317,7 @@ within_swept old new due due' there levels keeps kept changed limits but r leaf 
 
     by : (slice_index old.heads r < 2 ^ 32) ⊎ (2 ^ 32 ≤ slice_index old.heads r) → Contains due' r ⊎ IsWithin limits (slot_at new.slots r)
     by (inl low) = or_as low (but r was)
-    by (inr high) = inl (changed r (there r (leaf_level old.levels r was)) high)
+    by (inr high) = inl (changed r was high)
 
 -- pages that were added are due, and so are those that were before
 on_ok : {X Y : Type 0} {A B : Type 0} (r : Result X Y) → OnOk r A → (A → B) → OnOk r B

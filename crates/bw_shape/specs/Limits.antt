@@ -4,6 +4,7 @@ use Rattle.std.specs.List.{Contains}
 use Rattle.bw_chain.specs.Levels.{row}
 use Rattle.bw_chain.specs.Reading.{pairs_under, writes_over}
 use Rattle.bw_chain.specs.Slots.{Slot, slot_at}
+use Rattle.bw_tree.specs.Shapes.{pairs_on}
 use Rattle.bw_tree.specs.View.{TreeView}
 
 -- how many writes a leaf's chain may have, how many entries a page, and below how many a page is merged
@@ -28,3 +29,8 @@ IsWithin limits slot =
 abbrev pub AreWithinBut : LimitsView → TreeView → List ℕ → Type 0
 AreWithinBut limits tree pages =
     (p : ℕ) → Contains (row tree.levels 0) p → Contains pages p ⊎ IsWithin limits (slot_at tree.slots p)
+
+-- no leaf has more pairs than a base page and the writes over it may have together
+abbrev pub HoldFew : LimitsView → TreeView → Type 0
+HoldFew limits tree = (p : ℕ) → Contains (row tree.levels 0) p →
+    pairs_on tree (slot_at tree.slots p) ≤ limits.page_max + limits.chain_max

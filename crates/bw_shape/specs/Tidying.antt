@@ -1,20 +1,22 @@
 -- Tidying: pages that are over a limit are consolidated and split.
-use Rattle.std.specs.Prelude.{◌≡◌, ℕ, Bool, ◌+◌, ◌-◌, ◌*◌, ◌≤◌, ◌<◌, ◌^◌, ◌⊎◌, List, [], ◌∷◌, ◌++◌, length, map, filter, nat_eq, nat_lt, None, slice_index}
+use Rattle.std.specs.Prelude.{◌≡◌, ℕ, Bool, true, false, ◌+◌, ◌-◌, ◌*◌, ◌≤◌, ◌<◌, ◌^◌, ◌⊎◌, List, [], ◌∷◌, ◌++◌, length, drop, map, filter, Option, nat_eq, nat_lt, None, slice_index}
+use Rattle.std.specs.List.{Contains}
 use Rattle.bw_chain.specs.Reading.{writes_over}
 use Rattle.bw_chain.specs.Slots.{Slot, slot_at}
 use Rattle.bw_chain.specs.Splits.{slot_entries}
-use Rattle.bw_tree.specs.Splits.{IsSplit}
+use Rattle.bw_tree.specs.Routing.{IsInLevel}
+use Rattle.bw_tree.specs.Splits.{IsSplit, IsSplittable}
 use Rattle.bw_tree.specs.declared.tree.shape.PageShape.{PageShape}
 use Rattle.bw_tree.specs.View.{TreeView, contents_at}
 use Rattle.bw_shape.specs.Limits.{LimitsView, AreWithinBut}
 use Rattle.bw_shape.specs.Sweeps.{HoldsSame}
 
 -- The pages that are to be looked at, the next one last; the inner pages to look at behind those, the first one first;
--- and whether the split of the next page may be unfinished.
+-- and the page whose right neighbours the level above may not name yet, if there is one.
 pub record DueView : Type 0 where
   pub pages : List ℕ
   pub above : List ℕ
-  pub unfinished : Bool
+  pub unfinished : Option ℕ
 
 -- the tree holds what it held as of its next stamp, which is the same; it has no fewer records, and nothing is staged
 pub record HoldsAll (old new : TreeView) : Type 0 where
@@ -27,9 +29,17 @@ pub record HoldsAll (old new : TreeView) : Type 0 where
 abbrev pub KeepsWithin : TreeView → TreeView → List ℕ → List ℕ → Type 0
 KeepsWithin old new due due' = (limits : LimitsView) → AreWithinBut limits old due → AreWithinBut limits new due'
 
+-- those of the pages that have records are listed
+abbrev pub ListsChanged : List ℕ → List ℕ → List ℕ → Type 0
+ListsChanged heads pages listed = (p : ℕ) → Contains pages p → 2 ^ 32 ≤ slice_index heads p → Contains listed p
+
 -- this page is the next one
 abbrev pub IsNext : List ℕ → ℕ → Type 0
 IsNext pages p = (rest : List ℕ) × (pages ≡ rest ++ p ∷ [])
+
+-- this page is the next one, and there are more than so many
+abbrev pub IsNextBefore : List ℕ → ℕ → ℕ → Type 0
+IsNextBefore pages others p = IsNext pages p × (others < length pages)
 
 -- no page is to be looked at
 abbrev pub HasNoneDue : DueView → Type 0
@@ -51,15 +61,35 @@ pub record IsSplitNext (old new : TreeView) (due due' : List ℕ) (p keep : ℕ)
   pub was : due ≡ rest ++ p ∷ []
   pub is : due' ≡ rest ++ right ∷ p ∷ []
 
+-- the next page has parted in two; nothing else is due, and no tree has more pages than there are identifiers
+pub record IsHalved (old new : TreeView) (due due' : DueView) (p keep : ℕ) : Type 0 where
+  pub able : IsSplittable old p keep
+  pub split : IsSplitNext old new due.pages due'.pages p keep
+  pub above : due'.above ≡ due.above
+  pub few : length new.heads ≤ 2 ^ 32
+
+-- the next page was looked at: it was split, or is within the limits
+abbrev pub IsPart : TreeView → TreeView → DueView → DueView → ℕ → Bool → Type 0
+IsPart old new due due' p true = (keep : ℕ) × IsHalved old new due due' p keep
+IsPart old new due due' p false = (new ≡ old) × (due.pages ≡ due'.pages ++ p ∷ []) × (due'.above ≡ due.above)
+
+-- the pages that are to be looked at before so many others stand on this level
+abbrev pub StandBefore : TreeView → ℕ → ℕ → List ℕ → Type 0
+StandBefore tree level others pages = (p : ℕ) → Contains (drop others pages) p → IsInLevel tree p level
+
+-- The next page, which stands on this level, was looked at: pages of the level are due in its place, which may be none,
+-- and less is left to do. A page of a level still stands on it.
+pub record HasPassed (old new : TreeView) (due due' : DueView) (p level : ℕ) : Type 0 where
+  pub rest : List ℕ
+  pub was : due.pages ≡ rest ++ p ∷ []
+  pub halves : List ℕ
+  pub is : due'.pages ≡ rest ++ halves
+  pub stand : (q : ℕ) → Contains halves q → IsInLevel new q level
+  pub still : (q n : ℕ) → IsInLevel old q n → IsInLevel new q n
+  pub less : work_left new due' < work_left old due
+
 -- the page has no record; all other pages are as before
 pub record IsBare (old new : TreeView) (p : ℕ) : Type 0 where
   pub same : HoldsSame old new
   pub plain : slice_index new.heads p < 2 ^ 32
   pub others : (q : ℕ) → (q ≡ p → ⊥) → slot_at new.slots q ≡ slot_at old.slots q
-
--- the leaves among listed pages, and the others, in their order
-abbrev pub leaf_pages : List PageShape → List ℕ
-leaf_pages shape = map (λ s. s.page) (filter (λ s. nat_eq s.level 0) shape)
-
-abbrev pub inner_pages : List PageShape → List ℕ
-inner_pages shape = map (λ s. s.page) (filter (λ s. nat_lt 0 s.level) shape)

@@ -1,10 +1,13 @@
 // The pages that tidying is to look at.
-ghost use Rattle.std.specs.Prelude.{◌≡◌, ℕ, ◌+◌, ◌<◌, ◌≤◌, ◌^◌, Bool, true, false, [], ◌∷◌, ◌++◌, None, length, reverse, slice_index, MatchOption, OnOk, OnErr};
+ghost use Rattle.std.specs.Prelude.{◌≡◌, ℕ, ◌+◌, ◌<◌, ◌≤◌, ◌^◌, true, false, [], ◌∷◌, ◌++◌, None, length, reverse, slice_index, MatchOption, OnOk, OnErr};
 ghost use Rattle.std.specs.List.{Contains};
+ghost use Rattle.bw_chain.specs.Levels.{row};
 ghost use Rattle.bw_tree.specs.Splits.{IsSplittable};
-ghost use Rattle.bw_shape.specs.Tidying.{HasNoneDue, HoldsAll, IsNext, IsSplitNext, KeepsWithin};
+ghost use Rattle.bw_shape.specs.Tidying.{HasNoneDue, HoldsAll, IsNext, IsNextBefore, IsSplitNext, KeepsWithin, ListsChanged};
 
-use crate::steps::{grow_root, has_record, name_right};
+use crate::naming::name_rights;
+use crate::page_lists::{changed_among, inner_pages, leaf_pages};
+use crate::steps::grow_root;
 use bw_key::Memory;
 use bw_memory::Alloc;
 use bw_page::PageId;
@@ -19,8 +22,8 @@ pub struct Due {
     pages: Vec<PageId, Alloc>,
     // inner pages to look at behind those, the first one first
     above: Vec<PageId, Alloc>,
-    // whether tidying stopped at the next page, before its right neighbour was named
-    unfinished: bool,
+    // the page behind which tidying stopped before its new right neighbours were named
+    unfinished: Option<PageId>,
 }
 
 impl Model for Due {
@@ -34,12 +37,12 @@ impl Model for Due {
 impl Due {
     /// No page.
     pub fn new(alloc: Alloc) -> Due
-        ensures { result ≡ record { pages = []; above = []; unfinished = false } }
+        ensures { result ≡ record { pages = []; above = []; unfinished = None } }
     {
         Due {
             pages: Vec::new(alloc),
             above: Vec::new(alloc),
-            unfinished: false,
+            unfinished: None,
         }
     }
 
@@ -47,13 +50,13 @@ impl Due {
     pub(crate) fn from_levels(mut leaves: Vec<PageId, Alloc>, inner: Vec<PageId, Alloc>) -> Due
         ensures pages { result.pages ≡ reverse leaves.entry.items }
         ensures above { result.above ≡ inner.entry.items }
-        ensures unfinished { result.unfinished ≡ false }
+        ensures unfinished { result.unfinished ≡ None }
     {
         leaves.reverse();
         Due {
             pages: leaves,
             above: inner,
-            unfinished: false,
+            unfinished: None,
         }
     }
 
@@ -70,21 +73,18 @@ impl Due {
         Ok(())
     }
 
-    /// Adds the pages of a tree that have records. It costs a look at each mapping word. After `Memory` all is as before.
+    /// Adds the pages of a tree that have records: its leaves in the order of keys, and its inner pages behind all leaves, the
+    /// lowest level first. It costs a walk along each level. After `Memory` inner pages may have been added.
     pub(crate) fn add_changed(&mut self, tree: &Tree) -> Result<(), Memory>
-        requires { length tree.now.heads ≤ 2 ^ 32 }
-        ensures changed { OnOk result ((p : ℕ) → p < length tree.now.heads →
-            2 ^ 32 ≤ slice_index tree.now.heads p → Contains self.new.pages p) }
+        ensures changed { OnOk result (ListsChanged tree.now.heads (row tree.now.levels 0) self.new.pages) }
         ensures kept { (p : ℕ) → Contains self.old.pages p → Contains self.new.pages p }
         ensures err { OnErr result (self.new.pages ≡ self.old.pages) }
     {
-        let mut changed = Vec::new(*self.pages.allocator());
-        for page in 0..tree.heads().len() {
-            if has_record(tree, PageId(page as u32)) {
-                changed.push(PageId(page as u32))?;
-            }
-        }
-        self.add(changed)
+        let alloc = *self.pages.allocator();
+        let leaves = changed_among(alloc, tree, &leaf_pages(tree)?)?;
+        let inner = changed_among(alloc, tree, &inner_pages(alloc, tree)?)?;
+        self.above.extend_from_slice(&inner)?;
+        self.add(leaves)
     }
 
     /// The next page: where no page is left, those above are next that were given a child.
@@ -109,15 +109,32 @@ impl Due {
         self.pages.pop();
     }
 
-    /// Whether the split of the next page may be unfinished.
-    pub(crate) fn is_unfinished(&self) -> bool
+    /// How many pages are due before those above.
+    pub(crate) fn len(&self) -> usize
+        ensures { result ≡ length self.now.pages }
+    {
+        self.pages.len()
+    }
+
+    /// The next page, where there are more than so many.
+    pub(crate) fn next_before(&self, others: usize) -> Option<PageId>
+        ensures { MatchOption result (length self.now.pages ≤ others) (IsNextBefore self.now.pages others) }
+    {
+        if self.pages.len() <= others {
+            return None;
+        }
+        self.pages.last().copied()
+    }
+
+    /// The page whose right neighbours may not be named yet.
+    pub(crate) fn unfinished(&self) -> Option<PageId>
         ensures { result ≡ self.now.unfinished }
     {
         self.unfinished
     }
 
-    /// Tidying stops at the next page, or goes on behind it.
-    pub(crate) fn set_unfinished(&mut self, unfinished: bool)
+    /// The right neighbours of this page may not be named yet, or those of none.
+    pub(crate) fn set_unfinished(&mut self, unfinished: Option<PageId>)
         ensures pages { self.new.pages ≡ self.old.pages }
         ensures above { self.new.above ≡ self.old.above }
         ensures unfinished { self.new.unfinished ≡ unfinished }
@@ -148,7 +165,7 @@ impl Due {
         Ok(())
     }
 
-    /// Finishes the split of a page: its right neighbour is named above it, or a root that was split gets one above it.
+    /// Finishes the splits of a page: its right neighbours are named above it, or a root that was split gets one above it.
     pub(crate) fn finish(&mut self, tree: &mut Tree, page: PageId) -> Result<(), Memory>
         requires { tree.old.staged ≡ None }
         ensures holds { HoldsAll tree.old tree.new }
@@ -158,7 +175,8 @@ impl Due {
         ensures more { length tree.old.heads ≤ length tree.new.heads }
     {
         self.above.reserve(1)?;
-        if let Some(parent) = name_right(tree, page)? {
+        let alloc = *self.above.allocator();
+        if let Some(parent) = name_rights(tree, alloc, page)? {
             // The children of one page come one after another.
             if self.above.last().copied() != Some(parent) {
                 self.above.push(parent).unwrap();

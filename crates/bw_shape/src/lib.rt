@@ -5,7 +5,9 @@
 
 mod due;
 mod limits;
+mod naming;
 mod outcome;
+mod page_lists;
 mod steps;
 mod sweeps;
 mod tidying;

@@ -26,7 +26,8 @@ pub fn sweep(tree: &mut Tree) -> Result<(), Memory>
     Ok(())
 }
 
-/// The same, with the pages that had records among those that are due: consolidated leaves may have too many pairs. After
+/// The same, with the pages that had records among those that are due: consolidated leaves may have too many pairs. It costs
+/// a walk along each level, too. After
 /// `Memory` some of them may be due already.
 pub fn sweep_due(tree: &mut Tree, due: &mut Due) -> Result<(), Memory>
     requires { tree.old.staged ≡ None }
@@ -34,7 +35,6 @@ pub fn sweep_due(tree: &mut Tree, due: &mut Due) -> Result<(), Memory>
     ensures err { OnErr result (HoldsSame tree.old tree.new) }
     ensures within { KeepsWithin tree.old tree.new due.old.pages due.new.pages }
 {
-    tree.know_records();
     due.add_changed(tree)?;
     sweep(tree)
 }

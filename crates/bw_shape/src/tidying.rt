@@ -1,5 +1,5 @@
 // Tidying: leaves that are over a limit are consolidated and split, and so are the pages above that have too many children.
-ghost use Rattle.std.specs.Prelude.{◌≡◌, ◌<◌, ◌^◌, false, true, None, length, slice_index, OnOk, OnErr};
+ghost use Rattle.std.specs.Prelude.{◌≡◌, ◌<◌, ◌≤◌, ◌^◌, false, true, None, length, slice_index, IfOk, OnOk, OnErr};
 ghost use Rattle.std.specs.List.{Contains};
 ghost use Rattle.bw_chain.specs.Levels.{row};
 ghost use Rattle.bw_chain.specs.Slots.{slot_at};
@@ -7,7 +7,7 @@ ghost use Rattle.bw_chain.specs.Searches.{IsInLevels};
 ghost use Rattle.bw_tree.specs.Routing.{IsInLevel};
 ghost use Rattle.bw_tree.specs.Splits.{IsSplittable};
 ghost use Rattle.bw_shape.specs.Limits.{AreWithinBut, IsWithin};
-ghost use Rattle.bw_shape.specs.Tidying.{HasNoneDue, HoldsAll, IsBare, IsNext, IsOver, KeepsWithin, work_left};
+ghost use Rattle.bw_shape.specs.Tidying.{HasNoneDue, HasPassed, HoldsAll, IsBare, IsHalved, IsNext, IsOver, IsPart, KeepsWithin, StandBefore, work_left};
 
 use crate::due::Due;
 use crate::limits::Limits;
@@ -23,8 +23,8 @@ use bw_tree::Tree;
 ///
 /// At the first `Memory` it stops, and what it didn't look at stays due. Where it doesn't stop, no leaf is over a limit,
 /// if none was that wasn't due. It costs a walk along the chain of each page that is due, and for each page that is over a
-/// limit some searches, a copy of its entries and the sorting of its writes. Each split copies the half that goes, and the
-/// children of the page above where that has got an index entry before.
+/// limit some searches, a copy of its entries and the sorting of its writes. Each split copies the half that goes. The new
+/// pages that came of one get their index entries at once, for a search each and a copy of the children of the page above.
 pub fn tidy_due(tree: &mut Tree, limits: &Limits, due: &mut Due) -> Tidy
     requires none { tree.old.staged ≡ None }
     requires within { AreWithinBut limits.now tree.old due.old.pages }
@@ -34,9 +34,6 @@ pub fn tidy_due(tree: &mut Tree, limits: &Limits, due: &mut Due) -> Tidy
 {
     let mut counts = Tidy::default();
     let stopped = visit_all(tree, limits, due, &mut counts).is_err();
-    if stopped {
-        due.set_unfinished(true);
-    }
     Tidy { stopped, ..counts }
 }
 
@@ -60,19 +57,17 @@ fn visit_all(
     Ok(())
 }
 
-// Finishes the split at which tidying stopped, if it did.
+// Finishes the splits at which tidying stopped, if it did.
 fn go_on(tree: &mut Tree, due: &mut Due) -> Result<(), Memory>
     requires { tree.old.staged ≡ None }
     ensures holds { HoldsAll tree.old tree.new }
     ensures within { KeepsWithin tree.old tree.new due.old.pages due.new.pages }
 {
-    if !due.is_unfinished() {
+    let Some(page) = due.unfinished() else {
         return Ok(());
-    }
-    if let Some(page) = due.next() {
-        due.finish(tree, page)?;
-    }
-    due.set_unfinished(false);
+    };
+    due.finish(tree, page)?;
+    due.set_unfinished(None);
     Ok(())
 }
 
@@ -100,19 +95,20 @@ fn visit(
         return Ok(());
     };
     bare(tree, counts, page, level)?;
-    part(tree, limits, due, counts, page)
+    part_all(tree, limits, due, counts, page, level)
 }
 
-// Splits the next page, which has no record, where it has too many entries.
-fn part(
+// Splits the next page, which has no record, into halves until none has too many entries, and finishes the splits.
+fn part_all(
     tree: &mut Tree,
     limits: &Limits,
     due: &mut Due,
     counts: &mut Tidy,
     page: PageId,
+    level: u32,
 ) -> Result<(), Memory>
     requires none { tree.old.staged ≡ None }
-    requires page { IsInLevels tree.old.levels page }
+    requires page { IsInLevel tree.old page level }
     requires plain { slice_index tree.old.heads page < 2 ^ 32 }
     requires next { IsNext due.old.pages page }
     requires within { AreWithinBut limits.now tree.old due.old.pages }
@@ -120,13 +116,103 @@ fn part(
     ensures within { AreWithinBut limits.now tree.new due.new.pages }
     ensures less { OnOk result (work_left tree.new due.new < work_left tree.old due.old) }
 {
+    let others = due.len() - 1;
+    due.set_unfinished(Some(page));
+    if !part(tree, limits, due, counts, page)? {
+        due.set_unfinished(None);
+        return Ok(());
+    }
+    part_halves(tree, limits, due, counts, others, level)?;
+    due.finish(tree, page)?;
+    due.set_unfinished(None);
+    Ok(())
+}
+
+// Looks at the pages that are due before so many others, which stand on one level: the halves of a page. Those of a root
+// are left until there is a root above them.
+fn part_halves(
+    tree: &mut Tree,
+    limits: &Limits,
+    due: &mut Due,
+    counts: &mut Tidy,
+    others: usize,
+    level: u32,
+) -> Result<(), Memory>
+    requires none { tree.old.staged ≡ None }
+    requires stand { StandBefore tree.old level others due.old.pages }
+    requires within { AreWithinBut limits.now tree.old due.old.pages }
+    ensures holds { HoldsAll tree.old tree.new }
+    ensures within { AreWithinBut limits.now tree.new due.new.pages }
+    ensures upto { OnOk result (work_left tree.new due.new ≤ work_left tree.old due.old) }
+{
+    if is_top(tree, level) {
+        return Ok(());
+    }
+    while let Some(page) = due.next_before(others) {
+        part_half(tree, limits, due, counts, page, level)?;
+    }
+    Ok(())
+}
+
+// Whether a level is the root's.
+fn is_top(tree: &Tree, level: u32) -> bool {
+    match tree.in_level(tree.root()) {
+        Some(top) => level >= top,
+        None => false,
+    }
+}
+
+// Looks at the next page, which stands on this level: where it is over a limit, it's consolidated and split.
+fn part_half(
+    tree: &mut Tree,
+    limits: &Limits,
+    due: &mut Due,
+    counts: &mut Tidy,
+    page: PageId,
+    level: u32,
+) -> Result<(), Memory>
+    requires none { tree.old.staged ≡ None }
+    requires page { IsInLevel tree.old page level }
+    requires next { IsNext due.old.pages page }
+    requires within { AreWithinBut limits.now tree.old due.old.pages }
+    ensures holds { HoldsAll tree.old tree.new }
+    ensures within { AreWithinBut limits.now tree.new due.new.pages }
+    ensures ok { OnOk result (HasPassed tree.old tree.new due.old due.new page level) }
+{
+    if !is_over(tree, limits, page) {
+        due.pass();
+        return Ok(());
+    }
+    bare(tree, counts, page, level)?;
+    part(tree, limits, due, counts, page)?;
+    Ok(())
+}
+
+// Splits the next page, which has no record, where it has too many entries. Whether it has.
+fn part(
+    tree: &mut Tree,
+    limits: &Limits,
+    due: &mut Due,
+    counts: &mut Tidy,
+    page: PageId,
+) -> Result<bool, Memory>
+    requires none { tree.old.staged ≡ None }
+    requires page { IsInLevels tree.old.levels page }
+    requires plain { slice_index tree.old.heads page < 2 ^ 32 }
+    requires next { IsNext due.old.pages page }
+    requires within { AreWithinBut limits.now tree.old due.old.pages }
+    ensures holds { HoldsAll tree.old tree.new }
+    ensures within { AreWithinBut limits.now tree.new due.new.pages }
+    ensures ok { IfOk result (IsPart tree.old tree.new due.old due.new page) }
+{
     tree.know_records();
     let count = tree.entries(page);
     if count as u64 <= limits.page_max() {
         due.pass();
-        return Ok(());
+        return Ok(false);
     }
-    halve(tree, due, counts, page, count / 2)
+    halve(tree, due, counts, page, count / 2)?;
+    Ok(true)
 }
 
 // Whether a page is a leaf that is over a limit, or an inner page with too many children.
@@ -158,7 +244,7 @@ fn bare(tree: &mut Tree, counts: &mut Tidy, page: PageId, level: u32) -> Result<
     Ok(())
 }
 
-// Splits the next page in two, both of which are to be looked at, and finishes the split.
+// Splits the next page in two, both of which are to be looked at.
 fn halve(
     tree: &mut Tree,
     due: &mut Due,
@@ -171,11 +257,10 @@ fn halve(
     requires next { IsNext due.old.pages page }
     ensures holds { HoldsAll tree.old tree.new }
     ensures within { KeepsWithin tree.old tree.new due.old.pages due.new.pages }
-    ensures less { OnOk result (work_left tree.new due.new < work_left tree.old due.old) }
+    ensures ok { OnOk result (IsHalved tree.old tree.new due.old due.new page keep) }
 {
     due.split_next(tree, page, keep)?;
     counts.splits = counts.splits.saturating_add(1);
-    due.finish(tree, page)?;
     tree.know_records();
     Ok(())
 }

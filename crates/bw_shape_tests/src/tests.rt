@@ -2,6 +2,7 @@
 // refused in turn.
 mod leaves;
 mod making;
+mod naming;
 mod refused;
 mod shapes;
 mod steps;

@@ -2,16 +2,19 @@
 use Rattle.std.proofs.Common.{◌≡◌, ℕ, Ok, Err, List, [], ◌∷◌, Option, refl, cond, sym, ap, ap₂, ◌∙◌, subst, append-nil, arith}
 use Rattle.std.proofs.lemmas.List.Sums.{sum_by-cons}
 use Rattle.std.specs.List.{sum_by}
-use Rattle.std.specs.FinMap.{empty}
+use Rattle.std.specs.FinMap.{empty, entries}
 use Rattle.bw_model.specs.Contents.{Contents}
 use Rattle.bw_model.specs.Runs.{Outcome, Answers, AnswersInTurn, left_by, left_in_turn}
 use Rattle.bw_model.specs.Values.{ValueBytes}
 use Rattle.bw_model.specs.declared.operations.Op.{Op}
 use Rattle.bw_model.specs.declared.outcomes.Refusal.TheVariants.{TooLong, Memory}
-use Rattle.bw_trace.specs.Determined.{TextsAreDetermined, stopped}
-use Rattle.bw_trace.specs.Running.{IsRun, is_of_memory, refusal_in, summary_of}
-use Rattle.bw_trace.specs.Texts.{batches_text, end_text}
+use Rattle.bw_trace.specs.Determined.{HaveOneEnd, TextsAreDetermined, stopped}
+use Rattle.bw_trace.specs.Ends.{IsOfContents}
+use Rattle.bw_trace.specs.Running.{IsRun, is_of_memory, refusal_in, left_by_run, summary_of}
+use Rattle.bw_trace.specs.Texts.{batches_text, contents_text}
 use Rattle.bw_trace.specs.Traces.{Trace}
+use Rattle.bw_trace.specs.declared.jobs.Job.{Job}
+use Rattle.bw_trace.specs.declared.jobs.Job.TheVariants.{Run, Dump, Shape, Picture}
 
 -- 1 where an outcome is a refusal as out of memory
 abbrev refused : Outcome → ℕ
@@ -49,12 +52,20 @@ same_outcomes most (ops ∷ batches) m (o ∷ os) (p ∷ ps) (a, answers) (b, ot
 batches_are : (most : ℕ) (trace : Trace) (fault : Option _) (outcomes : List Outcome) (run : IsRun most trace outcomes (stopped fault)) → run.batches ≡ trace.batches
 batches_are most trace fault outcomes run = sym (append-nil run.batches) ∙ ap (λ (t : Trace). t.batches) (sym run.reads)
 
+one_end : (job : Job) (contents others : Contents ValueBytes) → contents ≡ others → IsOfContents job → HaveOneEnd job contents others
+one_end Run contents others same of page_max page_max' text text' is is' = is ∙ sym is'
+one_end Dump contents others same of page_max page_max' text text' is is' = is ∙ ap (λ m. contents_text (entries m)) same ∙ sym is'
+one_end Shape contents others same of page_max page_max' text text' is is' = absurd of
+one_end Picture contents others same of page_max page_max' text text' is is' = absurd of
+
 pub determined : TextsAreDetermined
 determined most trace fault job outcomes others run other none none' =
     let batches : run.batches ≡ other.batches = batches_are most trace fault outcomes run ∙ sym (batches_are most trace fault others other) in
     let answered = subst (λ (bs : List (List Op)). AnswersInTurn most bs empty outcomes) batches run.answered in
-    let same = same_outcomes most other.batches empty outcomes others answered other.answered none none' in (
+    let same = same_outcomes most other.batches empty outcomes others answered other.answered none none' in
+    let left : left_by_run run ≡ left_by_run other = ap₂ (λ (bs : List (List Op)) (os : List Outcome). left_in_turn bs empty os) batches same in (
       ap summary_of same,
       ap (batches_text job) same,
-      ap (end_text job) (ap₂ (λ (bs : List (List Op)) (os : List Outcome). left_in_turn bs empty os) batches same),
+      left,
+      one_end job (left_by_run run) (left_by_run other) left,
     )

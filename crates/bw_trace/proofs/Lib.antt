@@ -7,3 +7,4 @@ pub mod Reading
 pub mod TracesLemmas
 pub mod RunningLemmas
 pub mod DeterminedLemmas
+pub mod EndsLemmas

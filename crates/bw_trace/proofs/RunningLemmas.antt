@@ -12,12 +12,13 @@ use Rattle.bw_model.specs.Runs.{Outcome, Answers, AnswersInTurn, left_by, left_i
 use Rattle.bw_model.specs.declared.operations.Op.{Op}
 use Rattle.bw_model.specs.declared.outcomes.Refusal.{Refusal}
 use Rattle.bw_model.proofs.RunsLemmas.{one_more, left_one_more}
+use Rattle.bw_trace.specs.Ends.{IsEndText}
 use Rattle.bw_trace.specs.declared.faults.Cause.{Cause}
 use Rattle.bw_trace.specs.declared.places.Place.{Place}
 use Rattle.bw_trace.specs.declared.summaries.Summary.{Summary}
 use Rattle.bw_trace.specs.Running.{IsRun, left_by_run, refusal_in, summary_of, is_too_long, is_of_memory}
 use Rattle.bw_trace.specs.Sources.{SourceView}
-use Rattle.bw_trace.specs.Texts.{batch_text, batches_text, end_text}
+use Rattle.bw_trace.specs.Texts.{batch_text, batches_text}
 use Rattle.bw_trace.specs.declared.jobs.Job.{Job}
 use Rattle.bw_trace.specs.Traces.{Trace, trace_from, cut_trace_from, no_trace, faulty, behind, StandFor, IsFaultyAt}
 use Rattle.bw_trace.specs.Writing.{TakesFront}
@@ -160,11 +161,12 @@ front_more job old mid new outcomes outcome first second = (
   Appends-trans old mid new (batches_text job outcomes) second.0 first second.2,
 )
 
--- and the text at the end behind them
-pub texts_end : (job : Job) (old mid new : Option (List ℕ)) (outcomes : List Outcome) (contents contents' : Contents ValueBytes) → contents ≡ contents' →
-    Appends old mid (batches_text job outcomes) → Appends mid new (end_text job contents) → Appends old new (batches_text job outcomes ++ end_text job contents')
-texts_end job old mid new outcomes contents contents' same first last =
-    Appends-trans old mid new (batches_text job outcomes) (end_text job contents') first (subst (λ m. Appends mid new (end_text job m)) same last)
+-- and a text at the end behind them
+pub texts_end : (job : Job) (page_max : ℕ) (old mid new : Option (List ℕ)) (outcomes : List Outcome) (contents contents' : Contents ValueBytes) → contents ≡ contents' →
+    Appends old mid (batches_text job outcomes) → (end : List ℕ) × IsEndText job page_max contents end × Appends mid new end →
+    (end : List ℕ) × IsEndText job page_max contents' end × Appends old new (batches_text job outcomes ++ end)
+texts_end job page_max old mid new outcomes contents contents' same first (end, is, last) =
+    (end, subst (λ m. IsEndText job page_max m end) same is, Appends-trans old mid new (batches_text job outcomes) end first last)
 
 -- nothing was written of it
 pub texts_stay : (job : Job) (old mid new : Option (List ℕ)) (outcomes : List Outcome) → Appends old mid (batches_text job outcomes) → Appends mid new [] → Appends old new (batches_text job outcomes)

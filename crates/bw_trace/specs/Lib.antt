@@ -5,6 +5,8 @@ pub mod Misreads
 pub mod ReadBack
 pub mod Traces
 pub mod Texts
+pub mod Shapes
+pub mod Ends
 pub mod Counts
 pub mod Faults
 pub mod Writing

@@ -1,18 +1,15 @@
 -- What is printed.
 use Rattle.std.specs.Prelude.{ℕ, List, [], ◌∷◌, ◌++◌, length, codes, Ok, Err}
 use Rattle.std.specs.List.{flat_map}
-use Rattle.std.specs.FinMap.{entries}
 use Rattle.std.specs.Fmt.{decimal}
-use Rattle.bw_model.specs.Contents.{Contents}
 use Rattle.bw_model.specs.Lists.{Pair}
 use Rattle.bw_model.specs.Runs.{Outcome}
-use Rattle.bw_model.specs.Values.{ValueBytes}
 use Rattle.bw_model.specs.declared.operations.Reply.{Reply}
 use Rattle.bw_model.specs.declared.operations.Reply.TheVariants.{Found, Absent, Inserted, Held, New, Was, Pairs}
 use Rattle.bw_model.specs.declared.outcomes.Refusal.{Refusal}
 use Rattle.bw_model.specs.declared.outcomes.Refusal.TheVariants.{TooLong, Memory}
 use Rattle.bw_trace.specs.declared.jobs.Job.{Job}
-use Rattle.bw_trace.specs.declared.jobs.Job.TheVariants.{Run, Dump}
+use Rattle.bw_trace.specs.declared.jobs.Job.TheVariants.{Run, Dump, Shape, Picture}
 use Rattle.bw_trace.specs.Spelling.{spelled}
 
 -- a line, with the byte that ends it
@@ -55,11 +52,8 @@ contents_text = pairs_text (codes "contents ")
 abbrev pub batch_text : Job → Outcome → List ℕ
 batch_text Run outcome = outcome_text outcome
 batch_text Dump outcome = []
+batch_text Shape outcome = []
+batch_text Picture outcome = []
 
 abbrev pub batches_text : Job → List Outcome → List ℕ
 batches_text job = flat_map (batch_text job)
-
--- what it prints at the end, where there is no fault
-abbrev pub end_text : Job → Contents ValueBytes → List ℕ
-end_text Run contents = []
-end_text Dump contents = contents_text (entries contents)

@@ -5,19 +5,21 @@ ghost use Rattle.bw_batch.specs.Outcomes.{outcome_of};
 ghost use Rattle.bw_batch.specs.View.{contents_of, settings_of};
 ghost use Rattle.bw_model.specs.Runs.{Outcome, Answers, left_by};
 ghost use Rattle.bw_trace.specs.Counts.{HasRisenBy};
+ghost use Rattle.bw_trace.specs.Ends.{IsEndText};
 ghost use Rattle.bw_trace.specs.Faults.{IfLine, IsOfInput, IsOfWriting};
 ghost use Rattle.bw_trace.specs.Running.{IsRun, left_by_run, refusal_in, summary_of};
 ghost use Rattle.bw_trace.specs.Sources.{ReadsOn};
 ghost use Rattle.bw_trace.specs.Statuses.{status_of};
-ghost use Rattle.bw_trace.specs.Texts.{batch_text, batches_text, end_text};
+ghost use Rattle.bw_trace.specs.Texts.{batch_text, batches_text};
 ghost use Rattle.bw_trace.specs.Traces.{Trace, trace_from, cut_trace_from, no_trace, faulty};
 ghost use Rattle.bw_trace.specs.Writing.{TakesFront};
 
+use crate::ends::end_text;
 use crate::faults::TraceFault;
 use crate::ports::{Inlet, Outlet};
 use crate::sources::{Source, read_batch};
 use crate::summaries::Summary;
-use crate::texts::{print_contents, print_refusal, print_replies};
+use crate::texts::{print_refusal, print_replies, put_text};
 use bw_batch::{Done, Index, Op, OpenGate, Options, Refusal};
 use bw_memory::Alloc;
 use std::thread::Threads;
@@ -29,6 +31,11 @@ pub enum Job {
     Run,
     /// Prints nothing of the batches. At the end it prints how many pairs the index holds, and the pairs in key order.
     Dump,
+    /// Prints nothing of the batches. At the end it prints a line for each page of the tree on which the index stands, the
+    /// leaves first: `leaf LOW HIGH PAIRS WRITES`, and `inner LEVEL LOW HIGH CHILDREN` for a page above them.
+    Shape,
+    /// Prints nothing of the batches. At the end it prints a picture of these pages, an SVG text.
+    Picture,
 }
 
 /// Runs a trace on an empty index, batch by batch, with threads that `rt` starts. A batch's text is written before the
@@ -50,8 +57,8 @@ pub fn run_trace<T: Threads + Sync, R: Inlet, W: Outlet>(
         × IsAtEnd source.new.unread
         × ((outcomes : List Outcome) × ((run : IsRun options.batch_max
         (trace_from source.old.place read) outcomes no_trace)
-        × (summary ≡ summary_of outcomes) × Appends (W.contents out.old) (W.contents out.new)
-        (batches_text job outcomes ++ end_text job (left_by_run run))))) }
+        × (summary ≡ summary_of outcomes) × ((end : List ℕ) × IsEndText job options.page_max (left_by_run run) end
+        × Appends (W.contents out.old) (W.contents out.new) (batches_text job outcomes ++ end))))) }
     ensures ended { OnOk result (source.new.has_ended ≡ true) }
     // At a faulty line, it is the first, and the texts of the batches before it were written.
     ensures line { source.old.fault ≡ None →
@@ -84,7 +91,7 @@ pub fn run_trace<T: Threads + Sync, R: Inlet, W: Outlet>(
         let refusal = answer(rt, alloc, &mut index, out, &ops, job)?;
         summary.count(refusal);
     }
-    print_end(alloc, &index, out, job)?;
+    print_end(alloc, &index, out, options.page_max(), job)?;
     Ok(summary)
 }
 
@@ -130,7 +137,7 @@ fn print_outcome<W: Outlet>(
     ensures faults { IfErr result (λ fault. IsOfWriting fault) }
 {
     match job {
-        Job::Dump => Ok(()),
+        Job::Dump | Job::Shape | Job::Picture => Ok(()),
         Job::Run => match outcome {
             Ok(done) => print_replies(alloc, out, done.replies.as_slice()),
             Err(refusal) => print_refusal(alloc, out, refusal),
@@ -143,21 +150,31 @@ fn print_end<W: Outlet>(
     alloc: Alloc,
     index: &Index,
     out: &mut W,
+    page_max: u64,
     job: Job,
 ) -> Result<(), TraceFault>
-    ensures ok { OnOk result (Appends (W.contents out.old) (W.contents out.new)
-        (end_text job (contents_of index.now))) }
+    ensures ok { OnOk result ((end : List ℕ) × IsEndText job page_max (contents_of index.now) end
+        × Appends (W.contents out.old) (W.contents out.new) end) }
     ensures none_failed { OnOk result (W.failures out.new ≡ W.failures out.old) }
     ensures memory { IsErrOf result TraceFault.Memory → Appends (W.contents out.old) (W.contents out.new) [] }
     ensures write { IsErrOf result TraceFault.Write → HasRisenBy 1 (W.failures out.old) (W.failures out.new) }
     ensures faults { IfErr result (λ fault. IsOfWriting fault) }
 {
-    match job {
-        Job::Run => Ok(()),
-        Job::Dump => {
-            let pairs = index.contents()?;
-            print_contents(alloc, out, pairs.as_slice())
-        }
+    let text = end_text(alloc, index, page_max, job)?;
+    put_some(out, &text)?;
+    Ok(())
+}
+
+// Writes a text, where there is one.
+fn put_some<W: Outlet>(out: &mut W, text: &[u8]) -> Result<(), TraceFault>
+    ensures ok { OnOk result (Appends (W.contents out.old) (W.contents out.new) text.now) }
+    ensures none_failed { OnOk result (W.failures out.new ≡ W.failures out.old) }
+    ensures write { IfErr result (λ fault. (fault ≡ TraceFault.Write)
+        × HasRisenBy 1 (W.failures out.old) (W.failures out.new)) }
+{
+    match text {
+        [] => Ok(()),
+        _ => put_text(out, text),
     }
 }
 

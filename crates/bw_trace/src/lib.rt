@@ -1,12 +1,14 @@
 //! Traces of an ordered index: operations in as lines, replies out as lines.
 #![tactic(auto)]
 
+mod ends;
 mod faults;
 mod jobs;
 pub mod laws;
 mod parse;
 mod places;
 mod ports;
+mod shapes;
 mod sources;
 mod spelling;
 mod std_ports;

@@ -1,5 +1,5 @@
 // The printed texts.
-ghost use Rattle.std.specs.Prelude.{◌≡◌, ◌++◌, [], OnOk, IfErr, IsErrOf};
+ghost use Rattle.std.specs.Prelude.{◌≡◌, ◌++◌, IfOk, OnOk, IfErr, IsErrOf};
 ghost use Rattle.std.specs.List.{flat_map};
 ghost use Rattle.std.specs.Fmt.{decimal};
 ghost use Rattle.std.specs.Io.KnownBytes.{Appends};
@@ -115,7 +115,8 @@ fn push_pair(text: &mut Vec<u8, Alloc>, pair: &(Key, Value)) -> Result<(), Memor
     Ok(())
 }
 
-fn push_number(text: &mut Vec<u8, Alloc>, number: u64) -> Result<(), Memory>
+/// Puts a number behind a text.
+pub(crate) fn push_number(text: &mut Vec<u8, Alloc>, number: u64) -> Result<(), Memory>
     ensures { OnOk result (text.new.items ≡ text.old.items ++ decimal number) }
 {
     let digits = format!(in *text.allocator(); "{number}")?;
@@ -123,22 +124,13 @@ fn push_number(text: &mut Vec<u8, Alloc>, number: u64) -> Result<(), Memory>
     Ok(())
 }
 
-/// Prints how many pairs there are, and a line for each. After `Memory` nothing was written: all of the text is made
-/// first.
-pub(crate) fn print_contents<W: Outlet>(
-    alloc: Alloc,
-    out: &mut W,
-    pairs: &[(Key, Value)],
-) -> Result<(), TraceFault>
-    ensures ok { OnOk result (Appends (W.contents out.old) (W.contents out.new) (contents_text pairs.now)) }
-    ensures none_failed { OnOk result (W.failures out.new ≡ W.failures out.old) }
-    ensures memory { IsErrOf result TraceFault.Memory → Appends (W.contents out.old) (W.contents out.new) [] }
-    ensures write { IsErrOf result TraceFault.Write → HasRisenBy 1 (W.failures out.old) (W.failures out.new) }
-    ensures faults { IfErr result (λ fault. IsOfWriting fault) }
+/// How many pairs there are, and a line for each.
+pub(crate) fn contents_text(alloc: Alloc, pairs: &[(Key, Value)]) -> Result<Vec<u8, Alloc>, Memory>
+    ensures { IfOk result (λ text. text.items ≡ contents_text pairs.now) }
 {
     let mut text = Vec::new(alloc);
     push_pairs(&mut text, b"contents ", pairs)?;
-    put_text(out, &text)
+    Ok(text)
 }
 
 /// Prints the line of a refused batch. Its faults are those of `print_replies`.

@@ -33,13 +33,12 @@ use Rattle.bw_chain.proofs.ReadingLemmas.{slot_of_head}
 use Rattle.bw_chain.proofs.RouteLemmas.{held}
 use Rattle.bw_chain.proofs.RowLemmas.{InRow}
 use Rattle.bw_chain.proofs.StepLemmas.{contents_kept}
-use Rattle.bw_tree.specs.Consolidation.{IsConsolidated}
-use Rattle.bw_tree.specs.Folding.{folded_leaf}
+use Rattle.bw_tree.specs.Consolidation.{IsConsolidated, consolidated_leaf}
 use Rattle.bw_tree.specs.Making.{leaf_slot}
 use Rattle.bw_tree.specs.Trees.{IsStanding, IsTree, StageWords, view_of}
 use Rattle.bw_tree.specs.View.{StageView, TreeView, contents_at}
 use Rattle.bw_tree.proofs.AdoptLemmas.{slot_past}
-use Rattle.bw_tree.proofs.FoldLemmas.{folded_rules}
+use Rattle.bw_tree.proofs.LeafLemmas.{consolidated_rules}
 use Rattle.bw_tree.proofs.RebaseLemmas.{put_on, stands_with}
 use Rattle.bw_tree.proofs.ScanLemmas.{leaf_in_row}
 
@@ -110,7 +109,7 @@ module _ (heads : List ℕ) (bases : Bases) (records : Records) (root next : ℕ
   old = view_of heads bases records root next None
 
   abbrev leaf : LeafView ValueBytes
-  leaf = folded_leaf old p (side_of old.slots p)
+  leaf = consolidated_leaf old p (side_of old.slots p)
 
   at : InRow old.slots 0 (row old.levels 0) has.0 p
   at = leaf_in_row old.slots root old.levels t.lawful p has
@@ -159,7 +158,7 @@ module _ (heads : List ℕ) (bases : Bases) (records : Records) (root next : ℕ
   here_alike = record {
     state = record { low = leaf.low; high = leaf.high; side = leaf.side; body = Pairs leaf.pairs [] };
     is = page_new;
-    sound = λ h. record { page = folded_rules old root t.lawful p (side_of old.slots p) has refl; inside = tt };
+    sound = λ h. record { page = consolidated_rules old root t.lawful p (side_of old.slots p) has refl; inside = tt };
     level = sym at.stands.at_level;
     children = sym (no_children at.stands.state.low at.stands.state.high at.stands.state.side at.stands.state.body at.stands.sound at.stands.at_level);
     low = ap low_of at.stands.is;
@@ -273,7 +272,7 @@ module _ (heads : List ℕ) (bases : Bases) (records : Records) (root next : ℕ
   under = base_under records (slice_index heads p)
 
   abbrev made : LeafView ValueBytes
-  made = folded_leaf view p (side_of view.slots p)
+  made = consolidated_leaf view p (side_of view.slots p)
 
   made_here : IsTree heads bases records root next None → view ≡ tree → Contains (row tree.levels 0) p → IsMade (set heads p under) (set bases under (Some (LeafPage made))) records
   made_here t is has =
@@ -282,17 +281,17 @@ module _ (heads : List ℕ) (bases : Bases) (records : Records) (root next : ℕ
         subst (λ (v : TreeView). IsConsolidated v (view_of (set heads p under) (set bases under (Some (LeafPage made))) records root next None) p) is (consolidated_new heads bases records root next t.now p has_here),
       )
 
-  made_on : (leaf : LeafView ValueBytes) → IsTree heads bases records root next None → view ≡ tree → Contains (row tree.levels 0) p → leaf ≡ folded_leaf tree p (side_of tree.slots p) →
+  made_on : (leaf : LeafView ValueBytes) → IsTree heads bases records root next None → view ≡ tree → Contains (row tree.levels 0) p → leaf ≡ consolidated_leaf tree p (side_of tree.slots p) →
       (heads' : List ℕ) (bases' : Bases) (records' : Records) (base : ℕ) → base ≡ under → heads' ≡ set heads p base → bases' ≡ set bases base (Some (LeafPage leaf)) → records' ≡ records → IsMade heads' bases' records'
   made_on leaf t is has folded heads' bases' records' base based placed put same =
-      let folded_here : leaf ≡ made = subst (λ (v : TreeView). leaf ≡ folded_leaf v p (side_of v.slots p)) (sym is) folded in
+      let is_made : leaf ≡ made = subst (λ (v : TreeView). leaf ≡ consolidated_leaf v p (side_of v.slots p)) (sym is) folded in
       put_on IsMade heads bases records p under (LeafPage leaf)
-      (subst (λ (l : LeafView ValueBytes). IsMade (set heads p under) (set bases under (Some (LeafPage l))) records) (sym folded_here) (made_here t is has))
+      (subst (λ (l : LeafView ValueBytes). IsMade (set heads p under) (set bases under (Some (LeafPage l))) records) (sym is_made) (made_here t is has))
       heads' bases' records' base based placed put same
 
--- so is a tree that was given the folded leaf in the place of the base page
+-- so is a tree that was given the consolidated leaf in the place of the base page
 pub consolidated_on : (heads : List ℕ) (bases : Bases) (records : Records) (root next : ℕ) (staged : Option StageWords) (tree : TreeView) (p : ℕ) (leaf : LeafView ValueBytes) → IsTree heads bases records root next staged → view_of heads bases records root next staged ≡ tree → tree.staged ≡ None → Contains (row tree.levels 0) p →
-    leaf ≡ folded_leaf tree p (side_of tree.slots p) → (heads' : List ℕ) (bases' : Bases) (records' : Records) (base : ℕ) → base ≡ base_under records (slice_index heads p) → heads' ≡ set heads p base → bases' ≡ set bases base (Some (LeafPage leaf)) → records' ≡ records →
+    leaf ≡ consolidated_leaf tree p (side_of tree.slots p) → (heads' : List ℕ) (bases' : Bases) (records' : Records) (base : ℕ) → base ≡ base_under records (slice_index heads p) → heads' ≡ set heads p base → bases' ≡ set bases base (Some (LeafPage leaf)) → records' ≡ records →
     IsTree heads' bases' records' root next staged × IsConsolidated tree (view_of heads' bases' records' root next staged) p
 consolidated_on heads bases records root next None tree p leaf t is none has folded = made_on heads bases records root next tree p leaf t is has folded
 consolidated_on heads bases records root next (Some stage) tree p leaf t is none has folded = absurd (unstaged (ap (λ (v : TreeView). v.staged) is ∙ none))

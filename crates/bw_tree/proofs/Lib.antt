@@ -16,7 +16,7 @@ pub mod WordLemmas
 pub mod AdoptedLemmas
 pub mod AdoptedOnLemmas
 pub mod StagedLemmas
-pub mod FoldLemmas
+pub mod LeafLemmas
 pub mod RoutingLemmas
 pub mod ConsolidationLemmas
 pub mod StandingLemmas
@@ -27,3 +27,6 @@ pub mod RestartLemmas
 pub mod RebaseLemmas
 pub mod UnnamedLemmas
 pub mod ShapeLemmas
+pub mod BoundLemmas
+pub mod MergingLemmas
+pub mod NamingLemmas

@@ -54,8 +54,8 @@ none_distinct : HasDistinctStamps []
 unfolding IsDistinct
 none_distinct = tt
 
-over_tree : (stamp : ℕ) (bases : Bases) (levels : List (List ℕ)) → stamp ≤ 2 ^ 40 → AreLevels (over_slots bases) (length bases - 1) levels → row_writes (over_slots bases) (row levels 0) ≡ [] → length bases ≤ 2 ^ 32 → IsTree (count_from 0 (length bases)) bases [] (length bases - 1) stamp None
-over_tree stamp bases levels small lawful none few =
+over_tree : (bases : Bases) (levels : List (List ℕ)) → AreLevels (over_slots bases) (length bases - 1) levels → row_writes (over_slots bases) (row levels 0) ≡ [] → length bases ≤ 2 ^ 32 → IsTree (count_from 0 (length bases)) bases [] (length bases - 1) 0 None
+over_tree bases levels lawful none few =
     let now = levels_now (over_slots bases) (length bases - 1) levels lawful in
     record {
       stage = tt;
@@ -70,8 +70,8 @@ over_tree stamp bases levels small lawful none few =
         few_records = omega arith;
         few_pages = omega (arith, few, counted_length 0 (length bases));
         few_bases = few;
-        past = subst (λ (l : List (List ℕ)). AllByRecursion (λ (w : WriteView). w.stamp < stamp) (row_writes (over_slots bases) (row l 0))) (sym now) (subst (AllByRecursion (λ (w : WriteView). w.stamp < stamp)) (sym none) tt);
-        fits = small;
+        past = subst (λ (l : List (List ℕ)). AllByRecursion (λ (w : WriteView). w.stamp < 0) (row_writes (over_slots bases) (row l 0))) (sym now) (subst (AllByRecursion (λ (w : WriteView). w.stamp < 0)) (sym none) tt);
+        fits = omega arith;
       };
     }
 
@@ -81,8 +81,8 @@ unfolding contents_as_of
 unwritten start zero = refl
 unwritten start (suc as_of) = unwritten start as_of
 
-over_contents : (stamp : ℕ) (bases : Bases) (levels : List (List ℕ)) (leaves : List (LeafView ValueBytes)) → AreLevels (over_slots bases) (length bases - 1) levels → row levels 0 ≡ count_from 0 (length leaves) → StandAt (over_slots bases) 0 leaves → (as_of : ℕ) → contents_at (tree_over bases stamp) as_of ≡ from_entries (pairs_in leaves)
-over_contents stamp bases levels leaves lawful at stand as_of =
+over_contents : (bases : Bases) (levels : List (List ℕ)) (leaves : List (LeafView ValueBytes)) → AreLevels (over_slots bases) (length bases - 1) levels → row levels 0 ≡ count_from 0 (length leaves) → StandAt (over_slots bases) 0 leaves → (as_of : ℕ) → contents_at (tree_over bases) as_of ≡ from_entries (pairs_in leaves)
+over_contents bases levels leaves lawful at stand as_of =
     let slots = over_slots bases in
     let now = levels_now slots (length bases - 1) levels lawful in
     ap (λ (l : List (List ℕ)). contents_as_of (from_entries {R = key_cmp} (row_pairs slots (row l 0))) (row_writes slots (row l 0)) as_of) now
@@ -113,17 +113,17 @@ slots_are leaves more =
     all_based bases bases 0 (λ i o e. ap (slice_get bases) (from_none i) ∙ e) ∙ leaf_slots leaves more
 
 -- what a tree is over: it is lawful, and is the one that was asked for
-pub record StandsOver (stamp : ℕ) (bases : Bases) (given : List (LeafView ValueBytes)) : Type 0 where
-  pub tree : IsTree (count_from 0 (length bases)) bases [] (length bases - 1) stamp None
-  pub over : IsOverLeaves (tree_over bases stamp) given stamp
+pub record StandsOver (bases : Bases) (given : List (LeafView ValueBytes)) : Type 0 where
+  pub tree : IsTree (count_from 0 (length bases)) bases [] (length bases - 1) 0 None
+  pub over : IsOverLeaves (tree_over bases) given
 
 stand_over : (leaves : List (LeafView ValueBytes)) (more : Bases) → StandAt (over_slots (map base_of_leaf leaves ++ more)) 0 leaves
 stand_over leaves more i l e =
     let bases = map base_of_leaf leaves ++ more in
     ap (slot_at (over_slots bases)) (from_none i) ∙ slot_there bases i (base_of_leaf l) (leaf_there leaves more i l e)
 
-alone_over : (stamp : ℕ) (l : LeafView ValueBytes) → stamp ≤ 2 ^ 40 → AreAbutting 0 [] (l ∷ []) → AllByRecursion HasRules (l ∷ []) → StandsOver stamp (map base_of_leaf (l ∷ [])) (l ∷ [])
-alone_over stamp l small abut rules =
+alone_over : (l : LeafView ValueBytes) → AreAbutting 0 [] (l ∷ []) → AllByRecursion HasRules (l ∷ []) → StandsOver (map base_of_leaf (l ∷ [])) (l ∷ [])
+alone_over l abut rules =
     let bases = map base_of_leaf (l ∷ []) in
     let slots = over_slots bases in
     let stand : StandAt slots 0 (l ∷ []) = stand_over (l ∷ []) [] in
@@ -136,10 +136,10 @@ alone_over stamp l small abut rules =
       terms = λ n p s k c within. absurd (omega (arith, within));
     } in
     record {
-      tree = over_tree stamp bases levels small lawful (leaf_writes slots 0 (l ∷ []) stand) (omega arith);
+      tree = over_tree bases levels lawful (leaf_writes slots 0 (l ∷ []) stand) (omega arith);
       over = record {
         slots = slots_are (l ∷ []) [];
-        contents = over_contents stamp bases levels (l ∷ []) lawful refl stand;
+        contents = over_contents bases levels (l ∷ []) lawful refl stand;
         leaves = ap (λ (ls : List (List ℕ)). row ls 0) (levels_now slots 0 levels lawful);
         root = refl;
         heads = refl;
@@ -153,10 +153,10 @@ alone_over stamp l small abut rules =
     rows slots h zero within = h
     rows slots h (suc n) within = absurd (omega arith)
 
-pub one_over : (stamp : ℕ) (bases : Bases) (leaves : List (LeafView ValueBytes)) → stamp ≤ 2 ^ 40 → AreAbutting 0 [] leaves → AllByRecursion HasRules leaves → bases ≡ map base_of_leaf leaves → length bases ≤ 1 → StandsOver stamp bases leaves
-one_over stamp bases [] small abut rules is few = absurd abut
-one_over stamp bases (l ∷ []) small abut rules is few = subst (λ (b : Bases). StandsOver stamp b (l ∷ [])) (sym is) (alone_over stamp l small abut rules)
-one_over stamp bases (l ∷ k ∷ leaves) small abut rules is few = absurd (omega (arith, few, ap length is, length-map (l ∷ k ∷ leaves) base_of_leaf))
+pub one_over : (bases : Bases) (leaves : List (LeafView ValueBytes)) → AreAbutting 0 [] leaves → AllByRecursion HasRules leaves → bases ≡ map base_of_leaf leaves → length bases ≤ 1 → StandsOver bases leaves
+one_over bases [] abut rules is few = absurd abut
+one_over bases (l ∷ []) abut rules is few = subst (λ (b : Bases). StandsOver b (l ∷ [])) (sym is) (alone_over l abut rules)
+one_over bases (l ∷ k ∷ leaves) abut rules is few = absurd (omega (arith, few, ap length is, length-map (l ∷ k ∷ leaves) base_of_leaf))
 
 abbrev root_of : List (LeafView ValueBytes) → InnerView
 root_of leaves = record { level = 1; low = []; high = None; side = None; children = terms_from 0 leaves }
@@ -234,12 +234,12 @@ module _ (l k : LeafView ValueBytes) (rest : List (LeafView ValueBytes)) (abut :
   counted : length rooted ≡ length given + 1 → length rooted ≡ pages_over given
   counted e = omega (arith, e)
 
-  rooted_over : (stamp : ℕ) → stamp ≤ 2 ^ 40 → length rooted ≤ 2 ^ 32 → StandsOver stamp rooted given
-  rooted_over stamp small few = record {
-    tree = over_tree stamp rooted two_levels small rooted_lawful (leaf_writes rooted_slots 0 given stand) few;
+  rooted_over : length rooted ≤ 2 ^ 32 → StandsOver rooted given
+  rooted_over few = record {
+    tree = over_tree rooted two_levels rooted_lawful (leaf_writes rooted_slots 0 given stand) few;
     over = record {
       slots = slots_are given (Some (InnerPage (root_of given)) ∷ []);
-      contents = over_contents stamp rooted two_levels given rooted_lawful refl stand;
+      contents = over_contents rooted two_levels given rooted_lawful refl stand;
       leaves = ap (λ (ls : List (List ℕ)). row ls 0) (levels_now rooted_slots (length rooted - 1) two_levels rooted_lawful);
       root = omega (arith, rooted_length);
       heads = ap (count_from 0) (counted rooted_length);
@@ -257,15 +257,15 @@ inner_is r leaves level low high side children =
     ∙ ap (λ (o : Option ℕ). record { level = 1; low = []; high = None; side = o; children = r.children }) side
     ∙ ap (λ (cs : List (KeyBytes × ℕ)). record { level = 1; low = []; high = None; side = None; children = cs }) children
 
-pub more_over : (stamp : ℕ) (old bases : Bases) (leaves : List (LeafView ValueBytes)) (r : InnerView) → stamp ≤ 2 ^ 40 → AreAbutting 0 [] leaves → AllByRecursion HasRules leaves → old ≡ map base_of_leaf leaves → 1 < length old → length leaves < 2 ^ 32 →
-    r.level ≡ 1 → r.low ≡ [] → r.high ≡ None → r.side ≡ None → r.children ≡ terms_from 0 leaves → bases ≡ old ++ Some (InnerPage r) ∷ [] → StandsOver stamp bases leaves
-more_over stamp old bases [] r small abut rules is more few level low high side children pushed = absurd abut
-more_over stamp old bases (l ∷ []) r small abut rules is more few level low high side children pushed = absurd (omega (arith, more, ap length is, length-map (l ∷ []) base_of_leaf))
-more_over stamp old bases (l ∷ k ∷ rest) r small abut rules is more few level low high side children pushed =
+pub more_over : (old bases : Bases) (leaves : List (LeafView ValueBytes)) (r : InnerView) → AreAbutting 0 [] leaves → AllByRecursion HasRules leaves → old ≡ map base_of_leaf leaves → 1 < length old → length leaves < 2 ^ 32 →
+    r.level ≡ 1 → r.low ≡ [] → r.high ≡ None → r.side ≡ None → r.children ≡ terms_from 0 leaves → bases ≡ old ++ Some (InnerPage r) ∷ [] → StandsOver bases leaves
+more_over old bases [] r abut rules is more few level low high side children pushed = absurd abut
+more_over old bases (l ∷ []) r abut rules is more few level low high side children pushed = absurd (omega (arith, more, ap length is, length-map (l ∷ []) base_of_leaf))
+more_over old bases (l ∷ k ∷ rest) r abut rules is more few level low high side children pushed =
     let all : bases ≡ rooted l k rest abut rules = pushed ∙ ap (λ (b : Bases). b ++ Some (InnerPage r) ∷ []) is ∙ ap (λ q. map base_of_leaf (l ∷ k ∷ rest) ++ Some (InnerPage q) ∷ []) (inner_is r (l ∷ k ∷ rest) level low high side children) in
-    subst (λ (b : Bases). StandsOver stamp b (l ∷ k ∷ rest)) (sym all) (rooted_over l k rest abut rules stamp small (omega (arith, few, rooted_length l k rest abut rules)))
+    subst (λ (b : Bases). StandsOver b (l ∷ k ∷ rest)) (sym all) (rooted_over l k rest abut rules (omega (arith, few, rooted_length l k rest abut rules)))
 
 -- so, where a call answers that tree
-pub over_ok : {E : Type 0} (r : Result TreeView E) (stamp : ℕ) (bases : Bases) (leaves : List (LeafView ValueBytes)) → StandsOver stamp bases leaves → IfOk r (λ tree. tree ≡ tree_over bases stamp) → IfOk r (λ tree. IsOverLeaves tree leaves stamp)
-over_ok (Ok tree) stamp bases leaves so h = subst (λ (t : TreeView). IsOverLeaves t leaves stamp) (sym h) so.over
-over_ok (Err e) stamp bases leaves so h = h
+pub over_ok : {E : Type 0} (r : Result TreeView E) (bases : Bases) (leaves : List (LeafView ValueBytes)) → StandsOver bases leaves → IfOk r (λ tree. tree ≡ tree_over bases) → IfOk r (λ tree. IsOverLeaves tree leaves)
+over_ok (Ok tree) bases leaves so h = subst (λ (t : TreeView). IsOverLeaves t leaves) (sym h) so.over
+over_ok (Err e) bases leaves so h = h

@@ -1,5 +1,5 @@
 -- The list of a tree's pages, level by level.
-use Rattle.std.proofs.Common.{◌≡◌, ℕ, zero, suc, ◌<◌, true, cond, List, [], ◌∷◌, ◌++◌, length, map, take, get_or, Option, Some, None, refl, sym, ap, ◌∙◌, subst, arith}
+use Rattle.std.proofs.Common.{◌≡◌, ℕ, zero, suc, ◌<◌, true, cond, List, [], ◌∷◌, ◌++◌, length, take, get_or, Option, Some, None, refl, sym, ap, ◌∙◌, subst, arith}
 use Rattle.std.specs.List.{Contains}
 use Rattle.std.proofs.lemmas.List.{take_all}
 use Rattle.bw_key.specs.Order.{KeyBytes}
@@ -19,10 +19,10 @@ use Rattle.bw_chain.proofs.RouteLemmas.{side_bounded}
 use Rattle.bw_chain.proofs.RowLemmas.{InRow, in_row}
 use Rattle.bw_chain.proofs.WalkLemmas.{way_falls}
 use Rattle.bw_tree.specs.Routing.{IsInLevel, IsInnerPage}
-use Rattle.bw_tree.specs.Shapes.{level_shape, page_shape, pairs_on}
+use Rattle.bw_tree.specs.Shapes.{page_shape, pairs_on}
 use Rattle.bw_tree.specs.View.{TreeView, contents_at}
 use Rattle.bw_tree.specs.declared.tree.shape.PageShape.{PageShape}
-use Rattle.bw_tree.proofs.FoldLemmas.{first_home, folded_here, high_is, row_ends, side_is}
+use Rattle.bw_tree.proofs.LeafLemmas.{first_home, pairs_here, high_is, row_ends, side_is}
 use Rattle.bw_tree.proofs.ScanLemmas.{leaf_in_row}
 
 -- a page of these parts
@@ -49,30 +49,26 @@ pub raised_page : (tree : TreeView) (level p : ℕ) → IsInLevel tree p level �
 raised_page tree level p on raised = record { in_levels = record { level = level; within = on.0; in_level = on.1 }; raised = raised }
 
 -- one page more
-mapped_further : (f : ℕ → PageShape) (ps : List ℕ) (k p : ℕ) → k < length ps → get_or ps k p ≡ p → map f (take (suc k) ps) ≡ map f (take k ps) ++ f p ∷ []
-mapped_further f [] k p lt at = absurd (omega arith)
-mapped_further f (x ∷ xs) zero p lt at = ap (λ y. f y ∷ []) at
-mapped_further f (x ∷ xs) (suc k) p lt at = ap (λ (l : List PageShape). f x ∷ l) (mapped_further f xs k p (omega arith) at)
+one_further : (ps : List ℕ) (k p : ℕ) → k < length ps → get_or ps k p ≡ p → take (suc k) ps ≡ take k ps ++ p ∷ []
+one_further [] k p lt at = absurd (omega arith)
+one_further (x ∷ xs) zero p lt at = ap (λ y. y ∷ []) at
+one_further (x ∷ xs) (suc k) p lt at = ap (λ (l : List ℕ). x ∷ l) (one_further xs k p (omega arith) at)
 
-both_behind : (xs ys : List PageShape) (z : PageShape) → (xs ++ ys) ++ z ∷ [] ≡ xs ++ (ys ++ z ∷ [])
-both_behind [] ys z = refl
-both_behind (x ∷ xs) ys z = ap (λ (l : List PageShape). x ∷ l) (both_behind xs ys z)
-
--- the pages of a level before this one have been listed, behind those of the levels below
-pub record AreListed (tree : TreeView) (level : ℕ) (start list : List PageShape) (p : ℕ) : Type 0 where
+-- the pages of a level before this one have been listed
+pub record AreListed (tree : TreeView) (level : ℕ) (list : List ℕ) (p : ℕ) : Type 0 where
   pub place : ℕ
   pub within : place < length (row tree.levels level)
   pub at : get_or (row tree.levels level) place p ≡ p
-  pub so_far : list ≡ start ++ map (page_shape tree level) (take place (row tree.levels level))
+  pub so_far : list ≡ take place (row tree.levels level)
 
 -- what comes behind a page that has been listed
-pub record ListsOn (tree : TreeView) (level : ℕ) (start new : List PageShape) (p q : ℕ) : Type 0 where
-  pub listed : AreListed tree level start new q
+pub record ListsOn (tree : TreeView) (level : ℕ) (new : List ℕ) (p q : ℕ) : Type 0 where
+  pub listed : AreListed tree level new q
   pub less : length (walked (side_of tree.slots) (length tree.slots) q) < length (walked (side_of tree.slots) (length tree.slots) p)
 
 module _ (tree : TreeView) (root : ℕ) (lawful : AreLevels tree.slots root tree.levels) where
   -- a page of the lowest level is a leaf
-  leaf_there : (p : ℕ) → Contains (row tree.levels 0) p → is_leaf (slot_at tree.slots p) ≡ true
+  pub leaf_there : (p : ℕ) → Contains (row tree.levels 0) p → is_leaf (slot_at tree.slots p) ≡ true
   leaf_there p has =
       let st = (leaf_in_row tree.slots root tree.levels lawful p has).stands in
       ap is_leaf st.is ∙ by st.state.low st.state.high st.state.side st.state.body st.sound st.at_level
@@ -86,30 +82,22 @@ module _ (tree : TreeView) (root : ℕ) (lawful : AreLevels tree.slots root tree
       stamp ≡ tree.next → from ≡ low_of (slot_at tree.slots p) → to ≡ high_of (slot_at tree.slots p) → ArePairsOn (slot_at tree.slots p) from to stamp pairs → length pairs ≡ pairs_on tree (slot_at tree.slots p)
   leaf_pairs_on distinct p stamp from to pairs has now low high so =
       let all = pairs_of_range (contents_at tree tree.next) (low_of (slot_at tree.slots p)) (high_of (slot_at tree.slots p)) in
-      ap length (folded_here tree root lawful p stamp from to pairs distinct has now low high so)
+      ap length (pairs_here tree root lawful p stamp from to pairs distinct has now low high so)
       ∙ sym (ap (λ b. cond b (length all) (slot_entries (slot_at tree.slots p))) (leaf_there p has))
 
   module _ (level : ℕ) (within : level < length tree.levels) where
     -- the list of a level begins at the home of the least key
-    pub begins_listing : (start : List PageShape) (p : ℕ) → IsHomeAt tree.slots tree.levels [] level p → AreListed tree level start start p
-    begins_listing start p home =
+    pub begins_listing : (list : List ℕ) (p : ℕ) → list ≡ [] → IsHomeAt tree.slots tree.levels [] level p → AreListed tree level list p
+    begins_listing list p none home =
         let r = home.reached in
         let first = first_home tree root lawful level (row tree.levels level) p (lawful.rows level within) (record { in_row = r.in_level; state = r.state; is = r.is; from_low = r.from_low; ends_above = home.ends_above }) in
-        record { place = 0; within = first.0; at = first.1; so_far = sym (no_more start) }
-      where
-        no_more : (l : List PageShape) → l ++ [] ≡ l
-        no_more [] = refl
-        no_more (x ∷ l) = ap (λ (m : List PageShape). x ∷ m) (no_more l)
+        record { place = 0; within = first.0; at = first.1; so_far = none }
 
-    with_page : (start list new : List PageShape) (item : PageShape) (p : ℕ) (h : AreListed tree level start list p) → item ≡ page_shape tree level p → new ≡ list ++ item ∷ [] → new ≡ start ++ map (page_shape tree level) (take (suc h.place) (row tree.levels level))
-    with_page start list new item p h is more =
-        let before = map (page_shape tree level) (take h.place (row tree.levels level)) in
-        more ∙ ap (λ (s : PageShape). list ++ s ∷ []) is ∙ ap (λ (l : List PageShape). l ++ page_shape tree level p ∷ []) h.so_far
-        ∙ both_behind start before (page_shape tree level p)
-        ∙ ap (λ (l : List PageShape). start ++ l) (sym (mapped_further (page_shape tree level) (row tree.levels level) h.place p h.within h.at))
+    with_page : (list new : List ℕ) (p : ℕ) (h : AreListed tree level list p) → new ≡ list ++ p ∷ [] → new ≡ take (suc h.place) (row tree.levels level)
+    with_page list new p h more = more ∙ ap (λ (l : List ℕ). l ++ p ∷ []) h.so_far ∙ sym (one_further (row tree.levels level) h.place p h.within h.at)
 
-    here : (start list : List PageShape) (p : ℕ) (h : AreListed tree level start list p) → InRow tree.slots level (row tree.levels level) h.place p
-    here start list p h = in_row tree.slots level [] (row tree.levels level) h.place p (lawful.rows level within) h.within h.at
+    here : (list : List ℕ) (p : ℕ) (h : AreListed tree level list p) → InRow tree.slots level (row tree.levels level) h.place p
+    here list p h = in_row tree.slots level [] (row tree.levels level) h.place p (lawful.rows level within) h.within h.at
 
     no_side : {q : ℕ} → None ≡ Some q → ⊥
     no_side e = cc
@@ -118,16 +106,16 @@ module _ (tree : TreeView) (root : ℕ) (lawful : AreLevels tree.slots root tree
     one_page e = cc
 
     -- the list goes on at a page's right neighbour
-    pub lists_on : (start list new : List PageShape) (item : PageShape) (p q : ℕ) → AreListed tree level start list p → side_of tree.slots p ≡ Some q → item ≡ page_shape tree level p → new ≡ list ++ item ∷ [] → ListsOn tree level start new p q
-    lists_on start list new item p q h step is more = from (here start list p h).high refl
+    pub lists_on : (list new : List ℕ) (p q : ℕ) → AreListed tree level list p → side_of tree.slots p ≡ Some q → new ≡ list ++ p ∷ [] → ListsOn tree level new p q
+    lists_on list new p q h step more = from (here list p h).high refl
       where
         at : InRow tree.slots level (row tree.levels level) h.place p
-        at = here start list p h
+        at = here list p h
 
         side : at.side ≡ Some q
         side = sym (side_is tree.slots level at.low at.high at.side p at.stands) ∙ step
 
-        from : (o : Option KeyBytes) → at.high ≡ o → ListsOn tree level start new p q
+        from : (o : Option KeyBytes) → at.high ≡ o → ListsOn tree level new p q
         from None none = absurd (no_side (sym (at.ends none) ∙ side))
         from (Some k) some =
             let g = at.goes_on k some in
@@ -136,24 +124,23 @@ module _ (tree : TreeView) (root : ℕ) (lawful : AreLevels tree.slots root tree
                 place = suc h.place;
                 within = g.2;
                 at = subst (λ z. get_or (row tree.levels level) (suc h.place) z ≡ z) (one_page (sym g.1 ∙ side)) g.3;
-                so_far = with_page start list new item p h is more;
+                so_far = with_page list new p h more;
               };
               less = way_falls (side_of tree.slots) (length tree.slots) (side_bounded tree.slots) p q at.way.0 at.way.1.0 at.way.1.1 step;
             }
 
     -- and ends where there is none
-    pub all_listed : (start list new : List PageShape) (item : PageShape) (p : ℕ) → AreListed tree level start list p → None ≡ side_of tree.slots p → item ≡ page_shape tree level p → new ≡ list ++ item ∷ [] → new ≡ start ++ level_shape tree level
-    all_listed start list new item p h none is more = from (here start list p h).high refl
+    pub all_listed : (list new : List ℕ) (p : ℕ) → AreListed tree level list p → None ≡ side_of tree.slots p → new ≡ list ++ p ∷ [] → new ≡ row tree.levels level
+    all_listed list new p h none more = from (here list p h).high refl
       where
         at : InRow tree.slots level (row tree.levels level) h.place p
-        at = here start list p h
+        at = here list p h
 
-        from : (o : Option KeyBytes) → at.high ≡ o → new ≡ start ++ level_shape tree level
+        from : (o : Option KeyBytes) → at.high ≡ o → new ≡ row tree.levels level
         from (Some k) some =
             let g = at.goes_on k some in
             absurd (no_side (none ∙ side_is tree.slots level at.low at.high at.side p at.stands ∙ g.1))
         from None last =
             let ps = row tree.levels level in
             let end = row_ends tree root lawful level [] ps h.place p (lawful.rows level within) h.within h.at (high_is tree.slots level at.low at.high at.side p at.stands ∙ last) in
-            with_page start list new item p h is more
-            ∙ ap (λ n. start ++ map (page_shape tree level) (take n ps)) end ∙ ap (λ (l : List ℕ). start ++ map (page_shape tree level) l) (take_all (length ps) ps (omega arith))
+            with_page list new p h more ∙ ap (λ n. take n ps) end ∙ take_all (length ps) ps (omega arith)

@@ -4,7 +4,6 @@ pub mod Stages
 pub mod Words
 pub mod Replaying
 pub mod Making
-pub mod Folding
 pub mod Consolidation
 pub mod Routing
 pub use Rattle.bw_chain.specs.Walk
@@ -22,6 +21,7 @@ pub use Rattle.bw_chain.specs.LeafEnds
 pub use Rattle.bw_chain.specs.Targets
 pub use Rattle.bw_chain.specs.Laws
 pub mod Splits
+pub mod Merging
 pub mod Children
 pub mod Roots
 pub mod Shapes

@@ -59,9 +59,9 @@ root_slots (leaf ∷ next ∷ leaves) =
     let children = terms_from 0 (leaf ∷ next ∷ leaves) in
     Live (record { low = []; high = None; side = None; body = Children 1 children }) ∷ []
 
--- the tree whose pages are base pages, each named by its place, with this next stamp
-abbrev pub tree_over : Bases → ℕ → TreeView
-tree_over bases stamp =
+-- the tree whose pages are base pages, each named by its place, without any operation yet
+abbrev pub tree_over : Bases → TreeView
+tree_over bases =
     let slots = slots_of (count_from 0 (length bases)) bases [] in
     let root = length bases - 1 in
     record {
@@ -70,17 +70,17 @@ tree_over bases stamp =
       levels = levels_under slots root;
       heads = count_from 0 (length bases);
       records = 0;
-      next = stamp;
+      next = 0;
       staged = None;
     }
 
--- The tree over leaves, each of which is the page of its place, with this next stamp. It has no writes.
-pub record IsOverLeaves (tree : TreeView) (given : List (LeafView ValueBytes)) (stamp : ℕ) : Type 0 where
+-- The tree over leaves, each of which is the page of its place. It has no writes, and its next stamp is 0.
+pub record IsOverLeaves (tree : TreeView) (given : List (LeafView ValueBytes)) : Type 0 where
   pub slots : tree.slots ≡ map leaf_slot given ++ root_slots given
   pub contents : (as_of : ℕ) → contents_at tree as_of ≡ from_entries (pairs_in given)
   pub leaves : row tree.levels 0 ≡ count_from 0 (length given)
   pub root : tree.root + 1 ≡ pages_over given
   pub heads : tree.heads ≡ count_from 0 (pages_over given)
   pub records : tree.records ≡ 0
-  pub next : tree.next ≡ stamp
+  pub next : tree.next ≡ 0
   pub staged : tree.staged ≡ None

@@ -17,7 +17,8 @@ mod batch;
 mod children;
 mod consolidation;
 mod counts;
-mod folding;
+mod merging;
+mod naming;
 mod reading;
 mod restart;
 mod roots;
@@ -95,16 +96,7 @@ impl Tree {
     /// of them as its children. After `Memory` the leaves are gone.
     pub fn from_level(alloc: Alloc, leaves: Vec<Leaf, Alloc>) -> Result<Tree, Memory>
         requires { AreAbutting 0 [] leaves.items }
-        ensures { IfOk result (λ tree. IsOverLeaves tree leaves.entry.items 0) }
-    {
-        Tree::made_of(alloc, leaves, 0)
-    }
-
-    // The same with this next stamp.
-    fn made_of(alloc: Alloc, leaves: Vec<Leaf, Alloc>, next: u64) -> Result<Tree, Memory>
-        requires leaves { AreAbutting 0 [] leaves.items }
-        requires fits { next ≤ 2 ^ 40 }
-        ensures { IfOk result (λ tree. IsOverLeaves tree leaves.entry.items next) }
+        ensures { IfOk result (λ tree. IsOverLeaves tree leaves.entry.items) }
     {
         if leaves.len() as u64 >= FLOOR {
             return Err(Memory);
@@ -115,22 +107,22 @@ impl Tree {
             let low = Key::new(alloc, &[]).unwrap();
             let root = Inner::from_children(1, low, None, None, children);
             bases.push(Some(Page::Inner(root)))?;
-            return Tree::over(alloc, bases, next);
+            return Tree::over(alloc, bases);
         }
-        Tree::over(alloc, bases, next)
+        Tree::over(alloc, bases)
     }
 
     // The tree whose pages are base pages, each named by its place. The last one is the root.
-    fn over(alloc: Alloc, bases: Vec<Option<Page>, Alloc>, next: u64) -> Result<Tree, Memory>
-        requires { IsTree (count_from 0 (length bases.items)) bases.items [] (length bases.items - 1) next None }
-        ensures { IfOk result (λ tree. tree ≡ tree_over bases.entry.items next) }
+    fn over(alloc: Alloc, bases: Vec<Option<Page>, Alloc>) -> Result<Tree, Memory>
+        requires { IsTree (count_from 0 (length bases.items)) bases.items [] (length bases.items - 1) 0 None }
+        ensures { IfOk result (λ tree. tree ≡ tree_over bases.entry.items) }
     {
         let count = bases.len();
         Ok(Tree {
             heads: words(alloc, count as u64)?,
             chains: Chains::new(alloc, bases),
             root: PageId((count - 1) as u32),
-            next,
+            next: 0,
             staged: None,
         })
     }

@@ -2,8 +2,8 @@
 // refused in turn.
 mod consolidation;
 mod drops;
-mod folding;
 mod making;
+mod naming;
 mod pages;
 mod refused;
 mod routes;

@@ -93,7 +93,7 @@ fn other_words_are_no_command(rt: HostRuntime) {
     let runner = Runner::new(&rt, rt.alloc());
     let commands: [&[&'static str]; 9] = [
         &[],
-        &["shape"],
+        &["shapes"],
         &["-"],
         &["run", "-", "-"],
         &["run", "--workers"],
@@ -128,7 +128,7 @@ fn what_is_wrong_with_words_is_told(rt: HostRuntime) {
         (
             &["bogus"],
             "error: invalid value 'bogus' for '<JOB>'
-  [possible values: run, dump]
+  [possible values: run, dump, shape, picture]
 
 For more information, try '--help'.
 ",
@@ -140,6 +140,8 @@ For more information, try '--help'.
 
 Usage: bw_run run [OPTIONS] [FILE]
        bw_run dump [OPTIONS] [FILE]
+       bw_run shape [OPTIONS] [FILE]
+       bw_run picture [OPTIONS] [FILE]
 
 For more information, try '--help'.
 ",

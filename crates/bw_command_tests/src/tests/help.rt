@@ -6,9 +6,11 @@ const HELP: &str = "Runs a trace of operations on an ordered index from keys to 
 
 Usage: bw_run run [OPTIONS] [FILE]
        bw_run dump [OPTIONS] [FILE]
+       bw_run shape [OPTIONS] [FILE]
+       bw_run picture [OPTIONS] [FILE]
 
 Arguments:
-  <JOB>   run prints the reply to each operation; dump prints at the end what the index holds [possible values: run, dump]
+  <JOB>   What is printed: the replies, what the index holds at the end, its pages, or a picture of them [possible values: run, dump, shape, picture]
   [FILE]  The trace; - is standard input [default: -]
 
 Options:
@@ -21,6 +23,16 @@ Options:
       --record-max <N>  How many records are kept until a sweep consolidates all, batch-max to 16777216 [default: 1048576]
   -h, --help            Print help
   -V, --version         Print version
+
+The jobs:
+  run      prints the reply to each operation, batch by batch
+  dump     prints at the end how many pairs the index holds, and the pairs in key order
+  shape    prints at the end a line for each page of the index, the leaves first:
+             leaf LOW HIGH PAIRS WRITES     the pairs from LOW on and below HIGH, and how
+                                            many writes stand before the leaf's page
+             inner LEVEL LOW HIGH CHILDREN  a page so many levels above the leaves
+           A HIGH of * is no end.
+  picture  writes at the end a picture of these pages to standard output, an SVG text
 
 A trace has one operation on a line:
   upsert apple 7      puts the value 7 at the key apple
@@ -39,6 +51,7 @@ or by % and hexadecimal digits. Behind a first line `bw 2` values are spelled so
 
 Try it:
   printf 'upsert apple 7\\nget apple\\n' | bw_run run
+  bw_run picture trace > tree.svg
 
 The status is 0 where all went well, 1 where reading, writing or memory failed, 2 for other
 words, 3 at a faulty line, and 4 where a batch was refused.

@@ -219,6 +219,25 @@ impl<'a, R: Abort + Files + AllocGlobal + Threads + Sync> Runner<'a, R> {
         assert_eq!(self.rt; found, status);
     }
 
+    /// A job whose writer fails at its first call.
+    pub fn expect_unwritten(&self, job: &'static str) {
+        let mut out = self.sink_failing_at(1);
+        let mut errors = self.sink();
+        let input = self.pieces(TWO_BATCHES);
+        let found = run_words(
+            self.rt,
+            self.alloc,
+            &[job],
+            input,
+            &mut out,
+            &mut errors,
+            TURNS,
+        );
+        assert_eq!(self.rt; found, 1);
+        self.expect_text(&out, "");
+        self.expect_message(&errors, "cannot write");
+    }
+
     /// The first line of this fault is met before anything is written.
     pub fn expect_fault(&self, text: &str, message: &str) {
         self.expect(text, "", message, 3);

@@ -1,9 +1,12 @@
 // Each growth of memory refused in turn.
+ghost use Rattle.std.specs.Prelude.{◌≤◌};
+
 use super::making::{delete, insert, pairs_of, update, value_of};
 use bw_delta::Memory;
 use bw_fixtures::{LONG, heap, key, leaf_of, value, was_refused};
 use bw_memory::Alloc;
 use bw_model::{Pairs, Value};
+use bw_page::Leaf;
 use std::process::Abort;
 
 // What a delete and an insert leave of a value, where this growth is refused.
@@ -32,9 +35,14 @@ fn each_growth_of_a_value_is_refused(rt: HostRuntime) {
     panic!(rt; "no run met no refusal")
 }
 
-// What an insert and an update leave of a leaf, where this growth is refused.
-fn read_leaf<R: Abort>(rt: &R, alloc: Alloc, growth: u64) -> Result<Pairs, Memory> {
-    let leaf = leaf_of(alloc, LONG).expect(rt, "memory");
+// What an insert and an update leave of a leaf, where this growth is refused. With the empty leaf there are two parts.
+fn read_leaf<R: Abort>(rt: &R, alloc: Alloc, growth: u64, parts: usize) -> Result<Pairs, Memory>
+    requires { parts ≤ 2 }
+{
+    let (leaf, empty) = (
+        leaf_of(alloc, LONG).expect(rt, "memory"),
+        Leaf::empty(alloc),
+    );
     let low = key(alloc, b"").expect(rt, "memory");
     let insert = insert(rt, alloc, 2, LONG, LONG);
     let update = update(rt, alloc, 1, LONG);
@@ -43,7 +51,7 @@ fn read_leaf<R: Abort>(rt: &R, alloc: Alloc, growth: u64) -> Result<Pairs, Memor
     pairs_of(
         rt,
         alloc,
-        &[&leaf],
+        &[&leaf, &empty][..parts],
         (&low, None),
         (&late, &insert, &update),
         9,
@@ -54,10 +62,25 @@ fn read_leaf<R: Abort>(rt: &R, alloc: Alloc, growth: u64) -> Result<Pairs, Memor
 fn each_growth_of_a_leaf_is_refused(rt: HostRuntime) {
     let alloc = heap(rt.alloc()).expect(&rt, "memory");
     for growth in 1..100 {
-        let left = read_leaf(&rt, alloc, growth);
+        let left = read_leaf(&rt, alloc, growth, 1);
         if !was_refused(alloc, growth) {
             assert_eq!(rt; left.expect(&rt, "memory").as_slice().len(), 2);
-            assert!(rt; growth > 5);
+            assert_eq!(rt; growth, 6);
+            return;
+        }
+        assert!(rt; left.is_err());
+    }
+    panic!(rt; "no run met no refusal")
+}
+
+#[test]
+fn each_growth_of_two_parts_is_refused(rt: HostRuntime) {
+    let alloc = heap(rt.alloc()).expect(&rt, "memory");
+    for growth in 1..100 {
+        let left = read_leaf(&rt, alloc, growth, 2);
+        if !was_refused(alloc, growth) {
+            assert_eq!(rt; left.expect(&rt, "memory").as_slice().len(), 2);
+            assert!(rt; growth > 6);
             return;
         }
         assert!(rt; left.is_err());

@@ -58,3 +58,23 @@ pub fn abut_within(pages: &[PageShape], most: usize) -> bool {
     }
     end.is_none()
 }
+
+// Whether two pages are listed alike.
+fn is_alike(page: &PageShape, other: &PageShape) -> bool {
+    page.page == other.page
+        && page.level == other.level
+        && page.low == other.low
+        && page.high == other.high
+        && page.pairs == other.pairs
+        && page.writes == other.writes
+}
+
+/// Whether two lists of pages are alike.
+pub fn are_alike(pages: &[PageShape], others: &[PageShape]) -> bool {
+    for (page, other) in pages.iter().zip(others) {
+        if !is_alike(page, other) {
+            return false;
+        }
+    }
+    pages.len() == others.len()
+}

@@ -49,8 +49,8 @@ const SEVENTEEN: [Wanted; 8] = [
     (7, 2, b"", None, 2, 0),
 ];
 
-// The limits of all these tests.
-fn four_pairs() -> Limits {
+/// The limits of all these tests.
+pub fn four_pairs() -> Limits {
     Limits::new(1, 4, 1)
 }
 
@@ -65,8 +65,8 @@ fn is_due_or_within(tree: &Tree, limits: &Limits, pages: &[PageId], page: PageId
             && tree.entries(page) as u64 <= limits.page_max())
 }
 
-// Whether each page is one of these, or keeps to the limits of a leaf.
-fn are_within_but(tree: &Tree, limits: &Limits, pages: &[PageId]) -> bool
+/// Whether each page is one of these, or keeps to the limits of a leaf.
+pub fn are_within_but(tree: &Tree, limits: &Limits, pages: &[PageId]) -> bool
     ensures { result ≡ true → AreWithinBut limits.now tree.now (reverse pages.now) }
 {
     tree.know_records();
@@ -78,8 +78,8 @@ fn are_within_but(tree: &Tree, limits: &Limits, pages: &[PageId]) -> bool
     true
 }
 
-// These pages, the first one next.
-fn due_of<R: Abort>(rt: &R, alloc: Alloc, pages: &[PageId]) -> Due
+/// These pages, the first one next.
+pub fn due_of<R: Abort>(rt: &R, alloc: Alloc, pages: &[PageId]) -> Due
     ensures { result.pages ≡ reverse pages.now }
 {
     let mut list = Vec::new(alloc);

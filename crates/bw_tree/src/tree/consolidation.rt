@@ -1,17 +1,18 @@
 // Consolidation of one page in its place.
-ghost use Rattle.std.specs.Prelude.{◌≡◌, ◌<◌, None, length, OnOk, OnErr};
+ghost use Rattle.std.specs.Prelude.{◌≡◌, ◌<◌, is_some, None, length, IfOk, OnOk, OnErr};
 ghost use Rattle.std.specs.List.{Contains};
+ghost use Rattle.std.specs.Option.{option_copied};
 
 use super::Tree;
-use bw_key::Memory;
-use bw_page::{Leaf, Page, PageId};
+use bw_key::{Key, Memory};
+use bw_page::{Inner, Leaf, Page, PageId};
 
 impl Tree {
     ghost use Rattle.bw_chain.specs.Levels.{row};
     ghost use Rattle.bw_chain.specs.Chains.{plain};
+    ghost use Rattle.bw_chain.specs.Searches.{plain_inner};
     ghost use Rattle.bw_chain.specs.Slots.{side_of, slot_at};
-    ghost use Rattle.bw_tree.specs.Consolidation.{IsConsolidated, IsRebased};
-    ghost use Rattle.bw_tree.specs.Folding.{folded_leaf};
+    ghost use Rattle.bw_tree.specs.Consolidation.{IsConsolidated, IsRebased, consolidated_leaf};
     ghost use Rattle.bw_tree.specs.Routing.{IsInnerPage};
 
     /// Consolidates a leaf: what its writes make of its base page, as of the next stamp, takes the place of that page (ICDE
@@ -26,16 +27,30 @@ impl Tree {
         ensures err { OnErr result (self.new ≡ self.old) }
     {
         let (_, side) = self.chains.end(self.heads[page.0 as usize]);
-        let leaf = self.folded_leaf(page, side)?;
+        let leaf = self.consolidated_leaf(page, side)?;
         self.put_leaf(page, leaf);
         Ok(())
+    }
+
+    // A leaf's range with what the leaf holds as of the next stamp, and this right neighbour.
+    fn consolidated_leaf(&self, page: PageId, side: Option<PageId>) -> Result<Leaf, Memory>
+        requires leaf { Contains (row self.now.levels 0) page }
+        requires linked { is_some side ≡ is_some (side_of self.now.slots page) }
+        ensures { IfOk result (λ leaf. leaf ≡ consolidated_leaf self.now page side) }
+    {
+        self.know_levels();
+        let alloc = *self.heads.allocator();
+        let leaf = self.leaf(alloc, page)?;
+        let low = leaf.base.low();
+        let pairs = leaf.pairs_as_of(alloc, low, leaf.end, self.next)?;
+        Ok(Leaf::from_pairs(low.copy()?, copy_end(leaf.end)?, side, pairs))
     }
 
     // Puts a consolidated leaf in the place of its chain.
     fn put_leaf(&mut self, page: PageId, leaf: Leaf)
         requires none { self.old.staged ≡ None }
         requires leaf { Contains (row self.old.levels 0) page }
-        requires folded { leaf ≡ folded_leaf self.old page (side_of self.old.slots page) }
+        requires consolidated { leaf ≡ consolidated_leaf self.old page (side_of self.old.slots page) }
         ensures { IsConsolidated self.old self.new page }
     {
         let head = self.heads[page.0 as usize];
@@ -52,9 +67,19 @@ impl Tree {
         ensures ok { OnOk result (IsRebased self.old self.new page) }
         ensures err { OnErr result (self.new ≡ self.old) }
     {
-        let inner = self.chains.inner_page(self.heads[page.0 as usize])?;
+        self.know_records();
+        let inner = self.inner_page(page)?;
         self.rebase(page, Page::Inner(inner));
         Ok(())
+    }
+
+    /// The inner page that an inner page's chain makes, as a page that has no record. It costs a walk along the chain and a
+    /// copy of the page's children.
+    pub(super) fn inner_page(&self, page: PageId) -> Result<Inner, Memory>
+        requires { IsInnerPage self.now page }
+        ensures { IfOk result (λ inner. slot_at self.now.slots page ≡ plain_inner inner) }
+    {
+        self.chains.inner_page(self.heads[page.0 as usize])
     }
 
     // Puts a page that is what a chain makes in the place of the chain.
@@ -66,5 +91,15 @@ impl Tree {
     {
         let number = self.chains.replace_base(self.heads[page.0 as usize], state);
         self.heads[page.0 as usize] = number;
+    }
+}
+
+/// The same end of a range again.
+pub(super) fn copy_end(end: Option<&Key>) -> Result<Option<Key>, Memory>
+    ensures { IfOk result (λ copy. copy ≡ option_copied end.entry) }
+{
+    match end {
+        Some(key) => Ok(Some(key.copy()?)),
+        None => Ok(None),
     }
 }

@@ -1,13 +1,15 @@
 // The list of a tree's pages.
-ghost use Rattle.std.specs.Prelude.{◌≡◌, ◌<◌, ◌++◌, [], length, IfOk, OnOk};
+ghost use Rattle.std.specs.Prelude.{◌≡◌, ℕ, ◌+◌, ◌<◌, ◌≤◌, ◌++◌, [], length, IfOk, OnOk};
 ghost use Rattle.std.specs.List.{Contains};
 ghost use Rattle.std.specs.Option.{option_copied};
 ghost use Rattle.bw_chain.specs.Levels.{IsHomeAt, row};
+ghost use Rattle.bw_chain.specs.Reading.{pairs_under, writes_over};
+ghost use Rattle.bw_chain.specs.Slots.{slot_at};
 ghost use Rattle.bw_tree.specs.Routing.{IsInLevel};
-ghost use Rattle.bw_tree.specs.Shapes.{level_shape, page_shape, shape_of};
+ghost use Rattle.bw_tree.specs.Shapes.{level_shape, page_shape, pairs_on, shape_of};
 
 use super::Tree;
-use super::folding::copy_end;
+use super::consolidation::copy_end;
 use bw_key::{Key, Memory};
 use bw_memory::Alloc;
 use bw_page::PageId;
@@ -33,14 +35,14 @@ impl Tree {
     /// The pages of all levels, the lowest level first, each level in the order of keys.
     ///
     /// It is a picture for people and tests, and not for the hot path. It costs a search for each level, and for each page
-    /// some walks along its chain and copies of its bounds. Of a leaf it copies all pairs too, into a map in which the writes
-    /// have their effects, and of an inner page its children. The writes of an adopted batch are listed over their leaves,
-    /// and count among the pairs once the batch is accepted. `Memory` is answered where a list, a map or a copy finds none.
+    /// some walks along its chain and copies of its bounds. Of a leaf it sorts the writes and copies all pairs too, and of
+    /// an inner page its children. The writes of an adopted batch are listed over their leaves, and count among the pairs
+    /// once the batch is accepted. `Memory` is answered where a list or a copy finds none.
     pub fn shape(&self) -> Result<Vec<PageShape, Alloc>, Memory>
         ensures { IfOk result (λ shape. shape.items ≡ shape_of self.now) }
     {
         let mut shape = Vec::new(*self.heads.allocator());
-        let top = self.level(self.root);
+        let top = self.root_level();
         let mut level = 0;
         loop {
             self.add_level(level, &mut shape)?;
@@ -51,17 +53,47 @@ impl Tree {
         }
     }
 
+    /// A leaf has no more pairs than its base page and the writes over it together. It does nothing: its contract says it.
+    pub fn know_pairs(&self)
+        ensures { (p : ℕ) → Contains (row self.now.levels 0) p → pairs_on self.now (slot_at self.now.slots p)
+            ≤ length (pairs_under (slot_at self.now.slots p)) + length (writes_over (slot_at self.now.slots p)) }
+    {
+        // A look at a field is what makes the type's rule known here.
+        let _ = &self.root;
+    }
+
     // Adds the pages of a level to a list. After `Memory` some may have been added.
     fn add_level(&self, level: u32, shape: &mut Vec<PageShape, Alloc>) -> Result<(), Memory>
         requires { level < length self.now.levels }
         ensures { OnOk result (shape.new.items ≡ shape.old.items ++ level_shape self.now level) }
     {
+        for page in &self.level_pages(level)? {
+            shape.push(self.page_shape(level, *page)?)?;
+        }
+        Ok(())
+    }
+
+    /// The level of the root: 0 where it is a leaf, and one more for each level above the leaves.
+    pub fn root_level(&self) -> u32
+        ensures { result + 1 ≡ length self.now.levels }
+    {
         self.know_levels();
+        self.level(self.root)
+    }
+
+    /// The pages of a level, in the order of keys. It costs a search, and for each page a walk along its chain. `Memory` is
+    /// answered where the list finds none.
+    pub fn level_pages(&self, level: u32) -> Result<Vec<PageId, Alloc>, Memory>
+        requires { level < length self.now.levels }
+        ensures { IfOk result (λ pages. pages.items ≡ row self.now.levels level) }
+    {
+        self.know_levels();
+        let mut pages = Vec::new(*self.heads.allocator());
         let mut page = self.first_page(level);
         loop {
-            shape.push(self.page_shape(level, page)?)?;
+            pages.push(page)?;
             let Some(next) = self.right_of(page) else {
-                return Ok(());
+                return Ok(pages);
             };
             page = next;
         }

@@ -7,11 +7,11 @@ use bw_memory::Alloc;
 use bw_tree::{Memory, PageId, Tree};
 use std::process::Abort;
 
-// The word of the first record.
-const FLOOR: u64 = 4294967296;
+/// The word of the first record.
+pub const FLOOR: u64 = 4294967296;
 
-// Splits the leaf that has a key, which is a base page by itself with more than `keep` pairs.
-fn split<R: Abort>(
+/// Splits the leaf that has a key, which is a base page by itself with more than `keep` pairs.
+pub fn split<R: Abort>(
     rt: &R,
     alloc: Alloc,
     tree: &mut Tree,
@@ -27,13 +27,13 @@ fn split<R: Abort>(
     tree.set_split(page, keep)
 }
 
-// Compares the leaf of a key.
-fn routes<R: Abort>(rt: &R, alloc: Alloc, tree: &Tree, bytes: &[u8], wanted: u32) {
+/// Compares the leaf of a key.
+pub fn routes<R: Abort>(rt: &R, alloc: Alloc, tree: &Tree, bytes: &[u8], wanted: u32) {
     assert!(rt; tree.route(&key(rt, alloc, bytes)) == PageId(wanted));
 }
 
-// Compares how many entries a page has that is a base page by itself.
-fn has_entries<R: Abort>(rt: &R, tree: &Tree, page: PageId, wanted: usize) {
+/// Compares how many entries a page has that is a base page by itself.
+pub fn has_entries<R: Abort>(rt: &R, tree: &Tree, page: PageId, wanted: usize) {
     assert!(rt; (page.0 as usize) < tree.heads().len());
     assert!(rt; tree.heads()[page.0 as usize] < FLOOR);
     assert_eq!(rt; tree.entries(page), wanted);

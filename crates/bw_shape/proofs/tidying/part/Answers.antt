@@ -1,5 +1,4 @@
-use Rattle.std.proofs.Common.{◌≤◌, [], ◌∷◌, length, ap, arith}
-use Rattle.std.proofs.lemmas.List.{length-append}
+use Rattle.std.proofs.Common.{◌≤◌, length, refl, ap, arith}
 use Rattle.bw_chain.specs.Reading.{writes_over}
 use Rattle.bw_chain.specs.Slots.{slot_at}
 use Rattle.bw_chain.specs.Splits.{slot_entries}
@@ -19,9 +18,11 @@ returns-then-count-page_max-clause-within c =
     let entries : slot_entries slot ≤ limits.page_max = omega (arith, c.entries-count.ensures, c.page_max.ensures.value, c.if-count-page_max.true) in
     within_pass limits tree c.args.due.now.pages c.pass.new.self.pages c.args.page (c.pass.ensures.pages c.args.page c.requires.next) (λ leaf. few_within limits slot writes entries) c.requires.within
 
-pub returns-then-count-page_max-clause-less : goal.returns-then-count-page_max-clause-less
-returns-then-count-page_max-clause-less c =
-    omega (arith, ap length (c.pass.ensures.pages c.args.page c.requires.next), length-append c.pass.new.self.pages (c.args.page ∷ []), ap length c.pass.ensures.above)
+pub returns-then-count-page_max-clause-ok : goal.returns-then-count-page_max-clause-ok
+returns-then-count-page_max-clause-ok c = (refl, c.pass.ensures.pages c.args.page c.requires.next, c.pass.ensures.above)
 
 pub returns-clause-within : goal.returns-clause-within
-returns-clause-within c = c.halve.ensures.within c.args.limits.now c.requires.within
+returns-clause-within c = c.in_ok-halve.ensures.within c.args.limits.now c.requires.within
+
+pub returns-in_err-halve-clause-within : goal.returns-in_err-halve-clause-within
+returns-in_err-halve-clause-within c = c.in_err-halve.ensures.within c.args.limits.now c.requires.within

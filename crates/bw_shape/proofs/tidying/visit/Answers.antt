@@ -20,6 +20,6 @@ pub returns-in_default-clause-less : goal.returns-in_default-clause-less
 returns-in_default-clause-less c =
     omega (arith, ap length (c.pass-in_default.ensures.pages c.args.page c.requires.next), length-append c.pass-in_default.new.self.pages (c.args.page ∷ []), ap length c.pass-in_default.ensures.above)
 
-pub part-requires-clause-within : goal.part-requires-clause-within
-part-requires-clause-within c =
+pub part_all-requires-clause-within : goal.part_all-requires-clause-within
+part_all-requires-clause-within c =
     within_bare c.args.tree.now c.bare.new.tree c.args.due.now.pages c.args.page c.in_ok-bare.ensures.ok c.requires.next c.args.limits.now c.requires.within

@@ -139,8 +139,8 @@ returns-clause-done g c =
         (
           run.0,
           so_far.counted,
-          texts_end c.args.job (g.W.Outlet.contents c.args.out.now) (g.W.Outlet.contents c.loop-index.out) (g.W.Outlet.contents c.print_end.new.out) so_far.outcomes
-              (contents_of c.loop-index.index) (left_by_run run.0) run.1 so_far.written c.in_ok-print_end.ensures.ok,
+          texts_end c.args.job c.args.options.page_max (g.W.Outlet.contents c.args.out.now) (g.W.Outlet.contents c.loop-index.out) (g.W.Outlet.contents c.print_end.new.out) so_far.outcomes
+              (contents_of c.loop-index.index) (left_by_run run.0) run.1 so_far.written (rw c.page_max.ensures.value at c.in_ok-print_end.ensures.ok),
         ),
       ),
     )

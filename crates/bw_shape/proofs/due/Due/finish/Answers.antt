@@ -1,31 +1,32 @@
 use Rattle.std.proofs.Common.{◌≡◌, ℕ, Option, Some, sym, subst}
 use Rattle.std.specs.Prelude.{MatchOption}
 use Rattle.bw_tree.specs.View.{TreeView}
-use Rattle.bw_shape.specs.Steps.{IsFinishStep, IsFinished}
+use Rattle.bw_shape.specs.Naming.{AreFinished}
+use Rattle.bw_shape.specs.Steps.{IsFinishStep}
 use Rattle.bw_shape.specs.Tidying.{DueView, KeepsWithin}
 use Rattle.bw_shape.specs.declared.steps.Did.TheVariants.{NotNeeded}
-use Rattle.bw_shape.proofs.TidyLemmas.{tidy_after, tidy_named}
+use Rattle.bw_shape.proofs.TidyLemmas.{tidy_after, tidy_all_named}
 use Rattle.bw_shape.proofs.due.Due.finish.Goals as goal
 
 abbrev Outcome : TreeView → TreeView → ℕ → Option ℕ → Type 0
-Outcome old new page parent = MatchOption parent (IsFinishStep old new page NotNeeded) (IsFinished old new page)
+Outcome old new page parent = MatchOption parent (IsFinishStep old new page NotNeeded) (AreFinished old new page)
 
 named : (old new : TreeView) (page parent : ℕ) (o : Option ℕ) → o ≡ Some parent → Outcome old new page o → (due inside : DueView) → inside ≡ due → KeepsWithin old new due.pages inside.pages
 named old new page parent o is outcome due inside same =
-    subst (λ (d : DueView). KeepsWithin old new due.pages d.pages) (sym same) ((tidy_named old new page parent (subst (Outcome old new page) is outcome)).within due.pages)
+    subst (λ (d : DueView). KeepsWithin old new due.pages d.pages) (sym same) ((tidy_all_named old new page parent (subst (Outcome old new page) is outcome)).within due.pages)
 
 pub returns-then-ne-clause-within : goal.returns-then-ne-clause-within
 returns-then-ne-clause-within c =
-    named c.args.tree.now c.name_right.new.tree c.args.page c.in-Some.parent _ c.in-Some.is c.in_ok-parent.ensures.ok c.args.self.now _ c.self.view_is
+    named c.args.tree.now c.name_rights.new.tree c.args.page c.in-Some.parent _ c.in-Some.is c.in_ok-parent.ensures.ok c.args.self.now _ c.self.view_is
 
 pub returns-else-ne-clause-within : goal.returns-else-ne-clause-within
 returns-else-ne-clause-within c =
-    named c.args.tree.now c.name_right.new.tree c.args.page c.in-Some.parent _ c.in-Some.is c.in_ok-parent.ensures.ok c.args.self.now _ c.self.view_is
+    named c.args.tree.now c.name_rights.new.tree c.args.page c.in-Some.parent _ c.in-Some.is c.in_ok-parent.ensures.ok c.args.self.now _ c.self.view_is
 
 pub returns-clause-within : goal.returns-clause-within
 returns-clause-within c =
     let old = c.args.tree.now in
-    let mid = c.name_right.new.tree in
+    let mid = c.name_rights.new.tree in
     let new = c.grow_root.new.tree in
     let not : IsFinishStep old mid c.args.page NotNeeded = subst (Outcome old mid c.args.page) c.in_default.is c.in_ok-parent.ensures.ok in
     subst (λ (d : DueView). KeepsWithin old new c.args.self.now.pages d.pages) (sym c.self.view_is)

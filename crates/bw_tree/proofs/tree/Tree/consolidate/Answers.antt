@@ -18,8 +18,8 @@ end-side-requires-clause-leaf c =
     (leaf_at c.self.inside.heads.items c.self.inside.chains.bases c.self.inside.chains.records c.self.inside.root c.self.inside.next _ c.self.inside.staged _ c.self.view_is c.self.invariant.now c.args.page c.index.result.now c.requires.leaf
     (c.index.ensures ∙ ap (λ n. get_or c.self.inside.heads.items n c.index.result.now) c.page.view_is)).leaf
 
-pub folded_leaf-requires-clause-linked : goal.folded_leaf-requires-clause-linked
-folded_leaf-requires-clause-linked c =
+pub consolidated_leaf-requires-clause-linked : goal.consolidated_leaf-requires-clause-linked
+consolidated_leaf-requires-clause-linked c =
     let at = leaf_at c.self.inside.heads.items c.self.inside.chains.bases c.self.inside.chains.records c.self.inside.root c.self.inside.next _ c.self.inside.staged _ c.self.view_is c.self.invariant.now c.args.page c.index.result.now c.requires.leaf
     (c.index.ensures ∙ ap (λ n. get_or c.self.inside.heads.items n c.index.result.now) c.page.view_is) in
     ap is_some (c.end-side.ensures.side ∙ sym (ap side_of_slot at.slot))

@@ -1,4 +1,4 @@
-use Rattle.std.proofs.Common.{◌≡◌, ◌<◌, ◌≤◌, ◌^◌, [], length, slice_index, ap, sym, ◌∙◌, subst}
+use Rattle.std.proofs.Common.{◌<◌, ◌≤◌, ◌^◌, length, slice_index, ap, sym, ◌∙◌, subst}
 use Rattle.bw_chain.specs.Reading.{writes_over}
 use Rattle.bw_chain.specs.Slots.{slot_at}
 use Rattle.bw_tree.specs.Trees.{ArePlaced}

@@ -24,7 +24,7 @@ pub invariant_of-self : goal.invariant_of-self
 invariant_of-self c =
     let heads = c.self.inside.heads.items in
     let held = leaf_held heads c.self.inside.chains.bases c.self.inside.chains.records c.self.inside.root c.self.inside.next _ c.self.inside.staged _ c.self.view_is c.self.invariant.now c.args.page c.requires.leaf in
-    (consolidated_on heads c.self.inside.chains.bases c.self.inside.chains.records c.self.inside.root c.self.inside.next c.self.inside.staged c.args.self.now c.args.page c.args.leaf c.self.invariant c.self.view_is c.requires.none c.requires.leaf c.requires.folded
+    (consolidated_on heads c.self.inside.chains.bases c.self.inside.chains.records c.self.inside.root c.self.inside.next c.self.inside.staged c.args.self.now c.args.page c.args.leaf c.self.invariant c.self.view_is c.requires.none c.requires.leaf c.requires.consolidated
     (set heads c.page.inside.0 c.replace_base.result) c.replace_base.new.self.bases c.replace_base.new.self.records c.replace_base.result
     (c.replace_base.ensures.number ∙ ap (base_under c.self.inside.chains.records) (c.index-head.ensures ∙ ap (λ n. get_or heads n c.index-head.result.now) c.page.view_is ∙ get_or_default heads c.args.page c.index-head.result.now 0 held))
     (ap (λ n. set heads n c.replace_base.result) c.page.view_is) c.replace_base.ensures.bases c.replace_base.ensures.records).0
@@ -33,7 +33,7 @@ pub returns : goal.returns
 returns c =
     let heads = c.self.inside.heads.items in
     let held = leaf_held heads c.self.inside.chains.bases c.self.inside.chains.records c.self.inside.root c.self.inside.next _ c.self.inside.staged _ c.self.view_is c.self.invariant.now c.args.page c.requires.leaf in
-    (consolidated_on heads c.self.inside.chains.bases c.self.inside.chains.records c.self.inside.root c.self.inside.next c.self.inside.staged c.args.self.now c.args.page c.args.leaf c.self.invariant c.self.view_is c.requires.none c.requires.leaf c.requires.folded
+    (consolidated_on heads c.self.inside.chains.bases c.self.inside.chains.records c.self.inside.root c.self.inside.next c.self.inside.staged c.args.self.now c.args.page c.args.leaf c.self.invariant c.self.view_is c.requires.none c.requires.leaf c.requires.consolidated
     (set heads c.page.inside.0 c.replace_base.result) c.replace_base.new.self.bases c.replace_base.new.self.records c.replace_base.result
     (c.replace_base.ensures.number ∙ ap (base_under c.self.inside.chains.records) (c.index-head.ensures ∙ ap (λ n. get_or heads n c.index-head.result.now) c.page.view_is ∙ get_or_default heads c.args.page c.index-head.result.now 0 held))
     (ap (λ n. set heads n c.replace_base.result) c.page.view_is) c.replace_base.ensures.bases c.replace_base.ensures.records).1

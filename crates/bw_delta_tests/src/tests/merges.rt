@@ -1,0 +1,193 @@
+// The pairs of one part, which are merged with the writes, and the same of two parts, which go through a map.
+ghost use Rattle.std.specs.Prelude.{◌≡◌, T, true, false, map, nat_eq};
+ghost use Rattle.std.specs.FinMap.{is_sorted};
+ghost use Rattle.std.specs.List.{AllByRecursion};
+ghost use Rattle.bw_key.specs.Order.{key_cmp};
+ghost use Rattle.bw_delta.specs.History.{pointed_to, HasDistinctStamps};
+
+use super::making::write;
+use bw_delta::{Action, Write, leaf_as_of};
+use bw_fixtures::{LONG, Random, are, heap, key, leaf_of, value};
+use bw_key::Key;
+use bw_memory::Alloc;
+use bw_model::{Pairs, Value};
+use bw_page::Leaf;
+use std::process::Abort;
+
+// Keys of leaves, writes and bounds: one begins another, and one takes memory.
+const KEYS: [&[u8]; 6] = [b"a", b"b", b"bb", b"c", LONG, b"d"];
+
+// A value, of which there are three.
+fn drawn_value<R: Abort>(rt: &R, alloc: Alloc, random: &mut Random) -> Value {
+    let bytes = match random.below(3) {
+        0 => b"1",
+        1 => b"2",
+        _ => LONG,
+    };
+    value(alloc, bytes).expect(rt, "memory")
+}
+
+// An action.
+fn drawn_action<R: Abort>(rt: &R, alloc: Alloc, random: &mut Random) -> Action {
+    match random.below(5) {
+        0 => Action::Insert(drawn_value(rt, alloc, random)),
+        1 => Action::Upsert(drawn_value(rt, alloc, random)),
+        2 => Action::Update(drawn_value(rt, alloc, random)),
+        3 => Action::Delete,
+        _ => {
+            let old = drawn_value(rt, alloc, random);
+            Action::SwapIf(old, drawn_value(rt, alloc, random))
+        }
+    }
+}
+
+// Eight writes with stamps below 11, in no order.
+fn drawn_writes<R: Abort>(rt: &R, alloc: Alloc, random: &mut Random) -> Vec<Write, Alloc> {
+    let first = random.below(11) as u64;
+    let mut writes = Vec::new(alloc);
+    for at in 0..8 {
+        let action = drawn_action(rt, alloc, random);
+        let written = write(
+            rt,
+            alloc,
+            (at * 5 + first) % 11,
+            KEYS[random.below(6)],
+            action,
+        );
+        writes.push(written).expect(rt, "memory");
+    }
+    writes
+}
+
+// References to writes.
+fn refs_to<'a, R: Abort>(rt: &R, alloc: Alloc, writes: &'a [Write]) -> Vec<&'a Write, Alloc> {
+    let mut refs = Vec::new(alloc);
+    for write in writes {
+        refs.push(write).expect(rt, "memory");
+    }
+    refs
+}
+
+// Whether no write has a stamp.
+fn is_new(stamp: u64, writes: &[&Write]) -> bool
+    ensures { result ≡ true → AllByRecursion (λ other. nat_eq stamp other ≡ false)
+        (map (λ write. write.stamp) (pointed_to writes.now)) }
+{
+    match writes.split_first() {
+        Some((first, rest)) => stamp != first.stamp && is_new(stamp, rest),
+        None => true,
+    }
+}
+
+// Whether each write has a stamp of its own.
+fn are_distinct(writes: &[&Write]) -> bool
+    ensures { result ≡ true → HasDistinctStamps (pointed_to writes.now) }
+{
+    match writes.split_first() {
+        Some((first, rest)) => is_new(first.stamp, rest) && are_distinct(rest),
+        None => true,
+    }
+}
+
+// What the writes leave of parts, as of a stamp.
+fn read<R: Abort>(
+    rt: &R,
+    alloc: Alloc,
+    parts: &[&Leaf],
+    bounds: (&Key, Option<&Key>),
+    writes: &[&Write],
+    stamp: u64,
+) -> Pairs
+    ensures { T (is_sorted key_cmp result) }
+{
+    let (low, high) = bounds;
+    assert!(rt; are_distinct(writes));
+    leaf_as_of(alloc, parts, low, high, writes, stamp).expect(rt, "memory")
+}
+
+// Compares what the writes leave of a leaf with what they leave of it and an empty one.
+fn compare_at<R: Abort>(
+    rt: &R,
+    alloc: Alloc,
+    (leaf, empty): (&Leaf, &Leaf),
+    bounds: (&Key, Option<&Key>),
+    writes: &[&Write],
+    stamp: u64,
+) {
+    let merged = read(rt, alloc, &[leaf], bounds, writes, stamp);
+    let mapped = read(rt, alloc, &[leaf, empty], bounds, writes, stamp);
+    assert!(rt; merged == mapped);
+}
+
+// Compares them as of each stamp.
+fn compare_bounds<R: Abort>(
+    rt: &R,
+    alloc: Alloc,
+    leaves: (&Leaf, &Leaf),
+    bounds: (&Key, Option<&Key>),
+    writes: &[&Write],
+) {
+    for stamp in 0..12 {
+        compare_at(rt, alloc, leaves, bounds, writes, stamp);
+    }
+}
+
+// Compares them over all keys, and from a key on, below one, and between the two.
+fn compare<R: Abort>(rt: &R, alloc: Alloc, leaves: (&Leaf, &Leaf), writes: &[&Write]) {
+    let least = key(alloc, b"").expect(rt, "memory");
+    let (low, high) = (
+        key(alloc, b"b").expect(rt, "memory"),
+        key(alloc, b"cc").expect(rt, "memory"),
+    );
+    compare_bounds(rt, alloc, leaves, (&least, None), writes);
+    compare_bounds(rt, alloc, leaves, (&low, None), writes);
+    compare_bounds(rt, alloc, leaves, (&least, Some(&high)), writes);
+    compare_bounds(rt, alloc, leaves, (&low, Some(&high)), writes);
+}
+
+// The leaf of all keys with what random writes leave of no pair.
+fn drawn_leaf<R: Abort>(rt: &R, alloc: Alloc, empty: &Leaf, random: &mut Random) -> Leaf {
+    let writes = drawn_writes(rt, alloc, random);
+    let least = key(alloc, b"").expect(rt, "memory");
+    let refs = refs_to(rt, alloc, &writes);
+    let pairs = read(rt, alloc, &[empty, empty], (&least, None), &refs, 11);
+    Leaf::from_pairs(least, None, None, pairs)
+}
+
+// Compares what random writes leave of a random leaf.
+fn compare_drawn<R: Abort>(rt: &R, alloc: Alloc, empty: &Leaf, random: &mut Random) {
+    let leaf = drawn_leaf(rt, alloc, empty, random);
+    let writes = drawn_writes(rt, alloc, random);
+    let refs = refs_to(rt, alloc, &writes);
+    compare(rt, alloc, (&leaf, empty), &refs);
+}
+
+#[test]
+fn merged_pairs_are_those_of_a_map(rt: HostRuntime) {
+    let alloc = heap(rt.alloc()).expect(&rt, "memory");
+    let empty = Leaf::empty(alloc);
+    let mut random = Random::new(7);
+    for _ in 0..100 {
+        compare_drawn(&rt, alloc, &empty, &mut random);
+    }
+}
+
+#[test]
+fn writes_over_an_empty_leaf_are_those_of_a_map(rt: HostRuntime) {
+    let alloc = heap(rt.alloc()).expect(&rt, "memory");
+    let empty = Leaf::empty(alloc);
+    let writes = drawn_writes(&rt, alloc, &mut Random::new(3));
+    let refs = refs_to(&rt, alloc, &writes);
+    compare(&rt, alloc, (&empty, &empty), &refs);
+}
+
+#[test]
+fn a_leaf_without_writes_is_copied_in_one_growth(rt: HostRuntime) {
+    let alloc = heap(rt.alloc()).expect(&rt, "memory");
+    let leaf = leaf_of(alloc, b"1").expect(&rt, "memory");
+    let least = key(alloc, b"").expect(&rt, "memory");
+    alloc.refuse(2);
+    let pairs = read(&rt, alloc, &[&leaf], (&least, None), &[], 9);
+    assert_eq!(rt; alloc.left(), 1);
+    assert!(rt; are(pairs.as_slice(), &[(b"a", b"1")]));
+}

@@ -1,0 +1,202 @@
+// Halves of one leaf that get their index entries at once: the tree is the one that the public steps make.
+ghost use Rattle.std.specs.Prelude.{◌≡◌, None};
+
+use super::leaves::{reads_numbers, tree_of};
+use super::making::{finish_does, grow_does, split_does};
+use super::shapes::{abut_within, are_alike};
+use super::tidying::{are_within_but, due_of, four_pairs};
+use bw_fixtures::{heap, was_refused};
+use bw_memory::Alloc;
+use bw_shape::{Did, PageId, Tree, consolidate, finish_split, tidy_due};
+use std::process::Abort;
+
+// The pairs' numbers, each of whose keys has two bytes.
+const FROM: u16 = 4096;
+
+const TO: u16 = 6096;
+
+// Tidies a tree where these pages are due.
+fn tidy_whole<R: Abort>(rt: &R, alloc: Alloc, tree: &mut Tree, pages: &[PageId])
+    requires { tree.old.staged ≡ None }
+    ensures { tree.new.staged ≡ None }
+{
+    let limits = four_pairs();
+    assert!(rt; are_within_but(tree, &limits, pages));
+    let mut due = due_of(rt, alloc, pages);
+    let did = tidy_due(tree, &limits, &mut due);
+    assert!(rt; !did.stopped);
+}
+
+// How many entries a page has.
+fn entries_of<R: Abort>(rt: &R, tree: &Tree, page: PageId) -> usize {
+    assert!(rt; (page.0 as usize) < tree.heads().len());
+    tree.entries(page)
+}
+
+// How many identifiers of pages there are.
+fn count_pages<R: Abort>(rt: &R, tree: &Tree) -> u32 {
+    u32::try_from(tree.heads().len()).expect(rt, "few pages")
+}
+
+// Consolidates and splits a page that has more than four entries, and finishes the split. The new page, if it was split.
+fn halve<R: Abort>(rt: &R, tree: &mut Tree, page: PageId) -> Option<PageId>
+    requires { tree.old.staged ≡ None }
+    ensures { tree.new.staged ≡ None }
+{
+    let count = entries_of(rt, tree, page);
+    if count <= 4 {
+        return None;
+    }
+    consolidate(tree, page).expect(rt, "memory");
+    let right = count_pages(rt, tree);
+    split_does(rt, tree, page.0, count / 2, Did::Done);
+    if finish_split(tree, page).expect(rt, "memory") == Did::NotNeeded {
+        grow_does(rt, tree, Did::Done);
+    }
+    Some(PageId(right))
+}
+
+// Looks at the last one of these pages, if there is one: where it has more than four entries, it's split, and its halves are
+// the last ones then.
+fn halve_last<R: Abort>(rt: &R, tree: &mut Tree, pages: &mut Vec<PageId, Alloc>)
+    requires { tree.old.staged ≡ None }
+    ensures { tree.new.staged ≡ None }
+{
+    let Some(page) = pages.pop() else {
+        return;
+    };
+    if let Some(right) = halve(rt, tree, page) {
+        pages.push(right).expect(rt, "a list");
+        pages.push(page).expect(rt, "a list");
+    }
+}
+
+// Splits these pages, the last one first, into halves until none has more than four entries.
+fn halve_all<R: Abort>(rt: &R, tree: &mut Tree, mut pages: Vec<PageId, Alloc>)
+    requires { tree.old.staged ≡ None }
+    ensures { tree.new.staged ≡ None }
+{
+    'halves: for _ in 0..9999 {
+        halve_last(rt, tree, &mut pages);
+    }
+}
+
+// The pages of a level, the first one last.
+fn level_of<R: Abort>(rt: &R, alloc: Alloc, tree: &Tree, level: u32) -> Vec<PageId, Alloc> {
+    let mut pages = Vec::new(alloc);
+    let all = tree.shape().expect(rt, "the pages");
+    for page in &all {
+        if page.level == level {
+            pages.push(page.page).expect(rt, "a list");
+        }
+    }
+    pages.reverse();
+    pages
+}
+
+// Splits the pages of all levels, level by level, each new page named as soon as it is there.
+fn tidy_by_steps<R: Abort>(rt: &R, alloc: Alloc, tree: &mut Tree)
+    requires { tree.old.staged ≡ None }
+    ensures { tree.new.staged ≡ None }
+{
+    for level in 0..9 {
+        let pages = level_of(rt, alloc, tree, level);
+        halve_all(rt, tree, pages);
+    }
+}
+
+// Compares the pages of a tree with those that the public steps make of a tree of one leaf.
+fn stands_as_by_steps<R: Abort>(rt: &R, alloc: Alloc, tree: &Tree) {
+    let mut other = tree_of(rt, alloc, FROM, &[TO]);
+    tidy_by_steps(rt, alloc, &mut other);
+    let pages = tree.shape().expect(rt, "the pages");
+    let wanted = other.shape().expect(rt, "the pages");
+    assert!(rt; abut_within(&pages, 4));
+    assert!(rt; are_alike(&pages, &wanted));
+}
+
+// Compares that each right neighbour of a page has its index entry.
+fn are_named<R: Abort>(rt: &R, tree: &mut Tree)
+    requires { tree.old.staged ≡ None }
+    ensures { tree.new.staged ≡ None }
+{
+    for page in 0..count_pages(rt, tree) {
+        finish_does(rt, tree, page, Did::NotNeeded);
+    }
+}
+
+#[test]
+fn a_leaf_of_2000_pairs_is_what_steps_make_of_it(rt: HostRuntime) {
+    let alloc = heap(rt.alloc()).expect(&rt, "memory");
+    let mut tree = tree_of(&rt, alloc, FROM, &[TO]);
+    tidy_whole(&rt, alloc, &mut tree, &[PageId(0)]);
+    stands_as_by_steps(&rt, alloc, &tree);
+    are_named(&rt, &mut tree);
+    reads_numbers(&rt, alloc, &tree, FROM, TO);
+}
+
+// The leaf in the middle becomes eight.
+const MIDDLE: [u16; 3] = [4098, 4118, 4120];
+
+// Tidies three leaves where this growth is refused, and then to the end. Whether it was refused.
+fn tidy_on<R: Abort>(rt: &R, alloc: Alloc, tree: &mut Tree, growth: u64) -> bool
+    requires { tree.old.staged ≡ None }
+    ensures { tree.new.staged ≡ None }
+{
+    let limits = four_pairs();
+    let pages = [PageId(1)];
+    assert!(rt; are_within_but(tree, &limits, &pages));
+    let mut due = due_of(rt, alloc, &pages);
+    alloc.refuse(growth);
+    let stopped = tidy_due(tree, &limits, &mut due).stopped;
+    let refused = was_refused(alloc, growth);
+    assert!(rt; stopped == refused);
+    reads_numbers(rt, alloc, tree, FROM, 4120);
+    let did = tidy_due(tree, &limits, &mut due);
+    assert!(rt; !did.stopped);
+    refused
+}
+
+// Does that, and compares the pages with those of a tree that was tidied at once. Whether the growth was refused.
+fn middle_refused<R: Abort>(rt: &R, alloc: Alloc, wanted: &Tree, growth: u64) -> bool {
+    let mut tree = tree_of(rt, alloc, FROM, &MIDDLE);
+    let refused = tidy_on(rt, alloc, &mut tree, growth);
+    has_pages_of(rt, &tree, wanted);
+    are_named(rt, &mut tree);
+    refused
+}
+
+// Compares the pages of two trees.
+fn has_pages_of<R: Abort>(rt: &R, tree: &Tree, wanted: &Tree) {
+    let pages = tree.shape().expect(rt, "the pages");
+    let wanted = wanted.shape().expect(rt, "the pages");
+    assert!(rt; are_alike(&pages, &wanted));
+}
+
+#[test]
+fn a_stop_at_each_growth_leaves_what_is_tidied_to_the_same_pages(rt: HostRuntime) {
+    let alloc = heap(rt.alloc()).expect(&rt, "memory");
+    let mut wanted = tree_of(&rt, alloc, FROM, &MIDDLE);
+    tidy_whole(&rt, alloc, &mut wanted, &[PageId(1)]);
+    for growth in 1..1000 {
+        if !middle_refused(&rt, alloc, &wanted, growth) {
+            assert!(rt; growth > 20);
+            return;
+        }
+    }
+    panic!(rt; "no run met no refusal")
+}
+
+#[test]
+fn new_pages_are_named_over_a_page_with_a_record(rt: HostRuntime) {
+    let alloc = heap(rt.alloc()).expect(&rt, "memory");
+    let mut tree = tree_of(&rt, alloc, FROM, &[4098, 4102, 4112]);
+    split_does(&rt, &mut tree, 1, 2, Did::Done);
+    finish_does(&rt, &mut tree, 1, Did::Done);
+    tidy_whole(&rt, alloc, &mut tree, &[PageId(2)]);
+    are_named(&rt, &mut tree);
+    let pages = tree.shape().expect(&rt, "the pages");
+    assert!(rt; pages.len() == 10);
+    assert!(rt; abut_within(&pages, 4));
+    reads_numbers(&rt, alloc, &tree, FROM, 4112);
+}

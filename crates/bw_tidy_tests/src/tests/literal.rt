@@ -1,0 +1,199 @@
+// Tidying as a plain program. It knows all keys and all pages, and has no list of pages that are due.
+use bw_batch::Tidy;
+use bw_memory::Alloc;
+use std::process::Abort;
+
+/// A page. Keys are numbers from 1 to 255, and 0 is the least key of all.
+#[derive(Clone, Copy)]
+pub struct PlainPage {
+    /// Its identifier.
+    pub page: usize,
+    /// 0 for a leaf, and one more for each level above.
+    pub level: u32,
+    /// Where its range begins.
+    pub low: u8,
+    /// Where its range ends, if it ends.
+    pub high: Option<u8>,
+    /// The writes of a leaf's chain.
+    pub writes: usize,
+    // a leaf's pairs without those writes
+    base: usize,
+    // whether a split stands in its chain
+    is_split: bool,
+}
+
+// One leaf without pairs.
+const EMPTY: PlainPage = PlainPage {
+    page: 0,
+    level: 0,
+    low: 0,
+    high: None,
+    writes: 0,
+    base: 0,
+    is_split: false,
+};
+
+// Tidying takes fewer looks at pages.
+const LOOKS: u64 = 100_000;
+
+// Whether a key is in a page's range.
+fn is_in(page: &PlainPage, key: u8) -> bool {
+    match page.high {
+        Some(high) => page.low <= key && key < high,
+        None => page.low <= key,
+    }
+}
+
+/// A tree of plain pages.
+#[derive(Drop)]
+pub struct PlainTree {
+    chain_max: usize,
+    page_max: usize,
+    // the keys that have a value, in their order
+    keys: Vec<u8, Alloc>,
+    // the leaves from left to right, and behind them the pages of each level above
+    pages: Vec<PlainPage, Alloc>,
+    counts: Tidy,
+}
+
+impl PlainTree {
+    /// A tree of one empty leaf, with these limits.
+    pub fn new<R: Abort>(rt: &R, alloc: Alloc, chain_max: usize, page_max: usize) -> PlainTree {
+        let mut pages = Vec::new(alloc);
+        pages.push(EMPTY).expect(rt, "memory");
+        PlainTree {
+            chain_max,
+            page_max,
+            keys: Vec::new(alloc),
+            pages,
+            counts: Tidy::default(),
+        }
+    }
+
+    /// The leaves from left to right, and behind them the pages of each level above.
+    pub fn pages(&self) -> &[PlainPage] {
+        &self.pages
+    }
+
+    /// A write at a key, which has a value behind it, or none.
+    pub fn write<R: Abort>(&mut self, rt: &R, key: u8, puts: bool) {
+        for page in &mut self.pages {
+            if page.level == 0 && is_in(page, key) {
+                page.writes = page.writes.saturating_add(1);
+            }
+        }
+        match (self.keys.binary_search(&key), puts) {
+            (Ok(place), false) => {
+                self.keys.remove(place);
+            }
+            (Err(place), true) => self.keys.insert(place, key).expect(rt, "memory"),
+            _ => {}
+        }
+    }
+
+    /// Where the entries of a page begin: the keys in a leaf, or the pages below an inner page.
+    pub fn entries<R: Abort>(&self, rt: &R, page: &PlainPage) -> Vec<u8, Alloc> {
+        let mut entries = Vec::new(*self.keys.allocator());
+        let Some(below) = page.level.checked_sub(1) else {
+            for key in &self.keys {
+                if is_in(page, *key) {
+                    entries.push(*key).expect(rt, "memory");
+                }
+            }
+            return entries;
+        };
+        for child in &self.pages {
+            if child.level == below && is_in(page, child.low) {
+                entries.push(child.low).expect(rt, "memory");
+            }
+        }
+        entries
+    }
+
+    /// Tidies, and answers what that did. The halves of a page that is split stand in its place, so they are looked at next,
+    /// and inner pages stand behind all pages below them.
+    pub fn tidy<R: Abort>(&mut self, rt: &R) -> Tidy {
+        self.counts = Tidy::default();
+        let mut place = 0usize;
+        for _ in 0..LOOKS {
+            let Some(page) = self.pages.get(place).copied() else {
+                return self.counts;
+            };
+            if !self.look(rt, place, &page) {
+                place = place.saturating_add(1);
+            }
+        }
+        panic!(rt; "tidying goes on and on")
+    }
+
+    // Looks at the page at a place. Whether it was over a limit.
+    fn look<R: Abort>(&mut self, rt: &R, place: usize, page: &PlainPage) -> bool {
+        let entries = self.entries(rt, page);
+        if !self.is_over(page, entries.len()) {
+            return false;
+        }
+        if page.level == 0 && (page.writes > 0 || page.is_split) {
+            self.counts.consolidated = self.counts.consolidated.saturating_add(1);
+        }
+        if entries.len() > self.page_max {
+            self.split(rt, place, page, &entries);
+            return true;
+        }
+        let bare = PlainPage {
+            base: entries.len(),
+            writes: 0,
+            is_split: false,
+            ..*page
+        };
+        assert!(rt; place < self.pages.len());
+        self.pages[place] = bare;
+        true
+    }
+
+    // Whether a page with so many entries is over a limit.
+    fn is_over(&self, page: &PlainPage, entries: usize) -> bool {
+        match page.level {
+            0 => page.writes > self.chain_max || page.base > self.page_max,
+            _ => entries > self.page_max,
+        }
+    }
+
+    // Splits a page in the middle of its entries.
+    fn split<R: Abort>(&mut self, rt: &R, place: usize, page: &PlainPage, entries: &[u8]) {
+        let keep = entries.len() / 2;
+        let middle = entries.get(keep).copied().expect(rt, "an entry");
+        let left = PlainPage {
+            high: Some(middle),
+            writes: 0,
+            base: keep,
+            is_split: true,
+            ..*page
+        };
+        let right = PlainPage {
+            page: self.pages.len(),
+            low: middle,
+            writes: 0,
+            base: entries.len() - keep,
+            is_split: false,
+            ..*page
+        };
+        self.part(rt, place, left, right);
+        self.counts.splits = self.counts.splits.saturating_add(1);
+    }
+
+    // Puts two halves in the place of a page, and where that was the root a new one over both.
+    fn part<R: Abort>(&mut self, rt: &R, place: usize, left: PlainPage, right: PlainPage) {
+        assert!(rt; place < self.pages.len());
+        self.pages[place] = left;
+        self.pages.insert(place + 1, right).expect(rt, "memory");
+        if place + 2 < self.pages.len() {
+            return;
+        }
+        let root = PlainPage {
+            page: self.pages.len(),
+            level: left.level.saturating_add(1),
+            ..EMPTY
+        };
+        self.pages.push(root).expect(rt, "memory");
+    }
+}

@@ -1,0 +1,58 @@
+// The order in which pages are looked at behind a sweep.
+use super::maker::Maker;
+use bw_batch::{Index, OpenGate, Options};
+use bw_tree::PageShape;
+use std::process::Abort;
+use std::thread::Threads;
+
+/// A page: its identifier, its level, and its pairs or children.
+type Wanted = (u32, u32, usize);
+
+// What is there behind the sweep: the leaves with five pairs have parted from left to right, and the page above them,
+// which had four children before, has parted behind them.
+const PAGES: [Wanted; 9] = [
+    (0, 0, 3),
+    (3, 0, 3),
+    (1, 0, 2),
+    (5, 0, 3),
+    (4, 0, 2),
+    (6, 0, 3),
+    (2, 1, 3),
+    (7, 1, 3),
+    (8, 2, 2),
+];
+
+// Inserts keys in one batch.
+fn insert<R: Abort + Threads + Sync>(rt: &R, make: &Maker<R>, index: &mut Index, keys: &[u8]) {
+    let mut ops = Vec::new(make.alloc);
+    for key in keys {
+        ops.push(make.insert(*key, 1)).expect(rt, "memory");
+    }
+    index.run(rt, &ops, &OpenGate).expect(rt, "memory");
+}
+
+// Whether a page is listed so.
+fn is(page: &PageShape, wanted: &Wanted) -> bool {
+    page.page.0 == wanted.0 && page.level == wanted.1 && page.pairs == wanted.2
+}
+
+#[test]
+fn leaves_are_looked_at_before_inner_pages(rt: HostRuntime) {
+    let make = Maker::new(&rt, rt.alloc());
+    let options = Options::new(1, 64, 2, 4, 0, 12, 19).expect(&rt, "options");
+    let mut index = Index::new(make.alloc, options).expect(&rt, "an index");
+    let keys = [10, 20, 30, 40, 50, 60, 70, 80, 90, 100, 110, 120];
+    insert(&rt, &make, &mut index, &keys);
+    insert(&rt, &make, &mut index, &[71, 72, 101, 102]);
+    assert_eq!(rt; index.tree().records(), 19);
+    // With one operation more there might be more than 19 records, so a sweep comes first.
+    index
+        .run(&rt, &[make.get(1)], &OpenGate)
+        .expect(&rt, "memory");
+    assert_eq!(rt; index.tree().records(), 3);
+    let shape = index.tree().shape().expect(&rt, "memory");
+    assert_eq!(rt; shape.len(), PAGES.len());
+    for (page, wanted) in shape.iter().zip(&PAGES) {
+        assert!(rt; is(page, wanted));
+    }
+}

@@ -1,0 +1,42 @@
+use Rattle.std.proofs.Common.{set, ◌∙◌, ap, get_or, arith}
+use Rattle.std.proofs.lemmas.List.{get_or_default}
+use Rattle.bw_page.specs.declared.pages.Page.TheVariants.{Inner as InnerPage}
+use Rattle.bw_chain.specs.Supports.{base_under}
+use Rattle.bw_tree.specs.Children.{AreNamed}
+use Rattle.bw_tree.specs.Trees.{IsTree, view_of}
+use Rattle.bw_tree.proofs.NamingLemmas.{all_named_on}
+use Rattle.bw_tree.proofs.RoutingLemmas.{page_at_head, page_there}
+use Rattle.bw_tree.proofs.tree.Tree.name_all.Goals as goal
+
+pub index-head-requires : goal.index-head-requires
+index-head-requires c =
+    let there = page_there c.self.inside.heads.items c.self.inside.chains.bases c.self.inside.chains.records c.self.inside.root c.self.inside.next _ c.self.inside.staged _ c.args.parent c.self.view_is c.self.invariant.now c.requires.page.in_levels in
+    omega (arith, there, c.parent.view_is, c.self.inside.heads.ok)
+
+pub replace_base-requires : goal.replace_base-requires
+replace_base-requires c =
+    (page_at_head c.self.inside.heads.items c.self.inside.chains.bases c.self.inside.chains.records c.self.inside.root c.self.inside.next _ c.self.inside.staged _ c.args.parent c.index-head.result.now c.self.view_is c.self.invariant.now c.requires.page.in_levels
+    (c.index-head.ensures ∙ ap (λ n. get_or c.self.inside.heads.items n c.index-head.result.now) c.parent.view_is)).ends
+
+pub index_mut-requires : goal.index_mut-requires
+index_mut-requires c =
+    let there = page_there c.self.inside.heads.items c.self.inside.chains.bases c.self.inside.chains.records c.self.inside.root c.self.inside.next _ c.self.inside.staged _ c.args.parent c.self.view_is c.self.invariant.now c.requires.page.in_levels in
+    omega (arith, there, c.parent.view_is, c.self.inside.heads.ok)
+
+-- the tree of the new word and base page, and what it is to the old one
+named_now : (c : goal.After-self-1) →
+    IsTree (set c.self.inside.heads.items c.parent.inside.0 c.replace_base.result) c.replace_base.new.self.bases c.replace_base.new.self.records c.self.inside.root c.self.inside.next c.self.inside.staged
+    × AreNamed c.args.self.now (view_of (set c.self.inside.heads.items c.parent.inside.0 c.replace_base.result) c.replace_base.new.self.bases c.replace_base.new.self.records c.self.inside.root c.self.inside.next c.self.inside.staged) c.args.parent c.args.entries.items
+named_now c =
+    let heads = c.self.inside.heads.items in
+    let there = page_there heads c.self.inside.chains.bases c.self.inside.chains.records c.self.inside.root c.self.inside.next _ c.self.inside.staged _ c.args.parent c.self.view_is c.self.invariant.now c.requires.page.in_levels in
+    all_named_on heads c.self.inside.chains.bases c.self.inside.chains.records c.self.inside.root c.self.inside.next c.self.inside.staged c.args.self.now c.args.parent c.args.entries.items (InnerPage c.in_ok-page.page) c.self.invariant c.self.view_is c.requires.none c.requires.page c.requires.fit c.in_ok-page.ensures
+    (set heads c.parent.inside.0 c.replace_base.result) c.replace_base.new.self.bases c.replace_base.new.self.records c.replace_base.result
+    (c.replace_base.ensures.number ∙ ap (base_under c.self.inside.chains.records) (c.index-head.ensures ∙ ap (λ n. get_or heads n c.index-head.result.now) c.parent.view_is ∙ get_or_default heads c.args.parent c.index-head.result.now 0 there))
+    (ap (λ n. set heads n c.replace_base.result) c.parent.view_is) c.replace_base.ensures.bases c.replace_base.ensures.records
+
+pub invariant_of-self : goal.invariant_of-self
+invariant_of-self c = (named_now c).0
+
+pub returns-clause-ok : goal.returns-clause-ok
+returns-clause-ok c = (named_now c).1

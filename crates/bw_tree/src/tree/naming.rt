@@ -1,0 +1,61 @@
+// Index entries for several pages at once.
+ghost use Rattle.std.specs.Prelude.{◌≡◌, T, None, IfOk, OnOk, OnErr};
+ghost use Rattle.std.specs.FinMap.{is_sorted};
+ghost use Rattle.bw_key.specs.Order.{key_cmp};
+ghost use Rattle.bw_chain.specs.Searches.{plain_inner};
+ghost use Rattle.bw_chain.specs.Slots.{PageState, Live, slot_at};
+
+use super::Tree;
+use super::merging::with_entries;
+use bw_key::{Key, Memory};
+use bw_memory::Alloc;
+use bw_page::{Inner, Page, PageId};
+
+impl Tree {
+    ghost use Rattle.bw_tree.specs.Children.{AreNamed, MayHaveChildren, state_with_children};
+    ghost use Rattle.bw_tree.specs.Routing.{IsInnerPage};
+
+    /// Lets an inner page name several pages of the level below, as after many splits of one page: what `set_child` would do
+    /// for each of them, one after another, with one copy of the page's children. Each entry is a page with the key at which
+    /// it begins, a key of the inner page's range above its low key, and these keys rise. No batch is staged.
+    ///
+    /// The children as they stand and the entries become the page's base page, and it has no record any more. It costs a
+    /// walk along the page's chain, a copy of its children, a second one where it had a record, and a binary search for each
+    /// entry. After `Memory` the tree is as before.
+    pub fn name_all(
+        &mut self,
+        parent: PageId,
+        entries: Vec<(Key, PageId), Alloc>,
+    ) -> Result<(), Memory>
+        requires none { self.old.staged ≡ None }
+        requires page { IsInnerPage self.old parent }
+        requires rising { T (is_sorted key_cmp entries.items) }
+        requires fit { MayHaveChildren self.old parent entries.items }
+        ensures ok { OnOk result (AreNamed self.old self.new parent entries.entry.items) }
+        ensures err { OnErr result (self.new ≡ self.old) }
+    {
+        let page = self.inner_with(parent, entries)?;
+        let head = self.heads[parent.0 as usize];
+        self.heads[parent.0 as usize] = self.chains.replace_base(head, Page::Inner(page));
+        Ok(())
+    }
+
+    // An inner page with these entries among its children.
+    fn inner_with(
+        &self,
+        parent: PageId,
+        entries: Vec<(Key, PageId), Alloc>,
+    ) -> Result<Inner, Memory>
+        requires page { IsInnerPage self.now parent }
+        requires rising { T (is_sorted key_cmp entries.items) }
+        requires fit { MayHaveChildren self.now parent entries.items }
+        ensures { IfOk result (λ page. (was : PageState) → slot_at self.now.slots parent ≡ Live was →
+            plain_inner page ≡ Live (state_with_children entries.entry.items was)) }
+    {
+        let alloc = *self.heads.allocator();
+        match self.inner(parent) {
+            Some(inner) => with_entries(alloc, inner, entries),
+            None => with_entries(alloc, &self.inner_page(parent)?, entries),
+        }
+    }
+}

@@ -1,0 +1,214 @@
+// Pages that get their index entries at once, as the splits of one leaf leave them.
+ghost use Rattle.std.specs.Prelude.{◌≡◌, ◌<◌, ◌^◌, [], ◌∷◌, Some, None, IfOk, slice_index};
+ghost use Rattle.bw_tree.specs.Children.{IsUnnamed};
+ghost use Rattle.bw_tree.specs.Making.{AreAbutting};
+
+use super::making::{are, heap, key, stands};
+use super::refused::was_refused;
+use super::splits::{FLOOR, has_entries, routes, split};
+use bw_fixtures::{key as key_of, pair};
+use bw_key::Key;
+use bw_memory::Alloc;
+use bw_model::Pairs;
+use bw_tree::{Leaf, Memory, PageId, Tree, Unnamed};
+use std::process::Abort;
+
+// The leaf up to `d`, with page 1 at its right: a 1, b 2, c 3.
+fn up_to_d(alloc: Alloc) -> Result<Leaf, Memory>
+    ensures low { IfOk result (λ leaf. leaf.low ≡ []) }
+    ensures high { IfOk result (λ leaf. leaf.high ≡ Some (100 ∷ [])) }
+    ensures side { IfOk result (λ leaf. leaf.side ≡ Some 1) }
+{
+    let a = pair(alloc, b"a", b"1")?;
+    let b = pair(alloc, b"b", b"2")?;
+    let c = pair(alloc, b"c", b"3")?;
+    let pairs = Pairs::from_vec(vec![in alloc; a, b, c]?);
+    let (low, high) = (key_of(alloc, b"")?, key_of(alloc, b"d")?);
+    Ok(Leaf::from_pairs(low, Some(high), Some(PageId(1)), pairs))
+}
+
+// The leaf from `d` on: d 4, e 5, f 6.
+fn from_d(alloc: Alloc) -> Result<Leaf, Memory>
+    ensures low { IfOk result (λ leaf. leaf.low ≡ 100 ∷ []) }
+    ensures high { IfOk result (λ leaf. leaf.high ≡ None) }
+    ensures side { IfOk result (λ leaf. leaf.side ≡ None) }
+{
+    let d = pair(alloc, b"d", b"4")?;
+    let e = pair(alloc, b"e", b"5")?;
+    let f = pair(alloc, b"f", b"6")?;
+    let pairs = Pairs::from_vec(vec![in alloc; d, e, f]?);
+    Ok(Leaf::from_pairs(key_of(alloc, b"d")?, None, None, pairs))
+}
+
+// The tree of these two leaves, with page 2 as their root.
+fn two_leaves<R: Abort>(rt: &R, alloc: Alloc) -> Tree
+    ensures { result.staged ≡ None }
+{
+    let left = up_to_d(alloc).expect(rt, "a leaf");
+    let right = from_d(alloc).expect(rt, "a leaf");
+    let leaves = vec![in alloc; left, right].expect(rt, "the leaves");
+    Tree::from_level(alloc, leaves).expect(rt, "a tree")
+}
+
+// The same with the leaf that has the first one of these keys split into three leaves of a pair each: the new ones, of which
+// the page above knows nothing yet, are the pages 3 and 4.
+fn parted<R: Abort>(rt: &R, alloc: Alloc, keys: [&[u8]; 2]) -> Tree
+    ensures { result.staged ≡ None }
+{
+    let mut tree = two_leaves(rt, alloc);
+    assert!(rt; split(rt, alloc, &mut tree, keys[0], 1) == Ok(PageId(3)));
+    assert!(rt; split(rt, alloc, &mut tree, keys[1], 1) == Ok(PageId(4)));
+    tree
+}
+
+// The right neighbour of a page, which the page above doesn't name yet.
+fn unnamed<'a, R: Abort>(rt: &R, tree: &'a Tree, page: PageId) -> Unnamed<'a>
+    ensures { IsUnnamed tree.now page result.parent result.sep.now result.page }
+{
+    let Some(_) = tree.in_level(page) else {
+        panic!(rt; "a page of no level");
+    };
+    let Some(unnamed) = tree.unnamed_right(page) else {
+        panic!(rt; "no such neighbour");
+    };
+    unnamed
+}
+
+// The index entries of two pages.
+fn entries_of(
+    alloc: Alloc,
+    first: Unnamed<'_>,
+    second: Unnamed<'_>,
+) -> Result<Vec<(Key, PageId), Alloc>, Memory>
+    ensures { IfOk result (λ entries. entries.items
+        ≡ (first.entry.sep.now, first.entry.page) ∷ (second.entry.sep.now, second.entry.page) ∷ []) }
+{
+    let mut entries = Vec::with_capacity(alloc, 2)?;
+    entries.push((first.sep.copy()?, first.page))?;
+    entries.push((second.sep.copy()?, second.page))?;
+    Ok(entries)
+}
+
+// Gives the two pages right of a page their index entries at once.
+fn name_both<R: Abort>(rt: &R, alloc: Alloc, tree: &mut Tree, page: PageId) -> Result<(), Memory>
+    requires { tree.old.staged ≡ None }
+    ensures { tree.new.staged ≡ None }
+{
+    tree.know_levels();
+    let first = unnamed(rt, tree, page);
+    let second = unnamed(rt, tree, first.page);
+    let parent = first.parent;
+    assert!(rt; second.parent == parent);
+    assert!(rt; first.sep < second.sep);
+    let entries = entries_of(alloc, first, second)?;
+    tree.name_all(parent, entries)
+}
+
+// The same key again.
+fn copy_of<R: Abort>(rt: &R, key: &Key) -> Key
+    ensures { result ≡ key.now }
+{
+    key.copy().expect(rt, "a key")
+}
+
+// Sees that a page has no record.
+fn is_plain<R: Abort>(rt: &R, tree: &Tree, page: PageId)
+    ensures { slice_index tree.now.heads page < 2 ^ 32 }
+{
+    assert!(rt; (page.0 as usize) < tree.heads().len());
+    assert!(rt; tree.heads()[page.0 as usize] < FLOOR);
+}
+
+// Gives the page right of a page its index entry, as a record.
+fn name_one<R: Abort>(rt: &R, tree: &mut Tree, page: PageId)
+    requires { tree.old.staged ≡ None }
+    ensures { tree.new.staged ≡ None }
+{
+    tree.know_levels();
+    let found = unnamed(rt, tree, page);
+    let parent = found.parent;
+    let child = found.page;
+    let sep = copy_of(rt, found.sep);
+    is_plain(rt, tree, parent);
+    tree.set_child(parent, sep, child).expect(rt, "memory");
+}
+
+// Compares what is read of the six pairs.
+fn holds<R: Abort>(rt: &R, alloc: Alloc, tree: &Tree) {
+    let least = key(rt, alloc, b"");
+    let all = tree.scan_at(&least, None, 9, 0).expect(rt, "the pairs");
+    let wanted: [(&[u8], &[u8]); 6] = [
+        (b"a", b"1"),
+        (b"b", b"2"),
+        (b"c", b"3"),
+        (b"d", b"4"),
+        (b"e", b"5"),
+        (b"f", b"6"),
+    ];
+    assert!(rt; are(all.as_slice(), &wanted));
+}
+
+#[test]
+fn two_pages_in_the_middle_are_named_at_once(rt: HostRuntime) {
+    let alloc = heap(&rt, rt.alloc());
+    let mut tree = parted(&rt, alloc, [b"a", b"b"]);
+    has_entries(&rt, &tree, PageId(2), 2);
+    assert!(rt; name_both(&rt, alloc, &mut tree, PageId(0)) == Ok(()));
+    stands(&rt, &tree, 2, &[FLOOR, 1, 2, FLOOR + 1, 4], 2);
+    has_entries(&rt, &tree, PageId(2), 4);
+    routes(&rt, alloc, &tree, b"b", 3);
+    routes(&rt, alloc, &tree, b"c", 4);
+    routes(&rt, alloc, &tree, b"d", 1);
+    holds(&rt, alloc, &tree);
+}
+
+#[test]
+fn two_pages_at_the_end_are_named_at_once(rt: HostRuntime) {
+    let alloc = heap(&rt, rt.alloc());
+    let mut tree = parted(&rt, alloc, [b"d", b"e"]);
+    assert!(rt; name_both(&rt, alloc, &mut tree, PageId(1)) == Ok(()));
+    has_entries(&rt, &tree, PageId(2), 4);
+    routes(&rt, alloc, &tree, b"d", 1);
+    routes(&rt, alloc, &tree, b"e", 3);
+    routes(&rt, alloc, &tree, b"f", 4);
+    holds(&rt, alloc, &tree);
+}
+
+#[test]
+fn two_pages_are_named_over_an_added_one(rt: HostRuntime) {
+    let alloc = heap(&rt, rt.alloc());
+    let mut tree = parted(&rt, alloc, [b"a", b"b"]);
+    assert!(rt; split(&rt, alloc, &mut tree, b"d", 2) == Ok(PageId(5)));
+    name_one(&rt, &mut tree, PageId(1));
+    let heads = [FLOOR, FLOOR + 2, FLOOR + 3, FLOOR + 1, 4, 5];
+    stands(&rt, &tree, 2, &heads, 4);
+    assert!(rt; name_both(&rt, alloc, &mut tree, PageId(0)) == Ok(()));
+    stands(&rt, &tree, 2, &[FLOOR, FLOOR + 2, 2, FLOOR + 1, 4, 5], 4);
+    has_entries(&rt, &tree, PageId(2), 5);
+    routes(&rt, alloc, &tree, b"f", 5);
+    holds(&rt, alloc, &tree);
+}
+
+// Names two pages where this growth is refused, and compares the tree after that. Whether it was.
+fn name_refused<R: Abort>(rt: &R, alloc: Alloc, growth: u64) -> bool {
+    let mut tree = parted(rt, alloc, [b"a", b"b"]);
+    alloc.refuse(growth);
+    let named = name_both(rt, alloc, &mut tree, PageId(0));
+    let refused = was_refused(alloc, growth);
+    assert!(rt; named.is_err() == refused);
+    has_entries(rt, &tree, PageId(2), if refused { 2 } else { 4 });
+    holds(rt, alloc, &tree);
+    refused
+}
+
+#[test]
+fn each_growth_of_two_index_entries_is_refused(rt: HostRuntime) {
+    let alloc = heap(&rt, rt.alloc());
+    for growth in 1..100 {
+        if !name_refused(&rt, alloc, growth) {
+            assert!(rt; growth > 2);
+            return;
+        }
+    }
+    panic!(rt; "no run met no refusal")
+}
