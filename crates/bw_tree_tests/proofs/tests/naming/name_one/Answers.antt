@@ -1,4 +1,4 @@
-use Rattle.std.proofs.Common.{sym, subst, arith}
+use Rattle.std.proofs.Common.{sym, subst}
 use Rattle.bw_key.specs.Order.{KeyBytes}
 use Rattle.bw_tree.specs.Children.{MayHaveChild}
 use Rattle.bw_tree.proofs.UnnamedLemmas.{fits_child}
