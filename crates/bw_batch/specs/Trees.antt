@@ -21,6 +21,7 @@ pub record IsTreeOf (index : IndexView) (tree : TreeView) : Type 0 where
   pub stamp : tree.next ≡ next_stamp_of index
   pub heads : tree.heads ≡ index.heads
   pub records : tree.records ≡ index.records
+  pub pages : shape_of tree ≡ index.pages
   pub staged : tree.staged ≡ None
   pub within : AreWithinBut (limits_of (settings_of index)) tree index.due
 

@@ -28,7 +28,7 @@ pub(crate) struct Answered {
 }
 
 /// Runs a batch on a tree, whose replies are those of one thread that runs its operations in order on an ordered map. The
-/// pages that it writes to are due then, before those that are due already. After `Memory` all is as before.
+/// pages that it writes to are due then, behind those that are due already. After `Memory` all is as before.
 pub(crate) fn run_batch<R: Threads + Sync, G: Gate>(
     rt: &R,
     alloc: Alloc,

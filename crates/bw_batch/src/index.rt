@@ -5,6 +5,7 @@ ghost use Rattle.bw_core.specs.Keeping.{pairs_of};
 ghost use Rattle.bw_delta.specs.Batches.{writes_of};
 ghost use Rattle.bw_model.specs.Contents.{pairs_of_range};
 ghost use Rattle.bw_shape.specs.Limits.{AreWithinBut};
+ghost use Rattle.bw_tree.specs.Shapes.{shape_of};
 ghost use Rattle.bw_tree.specs.View.{contents_at};
 
 use crate::batch::{Answered, run_batch};
@@ -58,6 +59,7 @@ impl Drop for Index {
 impl Model for Index {
     ghost use Rattle.std.specs.Prelude.{◌≡◌, None};
     ghost use Rattle.bw_shape.specs.Limits.{AreWithinBut};
+    ghost use Rattle.bw_tree.specs.Shapes.{shape_of};
     ghost use Rattle.bw_tree.specs.View.{contents_at};
     ghost use Rattle.bw_batch.specs.Settings.{limits_of};
     ghost use Rattle.bw_batch.specs.View.{IndexView, coded_view};
@@ -73,6 +75,7 @@ impl Model for Index {
       heads = i.tree.heads;
       records = i.tree.records;
       due = i.due.pages;
+      pages = shape_of i.tree;
     } };
 
     ghost invariant = { λ i. (i.tree.staged ≡ None) × AreWithinBut (limits_of i.options) i.tree i.due.pages };
@@ -119,6 +122,7 @@ impl Index {
         ensures stamp { IfOk result (λ index. next_stamp_of index ≡ tree.next) }
         ensures heads { IfOk result (λ index. index.heads ≡ tree.heads) }
         ensures records { IfOk result (λ index. index.records ≡ tree.records) }
+        ensures pages { IfOk result (λ index. index.pages ≡ shape_of tree) }
     {
         let due = all_pages(&tree)?;
         Ok(Index {
@@ -299,16 +303,17 @@ impl Index {
     /// of keys. How the pairs lie on pages depends on the limits and on what memory was left for tidying.
     ///
     /// It is for people and tests, and costs what `Tree::shape` does: all pairs are copied, a page's at a time. `Memory` is
-    /// answered where a list, a map or a copy finds none.
+    /// answered where a list or a copy finds none.
     pub fn shape(&self) -> Result<Vec<PageShape, Alloc>, Memory>
-        ensures { IfOk result (λ shape. IsShapeOf self.now shape.items) }
+        ensures pages { IfOk result (λ shape. shape.items ≡ self.now.pages) }
+        ensures whole { IfOk result (λ shape. IsShapeOf self.now shape.items) }
     {
         self.tree.know_levels();
         self.tree.shape()
     }
 
     /// The tree on which the index stands, which has no staged batch: to see its pages and how long chains are, and to read as
-    /// of its next stamp. Each leaf that isn't due is within the limits.
+    /// of its next stamp. Its pages are those of `shape`, and each leaf that isn't due is within the limits.
     pub fn tree(&self) -> &Tree
         ensures contents { contents_at result.now result.now.next ≡ contents_of self.now }
         ensures stamp { result.now.next ≡ next_stamp_of self.now }

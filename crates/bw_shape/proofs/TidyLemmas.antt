@@ -1,9 +1,8 @@
 -- What tidying keeps, step by step: what the tree holds, and which leaves are within the limits.
-use Rattle.std.proofs.Common.{inl, inr, ◌⊎◌, ◌≡◌, ℕ, zero, suc, ◌+◌, ◌<◌, ◌≤◌, ◌^◌, List, [], ◌∷◌, ◌++◌, length, None, refl, sym, ap, ◌∙◌, subst, arith, reverse, Result, Ok, Err, OnOk, OnErr}
+use Rattle.std.proofs.Common.{inl, inr, ◌⊎◌, ◌≡◌, ℕ, zero, suc, ◌+◌, ◌<◌, ◌≤◌, ◌^◌, List, [], ◌∷◌, ◌++◌, length, None, refl, sym, ap, ◌∙◌, subst, arith}
 use Rattle.std.proofs.lemmas.Bool.{cases_eq, cases_lt}
 use Rattle.std.proofs.lemmas.List.{get_or-set_same, get_or-set_other, length-set, length-append}
 use Rattle.std.proofs.lemmas.List.Elements.{Contains-append_left, Contains-append_right, Contains-push, Contains-push_cases}
-use Rattle.std.proofs.lemmas.List.Sorted.{Contains-permutation, IsPermutation-reverse}
 use Rattle.std.specs.List.{Contains}
 use Rattle.std.specs.Prelude.{slice_index}
 use Rattle.bw_key.specs.Order.{KeyBytes}
@@ -22,8 +21,8 @@ use Rattle.bw_tree.specs.Splits.{IsSplit, IsSplittable}
 use Rattle.bw_tree.specs.View.{TreeView, contents_at}
 use Rattle.bw_shape.specs.Limits.{LimitsView, AreWithinBut, IsWithin}
 use Rattle.bw_shape.specs.Naming.{AreFinished}
-use Rattle.bw_shape.specs.Sweeps.{HoldsSame, KeepsPlain}
-use Rattle.bw_shape.specs.Tidying.{HoldsAll, IsBare, IsNext, IsSplitNext, KeepsWithin, ListsChanged}
+use Rattle.bw_shape.specs.Sweeps.{HoldsSame}
+use Rattle.bw_shape.specs.Tidying.{HoldsAll, IsBare, IsNext, IsSplitNext, KeepsWithin}
 use Rattle.bw_shape.specs.Steps.{HasLostChain, IsFinishStep, IsFinished, IsRootStep, IsSameOver}
 use Rattle.bw_tree.specs.Consolidation.{IsRebased}
 use Rattle.bw_shape.specs.declared.steps.Did.{Did}
@@ -288,50 +287,3 @@ leaf_level (ps ∷ levels) p has = record { level = 0; within = omega arith; in_
 pub tidy_finish : (old new : TreeView) (p : ℕ) (did : Did) → old.staged ≡ None → IsFinishStep old new p did → KeepsTidy old new
 tidy_finish old new p Done none h = tidy_named old new p h.0 h.1
 tidy_finish old new p NotNeeded none h = tidy_still old new none h.0
-
--- with a page that has a record, those that have one are listed still, and so they are without a page that has none
-pub changed_more : (heads pages listed more : List ℕ) (n : ℕ) → more ≡ listed ++ n ∷ [] → ListsChanged heads pages listed → ListsChanged heads (pages ++ n ∷ []) more
-changed_more heads pages listed more n is before p has high = subst (λ (l : List ℕ). Contains l p) (sym is) (by (Contains-push_cases pages n p has))
-  where
-    by : Contains pages p ⊎ (n ≡ p) → Contains (listed ++ n ∷ []) p
-    by (inl one) = Contains-append_left listed (n ∷ []) p (before p one high)
-    by (inr last) = subst (Contains (listed ++ n ∷ [])) last (Contains-push listed n)
-
-pub changed_still : (heads pages listed more : List ℕ) (n : ℕ) → more ≡ listed → slice_index heads n < 2 ^ 32 → ListsChanged heads pages listed → ListsChanged heads (pages ++ n ∷ []) more
-changed_still heads pages listed more n is low before p has high = subst (λ (l : List ℕ). Contains l p) (sym is) (by (Contains-push_cases pages n p has))
-  where
-    by : Contains pages p ⊎ (n ≡ p) → Contains listed p
-    by (inl one) = before p one high
-    by (inr last) = absurd (omega (arith, low, subst (λ q. 2 ^ 32 ≤ slice_index heads q) (sym last) high))
-
--- behind a sweep a leaf that had no record is as it was, and the others are due
-pub within_swept : (old new : TreeView) (due due' : List ℕ) → new.levels ≡ old.levels → KeepsPlain old new → ((p : ℕ) → Contains due p → Contains due' p) → ListsChanged old.heads (row old.levels 0) due' → KeepsWithin old new due due'
-within_swept old new due due' levels keeps kept changed limits but r leaf = by (cases_lt (slice_index old.heads r) (2 ^ 32))
-  where
-    was : Contains (row old.levels 0) r
-    was = subst (λ (l : List (List ℕ)). Contains (row l 0) r) levels leaf
-
-    or_as : slice_index old.heads r < 2 ^ 32 → Contains due r ⊎ IsWithin limits (slot_at old.slots r) → Contains due' r ⊎ IsWithin limits (slot_at new.slots r)
-    or_as low (inl has) = inl (kept r has)
-    or_as low (inr within) = inr (subst (IsWithin limits) (sym (keeps r low)) within)
-
-    by : (slice_index old.heads r < 2 ^ 32) ⊎ (2 ^ 32 ≤ slice_index old.heads r) → Contains due' r ⊎ IsWithin limits (slot_at new.slots r)
-    by (inl low) = or_as low (but r was)
-    by (inr high) = inl (changed r was high)
-
--- pages that were added are due, and so are those that were before
-on_ok : {X Y : Type 0} {A B : Type 0} (r : Result X Y) → OnOk r A → (A → B) → OnOk r B
-on_ok (Ok x) a f = f a
-on_ok (Err y) a f = tt
-
-module _ {X Y : Type 0} (r : Result X Y) (due due' more : List ℕ) (ok : OnOk r (due' ≡ reverse more ++ due)) where
-  pub added_due : {P Q : ℕ → Type 0} → ((p : ℕ) → P p → Q p → Contains more p) → OnOk r ((p : ℕ) → P p → Q p → Contains due' p)
-  added_due each = on_ok r ok (λ is p has has'.
-      subst (λ (l : List ℕ). Contains l p) (sym is) (Contains-append_left (reverse more) due p (Contains-permutation more (reverse more) p (IsPermutation-reverse more) (each p has has'))))
-
-  pub still_due : OnErr r (due' ≡ due) → (p : ℕ) → Contains due p → Contains due' p
-  still_due err p has = by r ok err
-    where
-      by : (s : Result X Y) → OnOk s (due' ≡ reverse more ++ due) → OnErr s (due' ≡ due) → Contains due' p
-      by (Ok x) is not = subst (λ (l : List ℕ). Contains l p) (sym is) (Contains-append_right (reverse more) due p has)
-      by (Err y) not is = subst (λ (l : List ℕ). Contains l p) (sym is) has

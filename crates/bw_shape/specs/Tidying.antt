@@ -29,10 +29,6 @@ pub record HoldsAll (old new : TreeView) : Type 0 where
 abbrev pub KeepsWithin : TreeView → TreeView → List ℕ → List ℕ → Type 0
 KeepsWithin old new due due' = (limits : LimitsView) → AreWithinBut limits old due → AreWithinBut limits new due'
 
--- those of the pages that have records are listed
-abbrev pub ListsChanged : List ℕ → List ℕ → List ℕ → Type 0
-ListsChanged heads pages listed = (p : ℕ) → Contains pages p → 2 ^ 32 ≤ slice_index heads p → Contains listed p
-
 -- this page is the next one
 abbrev pub IsNext : List ℕ → ℕ → Type 0
 IsNext pages p = (rest : List ℕ) × (pages ≡ rest ++ p ∷ [])
@@ -68,7 +64,7 @@ pub record IsHalved (old new : TreeView) (due due' : DueView) (p keep : ℕ) : T
   pub above : due'.above ≡ due.above
   pub few : length new.heads ≤ 2 ^ 32
 
--- the next page was looked at: it was split, or is within the limits
+-- the next page was looked at: it was split, or nothing has changed and it is due no more
 abbrev pub IsPart : TreeView → TreeView → DueView → DueView → ℕ → Bool → Type 0
 IsPart old new due due' p true = (keep : ℕ) × IsHalved old new due due' p keep
 IsPart old new due due' p false = (new ≡ old) × (due.pages ≡ due'.pages ++ p ∷ []) × (due'.above ≡ due.above)

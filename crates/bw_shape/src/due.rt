@@ -1,12 +1,10 @@
 // The pages that tidying is to look at.
 ghost use Rattle.std.specs.Prelude.{◌≡◌, ℕ, ◌+◌, ◌<◌, ◌≤◌, ◌^◌, true, false, [], ◌∷◌, ◌++◌, None, length, reverse, slice_index, MatchOption, OnOk, OnErr};
 ghost use Rattle.std.specs.List.{Contains};
-ghost use Rattle.bw_chain.specs.Levels.{row};
 ghost use Rattle.bw_tree.specs.Splits.{IsSplittable};
-ghost use Rattle.bw_shape.specs.Tidying.{HasNoneDue, HoldsAll, IsNext, IsNextBefore, IsSplitNext, KeepsWithin, ListsChanged};
+ghost use Rattle.bw_shape.specs.Tidying.{HasNoneDue, HoldsAll, IsNext, IsNextBefore, IsSplitNext, KeepsWithin};
 
 use crate::naming::name_rights;
-use crate::page_lists::{changed_among, inner_pages, leaf_pages};
 use crate::steps::grow_root;
 use bw_key::Memory;
 use bw_memory::Alloc;
@@ -46,18 +44,15 @@ impl Due {
         }
     }
 
-    /// These leaves and, once they were looked at, these inner pages.
-    pub(crate) fn from_levels(mut leaves: Vec<PageId, Alloc>, inner: Vec<PageId, Alloc>) -> Due
-        ensures pages { result.pages ≡ reverse leaves.entry.items }
-        ensures above { result.above ≡ inner.entry.items }
-        ensures unfinished { result.unfinished ≡ None }
+    /// These leaves are due and, once they were looked at, these inner pages, and no others any more.
+    pub(crate) fn set_pages(&mut self, mut leaves: Vec<PageId, Alloc>, inner: Vec<PageId, Alloc>)
+        ensures pages { self.new.pages ≡ reverse leaves.entry.items }
+        ensures above { self.new.above ≡ inner.entry.items }
+        ensures unfinished { self.new.unfinished ≡ self.old.unfinished }
     {
         leaves.reverse();
-        Due {
-            pages: leaves,
-            above: inner,
-            unfinished: None,
-        }
+        self.pages = leaves;
+        self.above = inner;
     }
 
     /// Adds pages, which are looked at in their order, behind those that are due already. It costs a step for each page that
@@ -73,21 +68,7 @@ impl Due {
         Ok(())
     }
 
-    /// Adds the pages of a tree that have records: its leaves in the order of keys, and its inner pages behind all leaves, the
-    /// lowest level first. It costs a walk along each level. After `Memory` inner pages may have been added.
-    pub(crate) fn add_changed(&mut self, tree: &Tree) -> Result<(), Memory>
-        ensures changed { OnOk result (ListsChanged tree.now.heads (row tree.now.levels 0) self.new.pages) }
-        ensures kept { (p : ℕ) → Contains self.old.pages p → Contains self.new.pages p }
-        ensures err { OnErr result (self.new.pages ≡ self.old.pages) }
-    {
-        let alloc = *self.pages.allocator();
-        let leaves = changed_among(alloc, tree, &leaf_pages(tree)?)?;
-        let inner = changed_among(alloc, tree, &inner_pages(alloc, tree)?)?;
-        self.above.extend_from_slice(&inner)?;
-        self.add(leaves)
-    }
-
-    /// The next page: where no page is left, those above are next that were given a child.
+    /// The next page: where no page is left, the inner pages behind them are next.
     pub(crate) fn next(&mut self) -> Option<PageId>
         ensures next { MatchOption result (HasNoneDue self.new) (IsNext self.new.pages) }
         ensures kept { (p : ℕ) → Contains self.old.pages p → Contains self.new.pages p }

@@ -2,9 +2,7 @@
 ghost use Rattle.std.specs.Prelude.{◌≡◌, drop, IfOk};
 ghost use Rattle.std.specs.List.{concat};
 ghost use Rattle.bw_chain.specs.Levels.{row};
-ghost use Rattle.bw_shape.specs.Tidying.{ListsChanged};
 
-use crate::steps::has_record;
 use bw_key::Memory;
 use bw_memory::Alloc;
 use bw_page::PageId;
@@ -27,21 +25,4 @@ pub(crate) fn inner_pages(alloc: Alloc, tree: &Tree) -> Result<Vec<PageId, Alloc
         pages.extend_from_slice(&tree.level_pages(level + 1)?)?;
     }
     Ok(pages)
-}
-
-/// Those of some pages that have records, in their order.
-pub(crate) fn changed_among(
-    alloc: Alloc,
-    tree: &Tree,
-    pages: &[PageId],
-) -> Result<Vec<PageId, Alloc>, Memory>
-    ensures { IfOk result (λ changed. ListsChanged tree.now.heads pages.now changed.items) }
-{
-    let mut changed = Vec::new(alloc);
-    for page in pages {
-        if has_record(tree, *page) {
-            changed.push(*page)?;
-        }
-    }
-    Ok(changed)
 }

@@ -4,6 +4,7 @@ ghost use Rattle.bw_shape.specs.Tidying.{KeepsWithin};
 ghost use Rattle.bw_shape.specs.Sweeps.{ArePlainBelow, HoldsSame, IsPlainAt, IsSwept, KeepsPlain};
 
 use crate::due::Due;
+use crate::page_lists::{inner_pages, leaf_pages};
 use crate::steps::consolidate;
 use bw_key::Memory;
 use bw_page::PageId;
@@ -26,16 +27,17 @@ pub fn sweep(tree: &mut Tree) -> Result<(), Memory>
     Ok(())
 }
 
-/// The same, with the pages that had records among those that are due: consolidated leaves may have too many pairs. It costs
-/// a walk along each level, too. After
-/// `Memory` some of them may be due already.
+/// The same, with all pages due: consolidated leaves may have too many pairs. It costs a walk along each level, too. After
+/// `Memory` all pages may be due already.
 pub fn sweep_due(tree: &mut Tree, due: &mut Due) -> Result<(), Memory>
     requires { tree.old.staged ≡ None }
     ensures ok { OnOk result (IsSwept tree.old tree.new) }
     ensures err { OnErr result (HoldsSame tree.old tree.new) }
     ensures within { KeepsWithin tree.old tree.new due.old.pages due.new.pages }
 {
-    due.add_changed(tree)?;
+    let leaves = leaf_pages(tree)?;
+    let inner = inner_pages(*leaves.allocator(), tree)?;
+    due.set_pages(leaves, inner);
     sweep(tree)
 }
 

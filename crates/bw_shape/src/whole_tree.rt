@@ -18,9 +18,9 @@ use bw_tree::Tree;
 /// Looks at all pages, as `tidy_due` does at those that are due. Before that a root that was split gets a root above it, and
 /// each split is finished, level by level from the leaves up. No batch is staged.
 ///
-/// It costs the list of all pages twice, and two searches for each. At the first `Memory` it stops, and the
-/// tree holds the same. Where it doesn't stop, no leaf is over a limit, and so
-/// none has more than `page_max` and `chain_max` pairs together.
+/// It costs the list of all pages twice, and two searches for each; each split that it finishes copies the children of the
+/// page above. At the first `Memory` it stops, and the tree holds the same. Where it doesn't stop, no leaf is over a limit,
+/// and so none has more than `page_max` and `chain_max` pairs together.
 pub fn tidy(tree: &mut Tree, limits: &Limits) -> Tidy
     requires { tree.old.staged ≡ None }
     ensures holds { HoldsAll tree.old tree.new }
@@ -80,5 +80,7 @@ pub fn all_pages(tree: &Tree) -> Result<Due, Memory>
 {
     let leaves = leaf_pages(tree)?;
     let inner = inner_pages(*leaves.allocator(), tree)?;
-    Ok(Due::from_levels(leaves, inner))
+    let mut due = Due::new(*leaves.allocator());
+    due.set_pages(leaves, inner);
+    Ok(due)
 }

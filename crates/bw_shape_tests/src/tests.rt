@@ -8,3 +8,4 @@ mod shapes;
 mod steps;
 mod sweeping;
 mod tidying;
+mod whole;

@@ -1,6 +1,6 @@
 // The tree below an index.
 use super::maker::{Maker, same};
-use bw_batch::{Index, Op, OpenGate, Options, Tidy};
+use bw_batch::{Index, Op, OpenGate, Options, Reply, Tidy};
 use bw_memory::Alloc;
 use std::process::Abort;
 use std::thread::Threads;
@@ -162,6 +162,30 @@ fn records_start_over(rt: HostRuntime) {
     has_pages(&rt, &make, &index, &[(0, "", None, 1, 1)]);
 }
 
+// The keys of five pairs, each of which has its own text as its value.
+const LETTERS: [&str; 5] = ["a", "b", "c", "d", "e"];
+
+// A scan of all pairs, and a get of each.
+fn reads<R: Abort>(rt: &R, make: &Maker<R>) -> Vec<Op, Alloc> {
+    let mut ops = Vec::new(make.alloc);
+    ops.push(make.scan("", None, 9)).expect(rt, "memory");
+    for letter in &LETTERS {
+        ops.push(make.get(letter)).expect(rt, "memory");
+    }
+    ops
+}
+
+// What is answered to them.
+fn answers<R: Abort>(rt: &R, make: &Maker<R>) -> Vec<Reply, Alloc> {
+    let all = [("a", "a"), ("b", "b"), ("c", "c"), ("d", "d"), ("e", "e")];
+    let mut replies = Vec::new(make.alloc);
+    replies.push(make.scanned(&all)).expect(rt, "memory");
+    for letter in &LETTERS {
+        replies.push(make.found(letter)).expect(rt, "memory");
+    }
+    replies
+}
+
 // Runs five inserts where this growth is refused. Whether the batch was accepted, and tidying went on to its end.
 fn is_tidied<R: Abort + Threads + Sync>(rt: &R, make: &Maker<R>, growth: u64) -> Option<bool> {
     let mut index = Index::new(make.alloc, limits(rt, 1, 4, 65536, 1048576)).expect(rt, "memory");
@@ -170,10 +194,10 @@ fn is_tidied<R: Abort + Threads + Sync>(rt: &R, make: &Maker<R>, growth: u64) ->
     let outcome = index.run(rt, &ops, &OpenGate);
     make.alloc.refuse(0);
     let done = outcome.ok()?;
-    let scan = [make.scan("", None, 9)];
-    let read = index.run(rt, &scan, &OpenGate).expect(rt, "memory");
-    let all = [("a", "a"), ("b", "b"), ("c", "c"), ("d", "d"), ("e", "e")];
-    same(rt, read.replies.as_slice(), &[make.scanned(&all)]);
+    let read = index
+        .run(rt, &reads(rt, make), &OpenGate)
+        .expect(rt, "memory");
+    same(rt, read.replies.as_slice(), &answers(rt, make));
     assert!(rt; !read.tidy.stopped);
     has_pages(rt, make, &index, &FIVE);
     Some(!done.tidy.stopped)

@@ -13,8 +13,8 @@ use bw_memory::Alloc;
 use bw_shape::{Due, Limits, PageId, Tidy, Tree, tidy_due};
 use std::process::Abort;
 
-// The number whose key is this letter, or the one behind it.
-const A: u16 = 97;
+/// The number whose key is this letter, or the one behind it.
+pub const A: u16 = 97;
 
 const BEHIND_B: u16 = 99;
 
@@ -28,17 +28,18 @@ const BEHIND_J: u16 = 107;
 
 const BEHIND_L: u16 = 109;
 
-const BEHIND_Q: u16 = 114;
+/// See `A`.
+pub const BEHIND_Q: u16 = 114;
 
-// What five pairs become.
-const FIVE: [Wanted; 3] = [
+/// What five pairs become.
+pub const FIVE: [Wanted; 3] = [
     (0, 0, b"", Some(b"c"), 2, 0),
     (1, 0, b"c", None, 3, 0),
     (2, 1, b"", None, 2, 0),
 ];
 
-// What the pairs of the 17 keys from `a` to `q` become.
-const SEVENTEEN: [Wanted; 8] = [
+/// What the pairs of the 17 keys from `a` to `q` become.
+pub const SEVENTEEN: [Wanted; 8] = [
     (0, 0, b"", Some(b"e"), 4, 0),
     (3, 0, b"e", Some(b"i"), 4, 0),
     (1, 0, b"i", Some(b"m"), 4, 0),
@@ -89,8 +90,8 @@ pub fn due_of<R: Abort>(rt: &R, alloc: Alloc, pages: &[PageId]) -> Due
     due
 }
 
-// What tidying did that wasn't stopped.
-fn did(consolidated: u64, splits: u64) -> Tidy {
+/// What tidying did that wasn't stopped.
+pub fn did(consolidated: u64, splits: u64) -> Tidy {
     Tidy {
         consolidated,
         splits,
