@@ -1,0 +1,4 @@
+pub mod ListsLemmas
+pub mod Packings
+pub mod Halving
+pub mod Views

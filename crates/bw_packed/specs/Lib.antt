@@ -1,0 +1,3 @@
+pub mod Lists
+pub mod Pairs
+pub mod Search

@@ -1,0 +1,80 @@
+// What is read of a list, how runs of it are copied, and how it is searched.
+ghost use Rattle.std.specs.Prelude.{◌≡◌, ◌≤◌, length};
+
+use super::making::{Child, KEY, KEY_AND_VALUE, has, heap, list_of, push_all};
+use bw_memory::Alloc;
+use bw_packed::Packed;
+use std::process::Abort;
+
+const ENTRIES: [&[u8]; 6] = [b"", KEY, KEY_AND_VALUE, b"", b"", b"a"];
+
+#[test]
+fn entries_of_all_lengths_lie_side_by_side(rt: HostRuntime) {
+    let alloc = heap(&rt, rt.alloc());
+    let list = list_of(&rt, alloc, &ENTRIES);
+    assert!(rt; has(&list, &ENTRIES, 0));
+    assert!(rt; !list.is_empty());
+    assert!(rt; list.len() == 6);
+    assert_eq!(rt; list.bytes_in(0..6), 1153);
+    assert_eq!(rt; list.bytes_in(1..2), 64);
+    assert_eq!(rt; list.bytes_in(3..5), 0);
+}
+
+// Puts a list together from the entries before a run, a copy of the run, and the entries behind it.
+fn copies_run<R: Abort>(
+    rt: &R,
+    alloc: Alloc,
+    list: &Packed<Child>,
+    entries: &[&[u8]],
+    start: usize,
+    end: usize,
+)
+    requires ordered { start ≤ end }
+    requires within { end ≤ length list.now }
+    requires all { length list.now ≡ length entries.now }
+{
+    let mut copy = list_of(rt, alloc, &entries[..start]);
+    copy.extend(list, start..end).expect(rt, "memory");
+    assert!(rt; has(&copy, &entries[..end], 0));
+    push_all(&mut copy, &entries[end..], end).expect(rt, "memory");
+    assert!(rt; has(&copy, entries, 0));
+}
+
+#[test]
+fn each_run_is_copied_behind_others(rt: HostRuntime) {
+    let alloc = heap(&rt, rt.alloc());
+    let list = list_of(&rt, alloc, &ENTRIES);
+    assert!(rt; list.len() == ENTRIES.len());
+    for end in 0..7 {
+        for start in 0..end + 1 {
+            copies_run(&rt, alloc, &list, &ENTRIES, start, end);
+        }
+    }
+}
+
+#[test]
+fn a_list_is_cut_and_goes_on(rt: HostRuntime) {
+    let alloc = heap(&rt, rt.alloc());
+    let mut list = list_of(&rt, alloc, &ENTRIES);
+    list.truncate(7);
+    assert!(rt; has(&list, &ENTRIES, 0));
+    list.truncate(2);
+    assert!(rt; has(&list, &ENTRIES[..2], 0));
+    push_all(&mut list, &ENTRIES[2..], 2).expect(&rt, "memory");
+    assert!(rt; has(&list, &ENTRIES, 0));
+    list.truncate(0);
+    assert!(rt; list.is_empty());
+}
+
+#[test]
+fn a_place_is_behind_the_smaller_keys(rt: HostRuntime) {
+    let alloc = heap(&rt, rt.alloc());
+    let rising: [&[u8]; 5] = [b"", b"a", b"ab", b"b", KEY];
+    let list = list_of(&rt, alloc, &rising);
+    for (place, key) in rising.iter().enumerate() {
+        assert!(rt; list.place(key) == place);
+    }
+    assert!(rt; list.place(b"aa") == 2);
+    assert!(rt; list.place(b"l") == 5);
+    assert!(rt; list_of(&rt, alloc, &[]).place(b"a") == 0);
+}

@@ -1,0 +1,94 @@
+// The memory that a list takes and gives back, and each growth refused in turn.
+use super::making::{Child, has, heap, list_of};
+use bw_memory::{Alloc, Heap};
+use bw_packed::Packed;
+use std::process::Abort;
+use std::test::Fail;
+
+// A list that is full, since it has all that it has room for.
+fn full_list<R: Abort>(rt: &R, alloc: Alloc) -> Packed<Child> {
+    let mut list = Packed::with_capacity(alloc, 1, 2).expect(rt, "memory");
+    list.push(b"ab", Child(0)).expect(rt, "memory");
+    list
+}
+
+// Grows a full list with this growth refused. It stays as it is.
+fn push_is_refused<R: Abort>(rt: &R, alloc: Alloc, growth: u64) {
+    let mut list = full_list(rt, alloc);
+    alloc.refuse(growth);
+    assert!(rt; list.push(b"c", Child(1)).is_err());
+    assert!(rt; alloc.left() == 0);
+    assert!(rt; has(&list, &[b"ab"], 0));
+    list.push(b"c", Child(1)).expect(rt, "memory");
+    assert!(rt; has(&list, &[b"ab", b"c"], 0));
+}
+
+// The same by a run of another list.
+fn extend_is_refused<R: Abort>(rt: &R, alloc: Alloc, growth: u64) {
+    let mut list = full_list(rt, alloc);
+    let other = list_of(rt, alloc, &[b"ab", b"c", b"def"]);
+    assert!(rt; other.len() == 3);
+    alloc.refuse(growth);
+    assert!(rt; list.extend(&other, 1..3).is_err());
+    assert!(rt; alloc.left() == 0);
+    assert!(rt; has(&list, &[b"ab"], 0));
+    list.extend(&other, 1..3).expect(rt, "memory");
+    assert!(rt; has(&list, &[b"ab", b"c", b"def"], 0));
+}
+
+fn room_is_refused(alloc: Alloc, growth: u64) -> bool {
+    alloc.refuse(growth);
+    Packed::<Child>::with_capacity(alloc, 1, 1).is_err()
+}
+
+#[test]
+fn each_growth_is_refused_in_turn(rt: HostRuntime) -> Result<(), Fail> {
+    let alloc = Heap::counted(rt.alloc()).leak(rt.alloc())?;
+    for growth in 1..3 {
+        assert!(rt; room_is_refused(alloc, growth));
+        push_is_refused(&rt, alloc, growth);
+        extend_is_refused(&rt, alloc, growth);
+    }
+    assert!(rt; !room_is_refused(alloc, 3));
+    Ok(())
+}
+
+// Fills a list that was made with room for all, in two growths.
+fn fills_its_room<R: Abort>(rt: &R, alloc: Alloc, other: &Packed<Child>) {
+    if other.len() != 2 {
+        return;
+    }
+    alloc.refuse(3);
+    let mut list = Packed::with_capacity(alloc, 3, 6).expect(rt, "memory");
+    list.push(b"ab", Child(0)).expect(rt, "memory");
+    list.extend(other, 0..2).expect(rt, "memory");
+    assert!(rt; alloc.left() == 1);
+}
+
+#[test]
+fn a_list_with_room_takes_two_growths(rt: HostRuntime) -> Result<(), Fail> {
+    let alloc = Heap::counted(rt.alloc()).leak(rt.alloc())?;
+    let other = list_of(&rt, heap(&rt, rt.alloc()), &[b"c", b"def"]);
+    fills_its_room(&rt, alloc, &other);
+    Ok(())
+}
+
+// Makes a list with more room than it needs, and gives back what isn't used: an entry takes its bytes and 16 more, of
+// which the tag takes eight.
+fn keeps_what_it_uses<R: Abort>(rt: &R, alloc: Alloc) {
+    let mut list = Packed::with_capacity(alloc, 10, 100).expect(rt, "memory");
+    list.push(b"ab", Child(0)).expect(rt, "memory");
+    list.push(b"c", Child(1)).expect(rt, "memory");
+    assert!(rt; alloc.used() == 260);
+    list.shrink_to_fit();
+    assert!(rt; alloc.used() == 35);
+    assert!(rt; has(&list, &[b"ab", b"c"], 0));
+}
+
+#[test]
+fn what_is_dropped_gives_its_memory_back(rt: HostRuntime) -> Result<(), Fail> {
+    let alloc = Heap::within(rt.alloc(), 4096).leak(rt.alloc())?;
+    keeps_what_it_uses(&rt, alloc);
+    assert!(rt; alloc.used() == 0);
+    Ok(())
+}
