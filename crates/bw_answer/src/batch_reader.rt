@@ -42,7 +42,12 @@ impl<'a> Model for BatchReader<'a> {
 
     ghost view = { λ b. record { tree = b.tree.now; ops = b.ops.now; base = b.base; homes = b.homes.now } };
 
-    ghost invariant = { λ b. IsReadInTurn (record { tree = b.tree.now; ops = b.ops.now; base = b.base; homes = b.homes.now }) };
+    ghost invariant = { λ b. IsReadInTurn (record {
+      tree = b.tree.now;
+      ops = b.ops.now;
+      base = b.base;
+      homes = b.homes.now;
+    }) };
 }
 
 /// The reply to the operation at a place of a batch.

@@ -2,8 +2,7 @@
 use Rattle.std.proofs.Common.{inl, inr, ◌⊎◌, ◌≡◌, ℕ, suc, ◌<◌, ◌≤◌, Bool, true, false, cond, List, [], ◌∷◌, ◌++◌, length, reverse, Option, Some, None, Result, Ok, Err, OnOk, OnErr, refl, sym, ap, ◌∙◌, subst, arith}
 use Rattle.std.specs.Prelude.{filter, slice_get}
 use Rattle.std.proofs.lemmas.Bool.{cases_eq, cases_lt}
-use Rattle.std.proofs.lemmas.List.Elements.{Contains-append_left, Contains-append_right}
-use Rattle.std.proofs.lemmas.List.Sorted.{Contains-permutation, IsPermutation-reverse, length_permutation}
+use Rattle.std.proofs.lemmas.List.Sorted.{length_permutation}
 use Rattle.std.specs.List.{Contains}
 use Rattle.bw_core.specs.World.{times}
 use Rattle.bw_core.proofs.Lists.{one_other}
@@ -19,7 +18,7 @@ use Rattle.bw_tree.specs.Stages.{LeavesHaveAll, accepted_tree, staged_on}
 use Rattle.bw_tree.specs.View.{StageView, TreeView, staged_writes}
 use Rattle.bw_tree.specs.Words.{IsPostedStageOn}
 use Rattle.bw_shape.specs.Limits.{LimitsView, AreWithinBut, IsWithin}
-use Rattle.bw_shape.specs.Tidying.{DueView, KeepsWithin}
+use Rattle.bw_shape.specs.Tidying.{DueView, HasBoth, KeepsWithin}
 
 -- the pairs under the writes stay where pages differ in writes alone
 bare_pairs : (page : Slot) → pairs_under (slot_without_writes page) ≡ pairs_under page
@@ -68,7 +67,7 @@ own_home tree p key leaf inside = by (slot_at tree.slots p) refl inside
     by (Gone l) is inside = absurd (cc)
     by Free is inside = absurd (cc)
 
-module _ (tree after : TreeView) (pages heads links due : List ℕ) (posted : IsPostedStageOn tree tree.staged pages heads links) (levels : after.levels ≡ tree.levels)
+module _ (tree after : TreeView) (pages heads links due due' : List ℕ) (both : HasBoth pages due due') (posted : IsPostedStageOn tree tree.staged pages heads links) (levels : after.levels ≡ tree.levels)
     (bare : (p : ℕ) → slot_without_writes (slot_at after.slots p) ≡ slot_without_writes (slot_at tree.slots p)) (writes : LeavesHaveAll tree after) where
   -- a page that was written to is one of those
   was_posted : (o : Option StageView) → IsPostedStageOn tree o pages heads links → (r p : ℕ) (w : WriteView) → slice_get (staged_writes o) r ≡ Some w → IsHome tree.slots tree.levels w.key p → 0 < times p pages
@@ -86,15 +85,15 @@ module _ (tree after : TreeView) (pages heads links due : List ℕ) (posted : Is
   same_pairs p = ap length (sym (bare_pairs (slot_at after.slots p)) ∙ ap pairs_under (bare p) ∙ bare_pairs (slot_at tree.slots p))
 
   -- the pages that were written to are due, besides those that were
-  pub within_posted : KeepsWithin tree after due (reverse pages ++ due)
+  pub within_posted : KeepsWithin tree after due due'
   within_posted limits but p leaf = by (cases_lt 0 (times p pages)) (but p was_leaf)
     where
       was_leaf : Contains (row tree.levels 0) p
       was_leaf = subst (λ (l : List (List ℕ)). Contains (row l 0) p) levels leaf
 
-      by : (0 < times p pages) ⊎ (times p pages ≤ 0) → Contains due p ⊎ IsWithin limits (slot_at tree.slots p) → Contains (reverse pages ++ due) p ⊎ IsWithin limits (slot_at after.slots p)
-      by (inl some) was = inl (Contains-append_left (reverse pages) due p (Contains-permutation pages (reverse pages) p (IsPermutation-reverse pages) (listed pages p some)))
-      by (inr none) (inl has) = inl (Contains-append_right (reverse pages) due p has)
+      by : (0 < times p pages) ⊎ (times p pages ≤ 0) → Contains due p ⊎ IsWithin limits (slot_at tree.slots p) → Contains due' p ⊎ IsWithin limits (slot_at after.slots p)
+      by (inl some) was = inl (both.left p (listed pages p some))
+      by (inr none) (inl has) = inl (both.right p has)
       by (inr none) (inr within) = inr (omega (arith, within.0, same_writes p was_leaf (omega (arith, none))), omega (arith, within.1, same_pairs p))
 
 -- and so behind the batch: to stage it and to accept it moves no page

@@ -1,12 +1,12 @@
 // One batch on a tree: staged, posted, adopted, answered, and then accepted; or undone.
-ghost use Rattle.std.specs.Prelude.{◌≡◌, ℕ, ◌<◌, ◌≤◌, ◌+◌, ◌^◌, true, None, ◌++◌, length, reverse, take, IfOk, OnOk, OnErr};
+ghost use Rattle.std.specs.Prelude.{◌≡◌, ℕ, ◌<◌, ◌≤◌, ◌+◌, ◌^◌, true, None, length, take, IfOk, OnOk, OnErr};
 ghost use Rattle.bw_core.specs.Keeping.{pairs_of};
 ghost use Rattle.bw_delta.specs.Batches.{writes_of};
 ghost use Rattle.bw_model.specs.Model.{contents_after, replies_of};
 ghost use Rattle.bw_tree.specs.Stages.{is_adopted, undone_tree};
 ghost use Rattle.bw_tree.specs.View.{contents_at, contents_with, staged_writes};
 ghost use Rattle.bw_post.specs.Posting.{IsWaiting};
-ghost use Rattle.bw_shape.specs.Tidying.{KeepsWithin};
+ghost use Rattle.bw_shape.specs.Tidying.{HasBoth, KeepsWithin};
 ghost use Rattle.bw_batch.specs.Stages.{operations_staged};
 
 use crate::options::Options;
@@ -104,17 +104,14 @@ fn answer_staged<R: Threads + Sync, G: Gate>(
     tree.adopt_on(pages, closed);
     let base = tree.next_stamp();
     let replies = replies(rt, alloc, tree, base, batch, &homes, workers)?;
-    add_written(due, written)?;
+    add_written(due, tree, written)?;
     Ok(Answered { replies, lost })
 }
 
 // These pages are due too. A batch of reads wrote to none, and takes no memory for them.
-fn add_written(due: &mut Due, pages: Vec<PageId, Alloc>) -> Result<(), Memory>
-    ensures ok { OnOk result (due.new.pages ≡ reverse pages.entry.items ++ due.old.pages) }
+fn add_written(due: &mut Due, tree: &Tree, pages: Vec<PageId, Alloc>) -> Result<(), Memory>
+    ensures ok { OnOk result (HasBoth pages.entry.items due.old.pages due.new.pages) }
     ensures err { OnErr result (due.new ≡ due.old) }
 {
-    if pages.is_empty() {
-        return Ok(());
-    }
-    due.add(pages)
+    due.add(tree, pages)
 }

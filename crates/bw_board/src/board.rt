@@ -41,8 +41,8 @@ impl Model for Board {
     ghost view = { λ b. board_view b.table.shared.table_id b.table.shared.key.heads.items b.floor b.records b.piece
         b.table.shared.key.spares.items };
 
-    ghost invariant = { λ b. IsBoard (board_view b.table.shared.table_id b.table.shared.key.heads.items b.floor b.records b.piece
-        b.table.shared.key.spares.items) b.pages b.table.shared.key b.origin };
+    ghost invariant = { λ b. IsBoard (board_view b.table.shared.table_id b.table.shared.key.heads.items b.floor b.records
+        b.piece b.table.shared.key.spares.items) b.pages b.table.shared.key b.origin };
 }
 
 /// The right to step on a board, and what its owner owns, posted and saw there.
@@ -355,8 +355,8 @@ impl Board {
         chains::peek(self.alloc, words, &mut seat.place, pages, self.floor, page)
     }
 
-    /// Replaces the page's first word by its spare, where the head still is that word: where a settled chain was folded into a
-    /// new base page, that page comes in place of the chain.
+    /// Replaces the page's first word by its spare, where the head still is that word: where a settled chain was consolidated
+    /// into a new base page, that page comes in place of the chain.
     ///
     /// The page has a spare, and the seat didn't try this page before. Late, the seat has seen a new record there, or the spare
     /// as the chain's end. Posts nothing, and each chain of new records stays. Costs one atomic exchange.

@@ -69,14 +69,14 @@ slot_is f [] p = refl
 slot_is f (h ∷ heads) zero = refl
 slot_is f (h ∷ heads) (suc p) = slot_is f heads p
 
-same_slot : (f g : ℕ → Slot) (heads heads' : List ℕ) (q : ℕ) → slice_get heads' q ≡ slice_get heads q → ((w : ℕ) → slice_get heads q ≡ Some w → g w ≡ f w) → slot_at (map g heads') q ≡ slot_at (map f heads) q
+pub same_slot : (f g : ℕ → Slot) (heads heads' : List ℕ) (q : ℕ) → slice_get heads' q ≡ slice_get heads q → ((w : ℕ) → slice_get heads q ≡ Some w → g w ≡ f w) → slot_at (map g heads') q ≡ slot_at (map f heads) q
 same_slot f g heads heads' q same agree = slot_is g heads' q ∙ ap (slot_of_entry g) same ∙ by (slice_get heads q) refl ∙ sym (slot_is f heads q)
   where
     by : (o : Option ℕ) → slice_get heads q ≡ o → slot_of_entry g (slice_get heads q) ≡ slot_of_entry f (slice_get heads q)
     by None e = ap (slot_of_entry g) e ∙ sym (ap (slot_of_entry f) e)
     by (Some w) e = ap (slot_of_entry g) e ∙ agree w e ∙ sym (ap (slot_of_entry f) e)
 
-slot_here : (f : ℕ → Slot) (heads : List ℕ) (p w : ℕ) → slice_get heads p ≡ Some w → slot_at (map f heads) p ≡ f w
+pub slot_here : (f : ℕ → Slot) (heads : List ℕ) (p w : ℕ) → slice_get heads p ≡ Some w → slot_at (map f heads) p ≡ f w
 slot_here f heads p w at = slot_is f heads p ∙ ap (slot_of_entry f) at
 
 -- a page without a record is its base page

@@ -5,8 +5,9 @@ use Rattle.bw_key.specs.Order.{KeyBytes}
 use Rattle.bw_page.specs.Inners.{IsUpto}
 use Rattle.bw_chain.specs.Slots.{Slot, PageState, Free, Gone, Live, slot_at, left_of, left_of_slot, children_of}
 use Rattle.bw_chain.specs.Levels.{Stands, AreLevels, StartsWith, LeadsBelow, row}
+use Rattle.bw_chain.specs.Entries.{AreExact}
 use Rattle.bw_chain.specs.Laws.{LevelsAreAlike}
-use Rattle.bw_chain.specs.Steps.{AreAlike, IsAlike}
+use Rattle.bw_chain.specs.Steps.{AreAlike, IsAlike, IsTerm}
 use Rattle.bw_chain.proofs.RowLemmas.{row_on}
 use Rattle.bw_chain.proofs.WalkLemmas.{way_on}
 
@@ -25,10 +26,12 @@ left_same (Gone l) other is = ap left_of_slot is
 left_same (Live s) other a = ap left_of_slot a.is
 
 -- a page and what it was
-was_live : (slot other : Slot) (t : PageState) → AreAlike slot other → other ≡ Live t → (s : PageState) × (slot ≡ Live s) × (children_of t.body ≡ children_of s.body)
+was_live : (slot other : Slot) (t : PageState) → AreAlike slot other → other ≡ Live t → (s : PageState) × (slot ≡ Live s) × (children_of t.body ≡ children_of s.body) × (t.low ≡ s.low)
 was_live Free other t is live = absurd (no_live (sym is ∙ live))
 was_live (Gone l) other t is live = absurd (no_gone (sym is ∙ live))
-was_live (Live s) other t a live = (s, refl, ap (λ (r : PageState). children_of r.body) (one_state (sym live ∙ a.is)) ∙ a.children)
+was_live (Live s) other t a live =
+    let same : t ≡ a.state = one_state (sym live ∙ a.is) in
+    (s, refl, ap (λ (r : PageState). children_of r.body) same ∙ a.children, ap (λ (r : PageState). r.low) same ∙ a.low)
 
 module _ (old new : List Slot) (over : (p : ℕ) → AreAlike (slot_at old p) (slot_at new p)) where
   page : (p : ℕ) (s : PageState) → slot_at old p ≡ Live s → IsAlike s (slot_at new p)
@@ -58,6 +61,20 @@ module _ (old new : List Slot) (over : (p : ℕ) → AreAlike (slot_at old p) (s
     terms = λ n p s k c within has is named.
         let a = was_live (slot_at old p) (slot_at new p) s (over p) is in
         below_alike (row levels n) k c (h.terms n p a.0 k c within has a.1 (subst (λ cs. Contains cs (k, c)) a.2 named));
+  }
+
+  -- and index entries stay exact
+  term_was : (levels : List (List ℕ)) (n : ℕ) (k : KeyBytes) (c : ℕ) → IsTerm new levels n k c → IsTerm old levels n k c
+  term_was levels n k c term =
+      let a = was_live (slot_at old term.page) (slot_at new term.page) term.state (over term.page) term.is in
+      record { page = term.page; in_level = term.in_level; state = a.0; is = a.1; named = subst (λ cs. Contains cs (k, c)) a.2 term.named }
+
+  pub exact_alike : (levels : List (List ℕ)) → AreExact old levels → AreExact new levels
+  exact_alike levels exact = record {
+    begins = λ n k c s within term is.
+        let b = was_live (slot_at old c) (slot_at new c) s (over c) is in
+        b.3 ∙ exact.begins n k c b.0 within (term_was levels n k c term) b.1;
+    once = λ n k h c within one other. exact.once n k h c within (term_was levels n k c one) (term_was levels n h c other);
   }
 
 pub levels_alike : LevelsAreAlike

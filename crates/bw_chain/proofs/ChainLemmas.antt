@@ -65,7 +65,7 @@ way_records records p (w ∷ ws) e h =
     let read : record_at records w ≡ Some there.0 = ap (record_at records) h.0 ∙ there.1 in
     ap (λ o. length (delta_in o (deltas_at records ws))) read ∙ ap suc (way_records records h.1.0 ws e h.1.2)
 
-none_on : (records : Records) (p : ℕ) (ws : List ℕ) (e : ℕ) → Leads (link_of records) p ws e → deltas_at records ws ≡ [] → ws ≡ []
+pub none_on : (records : Records) (p : ℕ) (ws : List ℕ) (e : ℕ) → Leads (link_of records) p ws e → deltas_at records ws ≡ [] → ws ≡ []
 none_on records p [] e h none_there = refl
 none_on records p (w ∷ ws) e h none_there = absurd (omega (arith, ap length none_there, way_records records p (w ∷ ws) e h))
 

@@ -10,7 +10,7 @@ use Rattle.bw_model.specs.Sorted.{place_of}
 use Rattle.bw_model.proofs.PairsLemmas.{put_found_at, put_absent_at}
 use Rattle.bw_page.proofs.KeyLemmas.{below_back, upto_below}
 use Rattle.bw_page.proofs.Truths.{holds, left_of, right_of}
-use Rattle.bw_chain.specs.Chains.{below}
+use Rattle.bw_page.specs.Pages.{below}
 use Rattle.bw_chain.specs.Walk.{walked, through}
 
 module _ {X : Type 0} where

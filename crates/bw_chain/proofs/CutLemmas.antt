@@ -5,14 +5,14 @@ use Rattle.std.specs.Ordering.{is_lt, is_eq, eq_by_cmp}
 use Rattle.std.specs.declared.cmp.Ordering.{Ordering}
 use Rattle.std.specs.declared.cmp.Ordering.TheVariants.{Less, Equal, Greater}
 use Rattle.std.specs.FinMap.{find, is_sorted}
-use Rattle.std.specs.FinMap.Entries.{below_all, find-where_key, is_sorted-where_key}
+use Rattle.std.specs.FinMap.Entries.{below_all, find-where_key}
 use Rattle.bw_key.specs.Order.{KeyBytes, key_cmp}
 use Rattle.bw_model.specs.Contents.{is_below_end, is_pair_in_range}
 use Rattle.bw_page.specs.Inners.{IsInner}
-use Rattle.bw_page.specs.Pages.{IsPage, BeginsAt, first_key}
+use Rattle.bw_page.specs.Pages.{IsPage, below, first_key}
+use Rattle.bw_page.proofs.Cuts.{first_begins, narrowed_page}
 use Rattle.bw_page.proofs.KeyLemmas.{below_back, below_self, keys_tie, upto_below}
-use Rattle.bw_page.proofs.Truths.{holds, true_holds, holds_not, left_of, right_of, both_of}
-use Rattle.bw_chain.specs.Chains.{below}
+use Rattle.bw_page.proofs.Truths.{holds, true_holds, holds_not, left_of, right_of}
 
 different : true ≡ false → ⊥
 different e = cc
@@ -35,7 +35,7 @@ module _ {X : Type 0} where
   first_above k (suc n) (e ∷ es) above lt = first_above k n es (right_of _ _ above) (omega arith)
 
   -- the first entries are those below the first key of the others
-  pub below_first : (n : ℕ) (es : List (KeyBytes × X)) → T (is_sorted key_cmp es) → n < length es → below (first_key (drop n es)) es ≡ take n es
+  below_first : (n : ℕ) (es : List (KeyBytes × X)) → T (is_sorted key_cmp es) → n < length es → below (first_key (drop n es)) es ≡ take n es
   below_first n [] sorted lt = absurd (omega arith)
   below_first zero (e ∷ es) sorted lt =
       ap (λ b. cond b (e ∷ below e.0 es) (below e.0 es)) (below_self e.0) ∙ none_below e.0 es (left_of _ _ sorted)
@@ -43,6 +43,15 @@ module _ {X : Type 0} where
       let k = first_key (drop n es) in
       ap (λ b. cond b (e ∷ below k es) (below k es)) (first_above e.0 n es (left_of _ _ sorted) (omega arith))
       ∙ ap (λ (l : List (KeyBytes × X)). e ∷ l) (below_first n es (right_of _ _ sorted) (omega arith))
+
+  -- so they are still there where the entries were cut
+  pub below_cut : (n : ℕ) (es : List (KeyBytes × X)) → T (is_sorted key_cmp es) → n < length es → below (first_key (drop n es)) (take n es) ≡ take n es
+  below_cut n [] sorted lt = absurd (omega arith)
+  below_cut zero (e ∷ es) sorted lt = refl
+  below_cut (suc n) (e ∷ es) sorted lt =
+      let k = first_key (drop n es) in
+      ap (λ b. cond b (e ∷ below k (take n es)) (below k (take n es))) (first_above e.0 n es (left_of _ _ sorted) (omega arith))
+      ∙ ap (λ (l : List (KeyBytes × X)). e ∷ l) (below_cut n es (right_of _ _ sorted) (omega arith))
 
   -- a key below it is found among them
   pub find_first : (n : ℕ) (key : KeyBytes) (es : List (KeyBytes × X)) → T (is_sorted key_cmp es) → n < length es → is_lt (key_cmp key (first_key (drop n es))) ≡ true → find key_cmp key (take n es) ≡ find key_cmp key es
@@ -65,25 +74,12 @@ module _ {X : Type 0} where
       untied false is before = is
       untied true is before = absurd (different (sym before ∙ ap (λ (y : KeyBytes). is_lt (key_cmp y (first_key (drop n es)))) (sym (keys_tie key e.0 (tied (key_cmp key e.0) is))) ∙ from))
 
-  range_below : (low : KeyBytes) (high : Option KeyBytes) (k : KeyBytes) (es : List (KeyBytes × X)) → T (list_all (is_pair_in_range low high) es) → T (list_all (is_pair_in_range low (Some k)) (below k es))
-  range_below low high k [] inside = tt
-  range_below low high k (e ∷ es) inside = by (is_lt (key_cmp e.0 k)) refl (range_below low high k es (right_of _ _ inside))
-    where
-      by : (b : Bool) → is_lt (key_cmp e.0 k) ≡ b → T (list_all (is_pair_in_range low (Some k)) (below k es)) → T (list_all (is_pair_in_range low (Some k)) (cond b (e ∷ below k es) (below k es)))
-      by true before rest = both_of _ _ (both_of _ _ (left_of (not (is_lt (key_cmp e.0 low))) (is_below_end high e.0) (left_of (is_pair_in_range low high e) (list_all (is_pair_in_range low high) es) inside)) (true_holds _ before)) rest
-      by false before rest = rest
-
   -- they are a page up to there
   pub lower_page : (low : KeyBytes) (high : Option KeyBytes) (side : Option ℕ) (to : ℕ) (es : List (KeyBytes × X)) (n : ℕ) → IsPage low high side es → 0 < n → n < length es → IsPage low (Some (first_key (drop n es))) (Some to) (take n es)
   lower_page low high side to es n h some lt =
       let k = first_key (drop n es) in
       let same = below_first n es h.sorted lt in
-      record {
-        sorted = subst (λ (l : List (KeyBytes × X)). T (is_sorted key_cmp l)) same (is_sorted-where_key key_cmp (λ x. is_lt (key_cmp x k)) es h.sorted);
-        inside = subst (λ (l : List (KeyBytes × X)). T (list_all (is_pair_in_range low (Some k)) l)) same (range_below low high k es h.inside);
-        wide = true_holds _ (from_first n es h.sorted h.inside some lt);
-        linked = refl;
-      }
+      subst (λ (l : List (KeyBytes × X)). IsPage low (Some k) (Some to) l) same (narrowed_page low high side k to es (true_holds _ (from_first n es h.sorted h.inside some lt)) h)
     where
       from_first : (n : ℕ) (es : List (KeyBytes × X)) → T (is_sorted key_cmp es) → T (list_all (is_pair_in_range low high) es) → 0 < n → n < length es → is_lt (key_cmp low (first_key (drop n es))) ≡ true
       from_first n [] sorted inside some lt = absurd (omega arith)
@@ -93,15 +89,10 @@ module _ {X : Type 0} where
           (holds_not _ (left_of (not (is_lt (key_cmp e.0 low))) (is_below_end high e.0) (left_of (is_pair_in_range low high e) (list_all (is_pair_in_range low high) es) inside)))
           (first_above e.0 n es (left_of _ _ sorted) (omega arith))
 
-  pub lower_begins : (low : KeyBytes) (es : List (KeyBytes × X)) (n : ℕ) → BeginsAt low es → 0 < n → BeginsAt low (take n es)
-  lower_begins low [] n begins some = absurd begins
-  lower_begins low (e ∷ es) zero begins some = absurd (omega arith)
-  lower_begins low (e ∷ es) (suc n) begins some = begins
-
 -- of an inner page too
 pub lower_inner : (level : ℕ) (low : KeyBytes) (high : Option KeyBytes) (side : Option ℕ) (to : ℕ) (es : List (KeyBytes × ℕ)) (n : ℕ) → IsInner level low high side es → 0 < n → n < length es → IsInner level low (Some (first_key (drop n es))) (Some to) (take n es)
 lower_inner level low high side to es n h some lt = record {
   raised = h.raised;
   page = lower_page low high side to es n h.page some lt;
-  begins = lower_begins low es n h.begins some;
+  begins = first_begins low n es some h.begins;
 }

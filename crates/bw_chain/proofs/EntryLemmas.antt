@@ -18,6 +18,7 @@ use Rattle.bw_delta.specs.ContentsAsOf.{contents_as_of}
 use Rattle.bw_delta.specs.Writes.{WriteView}
 use Rattle.bw_chain.specs.Chains.{body_with_child}
 use Rattle.bw_chain.specs.Children.{FitsChild, HasChild, state_with_child}
+use Rattle.bw_chain.specs.Entries.{AreExact}
 use Rattle.bw_chain.specs.Laws.{ChildIsKept}
 use Rattle.bw_chain.specs.Levels.{AreLevels, FirstChild, LeadsBelow, Stands, StartsWith, row}
 use Rattle.bw_chain.specs.Reading.{body_pairs, body_writes, contents_in, pairs_under, row_pairs, row_writes, writes_over}
@@ -184,23 +185,58 @@ module _ (old new : List Slot) (root : ℕ) (levels : List (List ℕ)) (p : ℕ)
   abbrev IsNew : KeyBytes × ℕ → Type 0
   IsNew e = e ≡ (sep, child)
 
-  terms_lead : (n : ℕ) (k : KeyBytes) (c : ℕ) → suc n < length levels → IsTerm new levels n k c → WasTerm old new levels levels n k c ⊎ LeadsBelow new (row levels n) k c
-  terms_lead n k c lt t = by (cases_eq t.page p)
+  -- an index entry was one, or is the new one
+  term_was : (n : ℕ) (k : KeyBytes) (c : ℕ) → suc n < length levels → IsTerm new levels n k c → IsTerm old levels n k c ⊎ ((fits.level ≡ n) × IsNew (k, c))
+  term_was n k c lt t = by (cases_eq t.page p)
     where
-      one_was : IsTerm old levels n k c → WasTerm old new levels levels n k c
-      one_was term = record { was = term; leads = leads_still n k c }
+      at_page : t.page ≡ p → Contains (children_of was.body) (k, c) ⊎ IsNew (k, c) → IsTerm old levels n k c ⊎ ((fits.level ≡ n) × IsNew (k, c))
+      at_page here (inl had) = inl (record { page = p; in_level = subst (Contains (row levels (suc n))) here t.in_level; state = was; is = given.is; named = had })
+      at_page here (inr added) = inr (one_level (sym (at_level (suc fits.level) fits.within fits.in_level) ∙ at_level (suc n) lt (subst (Contains (row levels (suc n))) here t.in_level)), added)
 
-      at_page : t.page ≡ p → Contains (children_of was.body) (k, c) ⊎ IsNew (k, c) → WasTerm old new levels levels n k c ⊎ LeadsBelow new (row levels n) k c
-      at_page here (inl had) = inl (one_was (record { page = p; in_level = subst (Contains (row levels (suc n))) here t.in_level; state = was; is = given.is; named = had }))
-      at_page here (inr added) =
-          let same : fits.level ≡ n = one_level (sym (at_level (suc fits.level) fits.within fits.in_level) ∙ at_level (suc n) lt (subst (Contains (row levels (suc n))) here t.in_level)) in
-          inr (subst (λ (e : KeyBytes × ℕ). LeadsBelow new (row levels n) e.0 e.1) (sym added) (subst (λ m. LeadsBelow new (row levels m) sep child) same leads_child))
-
-      by : (t.page ≡ p) ⊎ (t.page ≡ p → ⊥) → WasTerm old new levels levels n k c ⊎ LeadsBelow new (row levels n) k c
+      by : (t.page ≡ p) ⊎ (t.page ≡ p → ⊥) → IsTerm old levels n k c ⊎ ((fits.level ≡ n) × IsNew (k, c))
       by (inl here) =
           let same : t.state ≡ now = one_state (sym t.is ∙ ap (slot_at new) here ∙ given.now) in
           at_page here (children_with sep child was.body (k, c) (subst (λ (s : PageState). Contains (children_of s.body) (k, c)) same t.named))
-      by (inr other) = inl (one_was (record { page = t.page; in_level = t.in_level; state = t.state; is = sym (given.others t.page other) ∙ t.is; named = t.named }))
+      by (inr other) = inl (record { page = t.page; in_level = t.in_level; state = t.state; is = sym (given.others t.page other) ∙ t.is; named = t.named })
+
+  terms_lead : (n : ℕ) (k : KeyBytes) (c : ℕ) → suc n < length levels → IsTerm new levels n k c → WasTerm old new levels levels n k c ⊎ LeadsBelow new (row levels n) k c
+  terms_lead n k c lt t = by (term_was n k c lt t)
+    where
+      by : IsTerm old levels n k c ⊎ ((fits.level ≡ n) × IsNew (k, c)) → WasTerm old new levels levels n k c ⊎ LeadsBelow new (row levels n) k c
+      by (inl had) = inl (record { was = had; leads = leads_still n k c })
+      by (inr (same, added)) = inr (subst (λ (e : KeyBytes × ℕ). LeadsBelow new (row levels n) e.0 e.1) (sym added) (subst (λ m. LeadsBelow new (row levels m) sep child) same leads_child))
+
+  -- the new child begins at its separator, and each other one where it began
+  exact_still : AreExact old levels → AreExact new levels
+  exact_still exact = record {
+    begins = λ n k c s lt t is. begins_there n k c s lt is (term_was n k c lt t) (cases_eq c p);
+    once = λ n k h c lt one other. same_key n k h c lt (term_was n k c lt one) (term_was n h c lt other);
+  }
+    where
+      new_key : (k : KeyBytes) (c : ℕ) → IsNew (k, c) → k ≡ sep
+      new_key k c added = ap (λ (e : KeyBytes × ℕ). e.0) added
+
+      new_child : (k : KeyBytes) (c : ℕ) → IsNew (k, c) → c ≡ child
+      new_child k c added = ap (λ (e : KeyBytes × ℕ). e.1) added
+
+      -- an entry of before for the new child has its separator
+      had_key : (n : ℕ) (k : KeyBytes) (c : ℕ) → suc n < length levels → IsTerm old levels n k c → c ≡ child → k ≡ sep
+      had_key n k c lt had same = sym (exact.begins n k c fits.child_state lt had (ap (slot_at old) same ∙ fits.child_is)) ∙ fits.begins
+
+      begins_there : (n : ℕ) (k : KeyBytes) (c : ℕ) (s : PageState) → suc n < length levels → slot_at new c ≡ Live s → IsTerm old levels n k c ⊎ ((fits.level ≡ n) × IsNew (k, c)) → (c ≡ p) ⊎ (c ≡ p → ⊥) → s.low ≡ k
+      begins_there n k c s lt is (inr (same, added)) h =
+          let there = still child fits.child_state fits.child_is in
+          let state : s ≡ there.0 = one_state (sym is ∙ ap (slot_at new) (new_child k c added) ∙ there.1) in
+          ap (λ (x : PageState). x.low) state ∙ there.2 ∙ fits.begins ∙ sym (new_key k c added)
+      begins_there n k c s lt is (inl had) (inl here) =
+          ap (λ (x : PageState). x.low) (one_state (sym is ∙ ap (slot_at new) here ∙ given.now)) ∙ exact.begins n k c was lt had (ap (slot_at old) here ∙ given.is)
+      begins_there n k c s lt is (inl had) (inr other) = exact.begins n k c s lt had (sym (given.others c other) ∙ is)
+
+      same_key : (n : ℕ) (k h : KeyBytes) (c : ℕ) → suc n < length levels → IsTerm old levels n k c ⊎ ((fits.level ≡ n) × IsNew (k, c)) → IsTerm old levels n h c ⊎ ((fits.level ≡ n) × IsNew (h, c)) → k ≡ h
+      same_key n k h c lt (inl one) (inl other) = exact.once n k h c lt one other
+      same_key n k h c lt (inl one) (inr (same, added)) = had_key n k c lt one (new_child h c added) ∙ sym (new_key h c added)
+      same_key n k h c lt (inr (same, added)) (inl other) = new_key k c added ∙ sym (had_key n h c lt other (new_child k c added))
+      same_key n k h c lt (inr (same, added)) (inr (again, more)) = new_key k c added ∙ sym (new_key h c more)
 
   keeps : KeepsLevels old new levels levels
   keeps = record {
@@ -229,6 +265,7 @@ module _ (old new : List Slot) (root : ℕ) (levels : List (List ℕ)) (p : ℕ)
 pub child_kept : ChildIsKept
 child_kept old new root levels p sep child lawful fits given = record {
   lawful = lawful_still old new root levels p sep child lawful fits given;
+  exact = exact_still old new root levels p sep child lawful fits given;
   writes = writes_still old new root levels p sep child lawful fits given (row levels 0);
   contents = λ distinct stamp. contents_still old new root levels p sep child lawful fits given stamp;
 }

@@ -9,10 +9,11 @@ use Rattle.bw_page.specs.Inners.{InnerView, IsUpto}
 use Rattle.bw_page.proofs.KeyLemmas.{below_self, cmp_self, neither_below}
 use Rattle.bw_page.proofs.Search.{same_keys}
 use Rattle.bw_page.proofs.Truths.{holds_not, not_holds}
+use Rattle.bw_page.specs.Pages.{below}
 use Rattle.bw_delta.proofs.Filters.{kept, was_there}
 use Rattle.bw_delta.specs.declared.deltas.Delta.{Delta}
 use Rattle.bw_delta.specs.declared.deltas.Delta.TheVariants.{Put, Split, Absorb, Removed, AddChild, DropChild}
-use Rattle.bw_chain.specs.Chains.{Bases, below, change}
+use Rattle.bw_chain.specs.Chains.{Bases, change}
 use Rattle.bw_chain.specs.Children.{HasEntry}
 use Rattle.bw_chain.specs.Searches.{plain_inner}
 use Rattle.bw_chain.specs.Slots.{Slot, Body, Pairs, Children, Free, Gone, Live, children_of}

@@ -25,6 +25,7 @@ pub mod SupportLemmas
 pub mod AlikeLemmas
 pub mod BaseLemmas
 pub mod AdditionLemmas
+pub mod InPlaceLemmas
 pub mod CutLemmas
 pub mod SplitLemmas
 pub mod EntryLemmas

@@ -11,6 +11,7 @@ use Rattle.bw_page.proofs.KeyLemmas.{below_back, below_self}
 use Rattle.bw_page.proofs.Truths.{both_of, not_holds, true_holds}
 use Rattle.bw_delta.specs.ContentsAsOf.{contents_as_of}
 use Rattle.bw_delta.specs.Writes.{WriteView}
+use Rattle.bw_chain.specs.Entries.{AreExact}
 use Rattle.bw_chain.specs.Laws.{LevelsAreGrown}
 use Rattle.bw_chain.specs.Levels.{AreLevels, BeginsWith, FirstChild, LeadsBelow, SideBySide, Stands, StartsWith, row}
 use Rattle.bw_chain.specs.Reading.{contents_in, pairs_under, row_pairs, row_writes, writes_over}
@@ -18,7 +19,9 @@ use Rattle.bw_chain.specs.Roots.{IsGrown, levels_grown, root_over, two_children}
 use Rattle.bw_chain.specs.Slots.{Slot, PageState, Free, Live, children_of, left_of, left_of_slot, level_of, slot_at}
 use Rattle.bw_chain.proofs.LeafRowLemmas.{low_below}
 use Rattle.bw_chain.proofs.RouteLemmas.{row_first}
+use Rattle.bw_chain.specs.Steps.{IsTerm}
 use Rattle.bw_chain.proofs.RowLemmas.{first_stands, in_row, row_on}
+use Rattle.bw_chain.proofs.StepLemmas.{child_there}
 use Rattle.bw_chain.proofs.WalkLemmas.{way_on}
 
 one_state : {s t : PageState} → Live s ≡ Live t → s ≡ t
@@ -259,6 +262,52 @@ module _ (old new : List Slot) (root : ℕ) (levels : List (List ℕ)) (t : ℕ)
     terms = terms_new;
   }
 
+  -- a page that begins at a key
+  abbrev BeginsAt : KeyBytes → ℕ → Type 0
+  BeginsAt low x = (s : PageState) × (slot_at new x ≡ Live s) × (s.low ≡ low)
+
+  begins_still : (low : KeyBytes) (high : Option KeyBytes) (side : Option ℕ) (x : ℕ) → Stands old n low high side x → BeginsAt low x
+  begins_still low high side x st = (st.state, still_live x st.state st.is ∙ st.is, st.from_low)
+
+  top_begins : (k : KeyBytes) (c : ℕ) → Contains (two_children root grown.high grown.side) (k, c) → BeginsAt k c
+  top_begins k c (zero, lt, is) =
+      subst (λ (e : KeyBytes × ℕ). BeginsAt e.0 e.1) is
+      (begins_still [] (Some grown.high) (Some grown.side) root begins.first)
+  top_begins k c (suc zero, lt, is) =
+      subst (λ (e : KeyBytes × ℕ). BeginsAt e.0 e.1) is
+      (begins_still grown.high begins.second.0 begins.second.1.0 grown.side begins.second.1.1)
+  top_begins k c (suc (suc i), lt, is) = absurd (omega arith)
+
+  -- an entry was one, or is one of the new root's two
+  term_was : (m : ℕ) (k : KeyBytes) (c : ℕ) → IsTerm new after m k c → (suc m < length levels) ⊎ (suc m ≡ length levels) → (suc m < length levels × IsTerm old levels m k c) ⊎ BeginsAt k c
+  term_was m k c term (inl low) =
+      let there : Contains (row levels (suc m)) term.page = subst (λ (ps : List ℕ). Contains ps term.page) (row_same (suc m) low) term.in_level in
+      let st = (in_row old (suc m) [] (row levels (suc m)) there.0 term.page (lawful.rows (suc m) low) there.1 there.2).stands in
+      inl (low, record { page = term.page; in_level = there; state = term.state; is = sym (still_live term.page st.state st.is) ∙ term.is; named = term.named })
+  term_was m k c term (inr last) =
+      let at : t ≡ term.page = only t term.page (subst (λ (ps : List ℕ). Contains ps term.page) (row_top (suc m) last) term.in_level) in
+      let state : term.state ≡ top = one_state (sym term.is ∙ ap (slot_at new) (sym at) ∙ grown.top) in
+      inr (top_begins k c (subst (λ (z : PageState). Contains (children_of z.body) (k, c)) state term.named))
+
+  exact_new : AreExact old levels → AreExact new after
+  exact_new exact = record {
+    begins = λ m k c s lt term is. begins_there m k c s is (term_was m k c term (which (suc m) lt));
+    once = λ m k h c lt one other. same_key m k h c (term_was m k c one (which (suc m) lt)) (term_was m h c other (which (suc m) lt));
+  }
+    where
+      low_is : (k : KeyBytes) (c : ℕ) (s : PageState) → slot_at new c ≡ Live s → BeginsAt k c → s.low ≡ k
+      low_is k c s is b = ap (λ (z : PageState). z.low) (one_state (sym is ∙ b.1)) ∙ b.2
+
+      begins_there : (m : ℕ) (k : KeyBytes) (c : ℕ) (s : PageState) → slot_at new c ≡ Live s → (suc m < length levels × IsTerm old levels m k c) ⊎ BeginsAt k c → s.low ≡ k
+      begins_there m k c s is (inr b) = low_is k c s is b
+      begins_there m k c s is (inl (low, had)) =
+          exact.begins m k c s low had (sym (grown.others c (λ added. child_there old root levels lawful m k c low had (ap (slot_at old) added ∙ grown.free))) ∙ is)
+
+      same_key : (m : ℕ) (k h : KeyBytes) (c : ℕ) → (suc m < length levels × IsTerm old levels m k c) ⊎ BeginsAt k c → (suc m < length levels × IsTerm old levels m h c) ⊎ BeginsAt h c → k ≡ h
+      same_key m k h c (inl (low, one)) (inl (_, other)) = exact.once m k h c low one other
+      same_key m k h c (inl one) (inr b) = sym (begins_there m k c b.0 b.1 (inl one)) ∙ b.2
+      same_key m k h c (inr b) other = sym b.2 ∙ begins_there m h c b.0 b.1 other
+
   -- the leaves are the same, and have the same pairs and writes
   leaves_same : row after 0 ≡ row levels 0
   leaves_same = row_same 0 lawful.some
@@ -284,6 +333,7 @@ module _ (old new : List Slot) (root : ℕ) (levels : List (List ℕ)) (t : ℕ)
 pub levels_grow : LevelsAreGrown
 levels_grow old new root levels t lawful grown = record {
   lawful = lawful_new old new root levels t lawful grown;
+  exact = exact_new old new root levels t lawful grown;
   writes = writes_kept old new root levels t lawful grown;
   contents = λ distinct stamp. contents_new old new root levels t lawful grown stamp;
 }

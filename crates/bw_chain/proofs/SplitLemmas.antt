@@ -18,17 +18,18 @@ use Rattle.bw_delta.specs.Batches.{writes_to}
 use Rattle.bw_delta.specs.History.{HasDistinctStamps, history, action_at}
 use Rattle.bw_delta.specs.Writes.{WriteView}
 use Rattle.bw_chain.specs.Chains.{body_below}
+use Rattle.bw_chain.specs.Entries.{AreExact}
 use Rattle.bw_chain.specs.Laws.{PartsAreKept}
 use Rattle.bw_chain.specs.Levels.{AreLevels, BeginsWith, FirstChild, IsHome, LeadsBelow, SideBySide, Stands, StartsWith, row}
 use Rattle.bw_chain.specs.Reading.{body_pairs, body_writes, contents_in, row_writes, value_in, writes_over}
 use Rattle.bw_chain.specs.Slots.{Slot, PageState, Body, Pairs, Children, Free, Live, IsSoundBody, IsSoundPage, children_of, left_of, left_of_slot, level_of, slot_at}
 use Rattle.bw_chain.specs.Splits.{IsParted, entry_count, first_entries, left_part, level_parted, other_entries, put_behind, right_part, separator}
 use Rattle.bw_chain.specs.Steps.{IsTerm, KeepsLevels}
-use Rattle.bw_chain.proofs.CutLemmas.{below_first, find_first, find_other, lower_inner, lower_page}
+use Rattle.bw_chain.proofs.CutLemmas.{below_cut, find_first, find_other, lower_inner, lower_page}
 use Rattle.bw_chain.proofs.HomeLemmas.{one_home}
 use Rattle.bw_chain.proofs.LeafRowLemmas.{wide_of}
 use Rattle.bw_chain.proofs.RowLemmas.{InRow, in_row, first_stands, row_on, same_each}
-use Rattle.bw_chain.proofs.StepLemmas.{contents_kept, levels_kept}
+use Rattle.bw_chain.proofs.StepLemmas.{child_there, contents_kept, levels_kept}
 use Rattle.bw_chain.proofs.WalkLemmas.{way_on}
 
 one_state : {s t : PageState} → Live s ≡ Live t → s ≡ t
@@ -118,10 +119,10 @@ starts_first zero (Children level children) k c some starts = absurd (omega arit
 starts_first (suc keep) (Children level []) k c some starts = starts
 starts_first (suc keep) (Children level (x ∷ children)) k c some starts = starts
 
--- what a split record leaves of a page
-pub below_is : (low : KeyBytes) (high : Option KeyBytes) (side : Option ℕ) (keep : ℕ) (b : Body) → IsSoundBody low high side b → keep < entry_count b → body_below (separator keep b) b ≡ first_entries keep b
-below_is low high side keep (Pairs pairs writes) sound fewer = ap (λ (es : List (KeyBytes × ValueBytes)). Pairs es writes) (below_first keep pairs sound.page.sorted fewer)
-below_is low high side keep (Children level children) sound fewer = ap (Children level) (below_first keep children sound.page.sorted fewer)
+-- a split record leaves a page that was cut there as it is
+pub cut_is : (low : KeyBytes) (high : Option KeyBytes) (side : Option ℕ) (keep : ℕ) (b : Body) → IsSoundBody low high side b → keep < entry_count b → body_below (separator keep b) (first_entries keep b) ≡ first_entries keep b
+cut_is low high side keep (Pairs pairs writes) sound fewer = ap (λ (es : List (KeyBytes × ValueBytes)). Pairs es writes) (below_cut keep pairs sound.page.sorted fewer)
+cut_is low high side keep (Children level children) sound fewer = ap (Children level) (below_cut keep children sound.page.sorted fewer)
 
 -- pages with a new one behind another
 begins_still : (p q r : ℕ) (ps : List ℕ) → BeginsWith ps r → BeginsWith (put_behind p q ps) r
@@ -335,6 +336,27 @@ module _ (old new : List Slot) (root : ℕ) (levels : List (List ℕ)) (level p 
   lawful_new : AreLevels new root after
   lawful_new = levels_kept old new root levels after lawful keeps
 
+  -- a child begins where it began: no entry names the new page
+  began : (n : ℕ) (k : KeyBytes) (c : ℕ) (s : PageState) → suc n < length levels → IsTerm old levels n k c → slot_at new c ≡ Live s → (t : PageState) × (slot_at old c ≡ Live t) × (t.low ≡ s.low)
+  began n k c s lt term is = by (cases_eq c p) (cases_eq c q)
+    where
+      by : (c ≡ p) ⊎ (c ≡ p → ⊥) → (c ≡ q) ⊎ (c ≡ q → ⊥) → (t : PageState) × (slot_at old c ≡ Live t) × (t.low ≡ s.low)
+      by (inl here) h = (was, ap (slot_at old) here ∙ parted.is, ap (λ (t : PageState). t.low) (one_state (sym parted.left ∙ ap (slot_at new) (sym here) ∙ is)))
+      by (inr other) (inl added) = absurd (child_there old root levels lawful n k c lt term (ap (slot_at old) added ∙ parted.free))
+      by (inr other) (inr old_one) = (s, sym (parted.others c other old_one) ∙ is, refl)
+
+  exact_new : AreExact old levels → AreExact new after
+  exact_new exact = record {
+    begins = λ n k c s lt term is.
+        let had = term_was n k c (above n lt) term in
+        let b = began n k c s (above n lt) had is in
+        sym b.2 ∙ exact.begins n k c b.0 (above n lt) had b.1;
+    once = λ n k h c lt one other. exact.once n k h c (above n lt) (term_was n k c (above n lt) one) (term_was n h c (above n lt) other);
+  }
+    where
+      above : (n : ℕ) → suc n < length after → suc n < length levels
+      above n lt = subst (λ m. suc n < m) (length-set levels level (put_behind p q (row levels level))) lt
+
   -- neither part has writes, as the page had none
   writes_same : (x : ℕ) → writes_over (slot_at new x) ≡ writes_over (slot_at old x)
   writes_same x = by (cases_eq x p) (cases_eq x q)
@@ -443,6 +465,7 @@ module _ (old new : List Slot) (root : ℕ) (levels : List (List ℕ)) (level p 
 pub parts_kept : PartsAreKept
 parts_kept old new root levels level p q keep lawful within has parted = record {
   lawful = lawful_new old new root levels level p q keep lawful within has parted;
+  exact = exact_new old new root levels level p q keep lawful within has parted;
   writes = writes_kept old new root levels level p q keep lawful within has parted;
   contents = contents_new old new root levels level p q keep lawful within has parted;
 }

@@ -1,14 +1,15 @@
 -- What a change of pages keeps of a tree.
-use Rattle.std.proofs.Common.{inl, inr, ◌⊎◌, ◌≡◌, ℕ, suc, ◌-◌, ◌<◌, Bool, true, false, T, List, [], ◌∷◌, length, Option, refl, sym, ◌∙◌, subst, arith}
+use Rattle.std.proofs.Common.{inl, inr, ◌⊎◌, ◌≡◌, ℕ, suc, ◌-◌, ◌<◌, Bool, true, false, T, List, [], ◌∷◌, length, Option, Some, None, refl, sym, ap, ◌∙◌, subst, arith}
 use Rattle.std.specs.Ordering.{is_lt}
 use Rattle.bw_key.specs.Order.{KeyBytes, key_cmp}
 use Rattle.bw_model.specs.Contents.{is_below_end}
 use Rattle.bw_page.specs.Inners.{IsUpto}
 use Rattle.bw_page.proofs.Truths.{true_holds, not_holds}
 use Rattle.bw_delta.proofs.ContentsAsOf.{same_contents}
-use Rattle.bw_chain.specs.Slots.{Slot}
-use Rattle.bw_chain.specs.Levels.{BeginsWith, LeadsBelow, SideBySide, row}
-use Rattle.bw_chain.specs.Steps.{WasTerm}
+use Rattle.bw_chain.specs.Slots.{Slot, PageState, Free, Live, left_of, left_of_slot, slot_at}
+use Rattle.bw_chain.specs.Levels.{AreLevels, BeginsWith, LeadsBelow, SideBySide, row}
+use Rattle.bw_chain.specs.Steps.{IsTerm, WasTerm}
+use Rattle.bw_chain.specs.Walk.{Leads}
 use Rattle.bw_chain.specs.Laws.{ContentsAreKept, HomeIsThere, LevelsAreKept}
 use Rattle.bw_chain.proofs.HomeLemmas.{home_value}
 use Rattle.bw_chain.proofs.LeafRowLemmas.{HasKey}
@@ -47,6 +48,23 @@ levels_kept old new root levels levels' lawful keeps = record {
         let was = term.was in
         term.leads (lawful.terms n was.page was.state k c above was.in_level was.is was.named)
     leads_on n k c above (inr leads) = leads
+
+-- a child's identifier isn't free
+pub child_there : (slots : List Slot) (root : ℕ) (levels : List (List ℕ)) → AreLevels slots root levels → (n : ℕ) (k : KeyBytes) (c : ℕ) → suc n < length levels → IsTerm slots levels n k c → slot_at slots c ≡ Free → ⊥
+child_there slots root levels lawful n k c lt t free = by leads.removed leads.way
+  where
+    leads : LeadsBelow slots (row levels n) k c
+    leads = lawful.terms n t.page t.state k c lt t.in_level t.is t.named
+
+    not_live : {s : PageState} → Free ≡ Live s → ⊥
+    not_live e = cc
+
+    no_step : {q : ℕ} → None ≡ Some q → ⊥
+    no_step e = cc
+
+    by : (xs : List ℕ) → Leads (left_of slots) c xs leads.page → ⊥
+    by [] way = not_live (sym free ∙ ap (slot_at slots) way.0 ∙ leads.is)
+    by (x ∷ xs) way = no_step (sym (ap left_of_slot free) ∙ way.1.1)
 
 -- a row has each key from its low key on
 row_has_key : (slots : List Slot) (level : ℕ) (low : KeyBytes) (ps : List ℕ) (key : KeyBytes) → SideBySide slots level low ps → IsUpto low key → (p : ℕ) × HasKey slots ps key p

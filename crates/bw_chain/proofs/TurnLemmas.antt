@@ -7,13 +7,14 @@ use Rattle.bw_model.specs.Contents.{is_below_end}
 use Rattle.bw_page.specs.Inners.{IsLastUpto}
 use Rattle.bw_page.proofs.Truths.{holds}
 use Rattle.bw_page.proofs.KeyLemmas.{below_upto, upto_below}
+use Rattle.bw_page.specs.Pages.{below}
 use Rattle.bw_delta.proofs.Filters.{kept, was_there}
 use Rattle.bw_delta.specs.declared.deltas.Delta.TheVariants.{Split, AddChild}
 use Rattle.bw_chain.specs.declared.turn.Turn.{Turn}
 use Rattle.bw_chain.specs.declared.turn.Turn.TheVariants.{Here, Right, Down, Left}
 use Rattle.bw_chain.specs.declared.target.Target.{Target}
 use Rattle.bw_chain.specs.Slots.{Slot, PageState, Body, Pairs, Children, Free, Gone, Live, level_of, children_of, side_of_slot}
-use Rattle.bw_chain.specs.Chains.{Bases, change, body_below, below}
+use Rattle.bw_chain.specs.Chains.{Bases, change, body_below}
 use Rattle.bw_chain.specs.Scans.{high_of}
 use Rattle.bw_chain.specs.Turns.{IsTurn, IsWithin, slot_without_writes, body_without_writes}
 use Rattle.bw_chain.specs.Targets.{IsLinked, IsTurnFor, IsWithinFor, SeparatorsAgree, StandsFor, StandsOn, is_upto, lies_from, lies_past}

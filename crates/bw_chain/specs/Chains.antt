@@ -2,9 +2,8 @@
 use Rattle.std.specs.Prelude.{◌≡◌, ℕ, ◌-◌, ◌<◌, ◌≤◌, ◌^◌, not, if◌then◌else◌, nat_lt, Option, Some, None}
 use Rattle.std.specs.Prelude.{List, [], ◌∷◌, ◌++◌, length, filter, map, slice_get}
 use Rattle.std.specs.FinMap.{put}
-use Rattle.std.specs.FinMap.Entries.{where_key}
-use Rattle.std.specs.Ordering.{is_lt}
 use Rattle.bw_key.specs.Order.{KeyBytes, key_cmp, key_eq}
+use Rattle.bw_page.specs.Pages.{below}
 use Rattle.bw_page.specs.declared.pages.Page.{Page}
 use Rattle.bw_page.specs.declared.pages.Page.TheVariants.{Leaf as LeafPage, Inner as InnerPage, Gone as GonePage}
 use Rattle.bw_delta.specs.Writes.{WriteView}
@@ -27,10 +26,6 @@ abbrev pub based : Option (Option Page) → Slot
 based None = Free
 based (Some None) = Free
 based (Some (Some page)) = plain page
-
--- the entries below a key
-abbrev pub below : {X : Type 0} → KeyBytes → List (KeyBytes × X) → List (KeyBytes × X)
-below k es = where_key key_cmp (λ x. is_lt (key_cmp x k)) es
 
 abbrev pub body_written : WriteView → Body → Body
 body_written w (Pairs pairs writes) = Pairs pairs (w ∷ writes)

@@ -9,6 +9,7 @@ use Rattle.bw_chain.specs.Levels.{AreLevels, IsHome, IsHomeAt, levels_under, row
 use Rattle.bw_chain.specs.Reading.{contents_in, row_writes, value_in}
 use Rattle.bw_chain.specs.Chains.{Bases, Records, slot_of_word}
 use Rattle.bw_chain.specs.Children.{FitsChild, HasChild}
+use Rattle.bw_chain.specs.Entries.{AreExact}
 use Rattle.bw_chain.specs.Roots.{IsGrown, levels_grown}
 use Rattle.bw_chain.specs.Splits.{IsParted, level_parted}
 use Rattle.bw_chain.specs.Steps.{AreAlike, KeepsLevels}
@@ -66,9 +67,10 @@ ContentsAreKept =
     value_in (slot_at new q) key m ≡ value_in (slot_at old p) key n) →
     contents_in new levels' m ≡ contents_in old levels n
 
--- new levels are lawful under a root, and hold what the old ones held
+-- new levels are lawful under a root, with exact index entries where the old ones had them, and hold what these held
 pub record KeepsAll (old new : List Slot) (root : ℕ) (levels levels' : List (List ℕ)) : Type 0 where
   pub lawful : AreLevels new root levels'
+  pub exact : AreExact old levels → AreExact new levels'
   pub writes : row_writes new (row levels' 0) ≡ row_writes old (row levels 0)
   pub contents : HasDistinctStamps (row_writes old (row levels 0)) → (stamp : ℕ) →
       contents_in new levels' stamp ≡ contents_in old levels stamp

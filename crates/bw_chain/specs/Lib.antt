@@ -13,6 +13,7 @@ pub mod Searches
 pub mod LeafEnds
 pub mod Supports
 pub mod Steps
+pub mod Entries
 pub mod Children
 pub mod Laws
 pub mod Splits

@@ -14,6 +14,10 @@ put_records writes links = zip (map Put writes) links
 abbrev pub unlinked : List WriteView → Records
 unlinked = map (λ w. (Put w, 0))
 
+-- changes as records, each with this link
+abbrev pub with_link : ℕ → List Delta → Records
+with_link link = map (λ d. (d, link))
+
 abbrev pub writes_put : Delta → List WriteView
 writes_put (Put w) = w ∷ []
 writes_put (Split k to) = []

@@ -87,6 +87,12 @@ IsSoundBody low high side (Children level children) = IsInner level low high sid
 abbrev pub IsSoundPage : PageState → Type 0
 IsSoundPage s = IsSoundBody s.low s.high s.side s.body
 
+-- a page that stays and is sound
+abbrev pub IsSound : Slot → Type 0
+IsSound (Live s) = IsSoundPage s
+IsSound (Gone l) = ⊥
+IsSound Free = ⊥
+
 -- an inner page that is sound
 abbrev pub IsSoundInner : Slot → Type 0
 IsSoundInner (Live s) = (body_is_leaf s.body ≡ false) × IsSoundPage s

@@ -1,12 +1,15 @@
 -- A page parts in two: it keeps its first entries, and a new page right of it has the others.
-use Rattle.std.specs.Prelude.{◌≡◌, ℕ, ◌<◌, if◌then◌else◌, nat_eq, List, [], ◌∷◌, Some, length, take, drop, slice_set}
+use Rattle.std.specs.Prelude.{◌≡◌, ℕ, ◌<◌, Bool, true, false, if◌then◌else◌, nat_eq, List, [], ◌∷◌, ◌++◌, Option, Some, None, length, take, drop, slice_set}
 use Rattle.bw_key.specs.Order.{KeyBytes}
 use Rattle.bw_page.specs.Pages.{first_key}
 use Rattle.bw_page.specs.declared.pages.Page.{Page}
-use Rattle.bw_chain.specs.Chains.{plain}
+use Rattle.bw_delta.specs.declared.deltas.Delta.{Delta}
+use Rattle.bw_delta.specs.declared.deltas.Delta.TheVariants.{Put, Split, Absorb, Removed, AddChild, DropChild}
+use Rattle.bw_chain.specs.Chains.{ChainsView, page_at, plain}
 use Rattle.bw_chain.specs.Slots.{Slot, PageState, Body, Pairs, Children, Free, Gone, Live, slot_at}
 use Rattle.bw_chain.specs.Levels.{row}
 use Rattle.bw_chain.specs.Reading.{body_writes}
+use Rattle.bw_chain.specs.Supports.{base_under}
 
 -- how many entries a page has: pairs, or children
 abbrev pub entry_count : Body → ℕ
@@ -65,7 +68,8 @@ put_behind p q (x ∷ xs) = let rest = put_behind p q xs in x ∷ (if nat_eq x p
 abbrev pub level_parted : List (List ℕ) → ℕ → ℕ → ℕ → List (List ℕ)
 level_parted levels level p q = slice_set levels level (put_behind p q (row levels level))
 
--- how many entries a page has; the key at which those from a place on begin; and the page that has them
+-- How many entries a page has; the key at which those from a place on begin; the page that has them; and the one that has
+-- those before.
 abbrev pub slot_entries : Slot → ℕ
 slot_entries (Live s) = entry_count s.body
 slot_entries (Gone l) = 0
@@ -81,6 +85,35 @@ slot_right keep (Live s) = Live (right_part keep s)
 slot_right keep (Gone l) = Gone l
 slot_right keep Free = Free
 
--- a key with a base page that begins there: the upper half of a page
-abbrev pub IsUpperHalf : Slot → ℕ → KeyBytes × Page → Type 0
-IsUpperHalf slot keep half = (half.0 ≡ slot_separator keep slot) × (plain half.1 ≡ slot_right keep slot)
+abbrev pub slot_left : ℕ → Slot → Slot
+slot_left keep (Live s) = Live (record s { body = first_entries keep s.body })
+slot_left keep (Gone l) = Gone l
+slot_left keep Free = Free
+
+-- A base page without a record is cut: it keeps its bounds and first entries, and a base page behind all others has the
+-- other entries. A record over it, the last one, says where the page ends and that it has this right neighbour.
+pub record IsCut (old new : ChainsView) (word keep to : ℕ) : Type 0 where
+  pub left : Page
+  pub right : Page
+  pub first : plain left ≡ slot_left keep (page_at old word)
+  pub others : plain right ≡ slot_right keep (page_at old word)
+  pub bases : new.bases ≡ slice_set old.bases word (Some left) ++ Some right ∷ []
+  pub records : new.records ≡ old.records ++ (Split (slot_separator keep (page_at old word)) to, word) ∷ []
+
+-- whether a record is a split
+abbrev pub is_split : Option (Delta × ℕ) → Bool
+is_split None = false
+is_split (Some (Split k to, link)) = true
+is_split (Some (Put w, link)) = false
+is_split (Some (Absorb k base high side, link)) = false
+is_split (Some (Removed left, link)) = false
+is_split (Some (AddChild k child, link)) = false
+is_split (Some (DropChild k, link)) = false
+
+-- the base page of this number, under a chain, was made what the chain makes of it
+pub record IsNarrowed (old new : ChainsView) (head number : ℕ) : Type 0 where
+  pub page : Page
+  pub same : plain page ≡ page_at old head
+  pub under : number ≡ base_under old.records head
+  pub bases : new.bases ≡ slice_set old.bases number (Some page)
+  pub records : new.records ≡ old.records

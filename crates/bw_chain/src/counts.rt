@@ -2,7 +2,8 @@
 ghost use Rattle.std.specs.Prelude.{◌≡◌, ℕ, ◌≤◌, ◌^◌, true, T, length};
 ghost use Rattle.std.specs.FinMap.{is_sorted, put};
 ghost use Rattle.bw_key.specs.Order.{key_cmp};
-ghost use Rattle.bw_chain.specs.Chains.{Bases, IsChain, below, change, page_at, plain};
+ghost use Rattle.bw_page.specs.Pages.{below};
+ghost use Rattle.bw_chain.specs.Chains.{Bases, IsChain, change, page_at, plain};
 ghost use Rattle.bw_chain.specs.Reading.{writes_on};
 ghost use Rattle.bw_chain.specs.Slots.{is_leaf};
 ghost use Rattle.bw_chain.specs.Splits.{slot_entries};

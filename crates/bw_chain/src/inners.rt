@@ -1,7 +1,8 @@
 // Inner pages as they stand.
 ghost use Rattle.std.specs.Prelude.{◌≡◌, true, Some, None, is_some, IfOk, IfSome};
 ghost use Rattle.bw_page.specs.Inners.{InnerView, IsInner};
-ghost use Rattle.bw_chain.specs.Chains.{Bases, IsChain, below, page_at, record_at};
+ghost use Rattle.bw_page.specs.Pages.{below};
+ghost use Rattle.bw_chain.specs.Chains.{Bases, IsChain, page_at, record_at};
 ghost use Rattle.bw_chain.specs.Searches.{plain_inner};
 ghost use Rattle.bw_chain.specs.Slots.{IsSoundInner};
 ghost use Rattle.bw_chain.specs.Turns.{IsNoWrite, over};

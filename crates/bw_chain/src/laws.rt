@@ -49,20 +49,21 @@ pub fn contents_are_kept()
     ensures { ContentsAreKept }
 {}
 
-/// The law of a split: where a page of some level parts in two, the levels are lawful with the new page behind it, and hold
-/// what they held. It does nothing: its contract is the law.
+/// The law of a split: where a page of some level parts in two, the levels are lawful with the new page behind it, index
+/// entries stay exact, and the levels hold what they held. It does nothing: its contract is the law.
 pub fn parts_are_kept()
     ensures { PartsAreKept }
 {}
 
 /// The law of an index entry: where a page names one more page of the level below, at the key at which that one begins,
-/// the levels stay, and hold what they held. It does nothing: its contract is the law.
+/// the levels stay, their index entries stay exact, and they hold what they held. It does nothing: its contract is the law.
 pub fn child_is_kept()
     ensures { ChildIsKept }
 {}
 
 /// The law of a root that grows: where a new page is over the root and its right neighbour, the levels are lawful with the
-/// new root's level above them, and hold what they held. It does nothing: its contract is the law.
+/// new root's level above them, index entries stay exact, and the levels hold what they held. It does nothing: its contract
+/// is the law.
 pub fn levels_are_grown()
     ensures { LevelsAreGrown }
 {}

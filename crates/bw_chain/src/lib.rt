@@ -9,6 +9,7 @@ mod bases;
 mod chains;
 mod counts;
 mod ends;
+mod entry_records;
 mod index_entries;
 mod inners;
 mod laws;
@@ -18,6 +19,7 @@ mod levels;
 mod neighbours;
 mod reading;
 mod records;
+mod splits;
 mod target;
 mod turn;
 

@@ -13,7 +13,7 @@ use Rattle.bw_page.proofs.KeyLemmas.{below_trans, below_upto, cmp_self, neither_
 use Rattle.bw_page.proofs.Search.{same_keys}
 use Rattle.bw_page.proofs.Truths.{both_of, holds, left_of, right_of, true_holds}
 use Rattle.bw_delta.specs.Batches.{writes_to}
-use Rattle.bw_delta.specs.Merging.{after_writes, merged_value, with_value, AreBehind, AreBelow, AreFrom, ArePast, IsMerging, IsParted}
+use Rattle.bw_delta.specs.Merging.{after_writes, merged_value, with_value, AreBehind, AreBelow, AreFrom, ArePast, IsMerging, AreCutAt}
 use Rattle.bw_delta.specs.Writes.{WriteView}
 
 different : true ≡ false → ⊥
@@ -166,7 +166,7 @@ old_whole old pairs before behind k v is =
     ap (λ (l : List Pair). old ++ l) is ∙ sym (append_assoc old before (with_value k v behind))
 
 module _ (old new pairs before behind : List Pair) (first : WriteView) (others later : List WriteView) (v w : Option ValueBytes) where
-  pub still_merging : IsMerging old pairs (first ∷ others) → IsParted pairs first.key before v behind → new ≡ old ++ before ++ with_value first.key w [] → AreBehind first.key later →
+  pub still_merging : IsMerging old pairs (first ∷ others) → AreCutAt pairs first.key before v behind → new ≡ old ++ before ++ with_value first.key w [] → AreBehind first.key later →
       IsMerging new behind later
   still_merging so cut is after = record {
     sorted = subst (λ (l : List Pair). T (is_sorted key_cmp l)) (sym (new_whole old new before behind first.key w is))
@@ -186,7 +186,7 @@ module _ (old new pairs before behind : List Pair) (first : WriteView) (others l
       over [] after = tt
       over (x ∷ xs) after = (below_both x.key (old ++ before) (with_value first.key w []) (above_more first.key x.key (old ++ before) after.0 lower) (at x.key w after.0), after.1)
 
-  pub same_values : IsMerging old pairs (first ∷ others) → IsParted pairs first.key before v behind → new ≡ old ++ before ++ with_value first.key w [] → AreBehind first.key later →
+  pub same_values : IsMerging old pairs (first ∷ others) → AreCutAt pairs first.key before v behind → new ≡ old ++ before ++ with_value first.key w [] → AreBehind first.key later →
       w ≡ after_writes (effect first.action v) (writes_to first.key others) → ((q : KeyBytes) → key_eq q first.key ≡ false → writes_to q later ≡ writes_to q others) →
       (q : KeyBytes) → merged_value (new ++ behind) later q ≡ merged_value (old ++ pairs) (first ∷ others) q
   same_values so cut is after left same q =
@@ -247,7 +247,7 @@ module _ (key : KeyBytes) (es : List Pair) (n : ℕ) where
   cut_below at = subst (λ (m : ℕ). AreBelow key (take m es)) (sym at) (below_place key es)
 
   -- sorted pairs, cut at the place of a key: where there is none behind
-  pub cut_none : n ≡ place_of key es → drop n es ≡ [] → IsParted es key (take n es) None (drop n es)
+  pub cut_none : n ≡ place_of key es → drop n es ≡ [] → AreCutAt es key (take n es) None (drop n es)
   cut_none at none = record {
     whole = sym (take-append-drop n es);
     below = cut_below at;
@@ -259,7 +259,7 @@ module _ (key : KeyBytes) (es : List Pair) (n : ℕ) where
     rest_sorted sorted is = subst (λ (l : List Pair). T (is_sorted key_cmp l)) is (sorted_rest (take n es) (drop n es) (subst (λ (l : List Pair). T (is_sorted key_cmp l)) (sym (take-append-drop n es)) sorted))
 
     -- where the first behind is at the key
-    pub cut_found : n ≡ place_of key es → T (is_sorted key_cmp es) → drop n es ≡ e ∷ fs → key_eq e.0 key ≡ true → IsParted es key (take n es) (Some e.1) fs
+    pub cut_found : n ≡ place_of key es → T (is_sorted key_cmp es) → drop n es ≡ e ∷ fs → key_eq e.0 key ≡ true → AreCutAt es key (take n es) (Some e.1) fs
     cut_found at sorted is same = record {
       whole = sym (take-append-drop n es) ∙ ap (λ (l : List Pair). take n es ++ l) (is ∙ ap (λ (k : KeyBytes). (k, e.1) ∷ fs) (same_keys e.0 key same));
       below = cut_below at;
@@ -267,7 +267,7 @@ module _ (key : KeyBytes) (es : List Pair) (n : ℕ) where
     }
 
     -- and where it isn't
-    pub cut_other : n ≡ place_of key es → T (is_sorted key_cmp es) → drop n es ≡ e ∷ fs → key_eq e.0 key ≡ false → IsParted es key (take n es) None (drop n es)
+    pub cut_other : n ≡ place_of key es → T (is_sorted key_cmp es) → drop n es ≡ e ∷ fs → key_eq e.0 key ≡ false → AreCutAt es key (take n es) None (drop n es)
     cut_other at sorted is other = record {
       whole = sym (take-append-drop n es);
       below = cut_below at;

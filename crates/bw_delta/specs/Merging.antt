@@ -49,8 +49,8 @@ abbrev pub with_value : KeyBytes → Option ValueBytes → List Pair → List Pa
 with_value key None pairs = pairs
 with_value key (Some value) pairs = (key, value) ∷ pairs
 
--- sorted pairs, cut into those below a key, its value, and those behind it
-pub record IsParted (pairs : List Pair) (key : KeyBytes) (before : List Pair) (value : Option ValueBytes)
+-- sorted pairs, cut at a key: those below it, its value, and those behind it
+pub record AreCutAt (pairs : List Pair) (key : KeyBytes) (before : List Pair) (value : Option ValueBytes)
     (behind : List Pair) : Type 0 where
   pub whole : pairs ≡ before ++ with_value key value behind
   pub below : AreBelow key before

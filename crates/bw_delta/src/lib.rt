@@ -6,9 +6,9 @@
 #![tactic(auto)]
 
 mod arena;
+mod consolidation;
 mod deltas;
 mod entries;
-mod folding;
 mod laws;
 mod merging;
 mod present;
@@ -17,8 +17,8 @@ mod replay;
 mod writes;
 
 pub use arena::Arena;
+pub use consolidation::leaf_as_of;
 pub use deltas::Delta;
-pub use folding::leaf_as_of;
 pub use laws::{batch_is_read_in_turn, contents_are_history};
 pub use reading::{Reading, in_order, value_as_of};
 pub use replay::Replay;

@@ -1,12 +1,12 @@
 // Sorted pairs, merged with writes that are sorted by key.
-ghost use Rattle.std.specs.Prelude.{◌≡◌, ◌≤◌, ◌++◌, T, false, [], ◌∷◌, drop, length, IfOk, OnOk};
+ghost use Rattle.std.specs.Prelude.{◌≡◌, ◌≤◌, ◌<◌, ◌++◌, T, false, [], ◌∷◌, drop, length, IfOk, OnOk};
 ghost use Rattle.std.specs.Option.{option_copied};
 ghost use Rattle.std.specs.FinMap.{find, is_sorted};
 ghost use Rattle.bw_key.specs.Order.{KeyBytes, key_cmp, key_eq};
 ghost use Rattle.bw_model.specs.Sorted.{place_of};
 ghost use Rattle.bw_delta.specs.Batches.{writes_to};
 ghost use Rattle.bw_delta.specs.History.{pointed_to};
-ghost use Rattle.bw_delta.specs.Merging.{after_writes, merged_value, with_value, AreBehind, AreFrom, IsMerging, IsParted};
+ghost use Rattle.bw_delta.specs.Merging.{after_writes, merged_value, with_value, AreBehind, AreCutAt, AreFrom, IsMerging};
 
 use crate::entries::push_copy;
 use crate::writes::Write;
@@ -18,7 +18,8 @@ use bw_model::{Pairs, Value};
 ///
 /// For n pairs and m writes it takes up to m log2 n + 2 m key comparisons: the pairs between two written keys are copied
 /// and not compared. It copies each pair that no write changes once, and of a written key the last value, if there is
-/// one, into a list with room for n + m pairs. `Memory` is answered where that list or a copy finds none.
+/// one, into a list with room for n pairs and one for each written key. `Memory` is answered where that list or a copy
+/// finds none.
 pub(crate) fn merged<'a>(
     alloc: Alloc,
     pairs: &'a [(Key, Value)],
@@ -30,7 +31,7 @@ pub(crate) fn merged<'a>(
     ensures values { IfOk result (λ merged. (q : KeyBytes) →
         find key_cmp q merged ≡ merged_value pairs.now (pointed_to writes.now) q) }
 {
-    let mut merged = Vec::with_capacity(alloc, pairs.len() + writes.len())?;
+    let mut merged = Vec::with_capacity(alloc, pairs.len() + count_keys(writes))?;
     let mut rest = pairs;
     let mut next = 0;
     while next < writes.len() {
@@ -40,6 +41,30 @@ pub(crate) fn merged<'a>(
     }
     push_copies(&mut merged, rest)?;
     Ok(Pairs::from_vec(merged))
+}
+
+// Of how many keys writes are that are sorted by key.
+fn count_keys(writes: &[&Write]) -> usize
+    ensures { result ≤ length writes.now }
+{
+    let mut count = 0;
+    for place in 0..writes.len() {
+        if is_first_of_key(writes, place) {
+            count += 1;
+        }
+    }
+    count
+}
+
+// Whether no write before this one is of its key.
+fn is_first_of_key(writes: &[&Write], place: usize) -> bool
+    requires { place < length writes.now }
+{
+    if place == 0 {
+        return true;
+    }
+    let (before, write) = (writes[place - 1], writes[place]);
+    before.key != write.key
 }
 
 // Adds the pairs below the key of a write, and what this write and those behind it leave at the key. It answers the pairs
@@ -71,7 +96,7 @@ fn parted<'a>(
     key: &Key,
 ) -> (&'a [(Key, Value)], Option<&'a Value>, &'a [(Key, Value)])
     requires { T (is_sorted key_cmp pairs.now) }
-    ensures { IsParted pairs.now key.now result.0.now (option_copied result.1) result.2.now }
+    ensures { AreCutAt pairs.now key.now result.0.now (option_copied result.1) result.2.now }
 {
     let (before, rest) = pairs.split_at(place(pairs, key));
     let Some((pair, behind)) = rest.split_first() else {

@@ -11,8 +11,8 @@ ghost use Rattle.bw_delta.specs.Present.{present_pairs};
 ghost use Rattle.bw_delta.specs.Readings.{from_stamp};
 ghost use Rattle.bw_delta.specs.Rising.{HasRisingStamps};
 
+use crate::consolidation::{put_parts, put_writes};
 use crate::entries::Entries;
-use crate::folding::{put_parts, put_writes};
 use crate::writes::Write;
 use bw_key::{Key, Memory};
 use bw_memory::Alloc;

@@ -1,4 +1,5 @@
-//! What tests are made of: heaps, keys, values, pairs and leaves from bytes, and pseudo-random numbers.
+//! What tests are made of: heaps; keys, values, pairs and leaves from bytes; operations and replies from texts; and pseudo-random
+//! numbers.
 //!
 //! A library can't end a test. So what takes memory answers a `Result`, on which a test calls `expect`.
 #![tactic(auto)]
@@ -6,9 +7,13 @@
 mod heaps;
 mod leaves;
 mod numbers;
+mod operations;
 mod pairs;
 
 pub use heaps::{heap, was_refused};
 pub use leaves::{from_c, from_e, leaf_of, three_leaves, up_to_c};
 pub use numbers::Random;
+pub use operations::{
+    TextOp, TextPair, TextReply, are_replies, end, have_texts, is_reply, op, ops, text_pairs,
+};
 pub use pairs::{LONG, are, key, one, pair, two, value};

@@ -4,3 +4,4 @@ pub mod Search
 pub mod Entries
 pub mod Separators
 pub mod Ranges
+pub mod Cuts

@@ -1,11 +1,11 @@
 -- The entries of a range of keys in a sorted list are those between two places.
-use Rattle.std.proofs.Common.{◌≡◌, ℕ, zero, suc, ◌+◌, ◌-◌, Bool, true, false, cond, not, ◌&&◌, List, [], ◌∷◌, drop, take, length, length-drop, filter, Option, Some, None, T, refl, sym, ap, ◌∙◌, add-one, arith}
+use Rattle.std.proofs.Common.{◌≡◌, ℕ, ◌+◌, ◌-◌, Bool, true, false, cond, not, ◌&&◌, List, [], ◌∷◌, drop, take, length, length-drop, filter, Some, None, T, refl, sym, ap, ◌∙◌, add-one, arith}
 use Rattle.std.proofs.lemmas.List.{take_all}
 use Rattle.std.specs.Ordering.{is_lt}
 use Rattle.std.specs.FinMap.{is_sorted}
 use Rattle.std.specs.FinMap.Entries.{below_all}
 use Rattle.bw_key.specs.Order.{KeyBytes, key_cmp}
-use Rattle.bw_model.specs.Contents.{is_below_end, is_pair_in_range}
+use Rattle.bw_model.specs.Contents.{is_pair_in_range}
 use Rattle.bw_model.specs.Sorted.{place_of}
 use Rattle.bw_page.proofs.Truths.{true_holds}
 use Rattle.bw_page.proofs.Entries.{sorted_drop}
@@ -59,7 +59,7 @@ module _ {X : Type 0} where
       step more false is = ap (λ xs. e ∷ xs) (all_from q e.0 es is (true_holds _ (both _ _ h).0))
 
   -- and those below it are those before
-  upto_place : (q : KeyBytes) (es : List (KeyBytes × X)) → T (is_sorted key_cmp es) → filter (is_before q) es ≡ take (place_of q es) es
+  pub upto_place : (q : KeyBytes) (es : List (KeyBytes × X)) → T (is_sorted key_cmp es) → filter (is_before q) es ≡ take (place_of q es) es
   upto_place q [] h = refl
   upto_place q (e ∷ es) h = step (upto_place q es (true_holds _ (both _ _ h).1)) (is_lt (key_cmp e.0 q)) refl
     where

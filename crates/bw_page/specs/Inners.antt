@@ -1,10 +1,10 @@
 -- Inner pages as contracts see them, and the rules that each one keeps.
-use Rattle.std.specs.Prelude.{ℕ, ◌≤◌, not, List, ◌++◌, Option, T, drop, filter}
+use Rattle.std.specs.Prelude.{ℕ, ◌≤◌, not, List, ◌++◌, Option, Some, T, take, drop, filter}
 use Rattle.std.specs.List.{Contains}
 use Rattle.std.specs.Ordering.{is_lt}
 use Rattle.std.specs.FinMap.{put}
 use Rattle.bw_key.specs.Order.{KeyBytes, key_cmp, key_eq}
-use Rattle.bw_page.specs.Pages.{IsPage, BeginsAt, first_key}
+use Rattle.bw_page.specs.Pages.{IsPage, BeginsAt, below, first_key}
 
 -- the level above the leaves, the bounds of a range of keys, the right neighbour, and the separators with their children
 pub record InnerView : Type 0 where
@@ -41,6 +41,21 @@ upper_inner inner keep =
       high = inner.high;
       side = inner.side;
       children = drop keep inner.children;
+    }
+
+-- the page with the children before place `keep` alone
+abbrev pub lower_inner : InnerView → ℕ → InnerView
+lower_inner inner keep = record inner { children = take keep inner.children }
+
+-- the page up to this key, before this right neighbour
+abbrev pub narrowed_inner : InnerView → KeyBytes → ℕ → InnerView
+narrowed_inner inner high side =
+    record {
+      level = inner.level;
+      low = inner.low;
+      high = Some high;
+      side = Some side;
+      children = below high inner.children;
     }
 
 -- a page and its right neighbour as one

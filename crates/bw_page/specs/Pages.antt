@@ -1,7 +1,9 @@
 -- What all pages have in common: the entries of a range of keys.
 use Rattle.std.specs.Prelude.{◌≡◌, ℕ, List, [], ◌∷◌, Option, is_some, T}
 use Rattle.std.specs.List.{list_all}
+use Rattle.std.specs.Ordering.{is_lt}
 use Rattle.std.specs.FinMap.{is_sorted}
+use Rattle.std.specs.FinMap.Entries.{where_key}
 use Rattle.bw_key.specs.Order.{KeyBytes, key_cmp}
 use Rattle.bw_model.specs.Contents.{is_below_end, is_pair_in_range}
 
@@ -28,3 +30,7 @@ first_key (e ∷ es) = e.0
 abbrev pub BeginsAt : {V : Type 0} → KeyBytes → List (KeyBytes × V) → Type 0
 BeginsAt key [] = ⊥
 BeginsAt key (e ∷ es) = e.0 ≡ key
+
+-- the entries below a key
+abbrev pub below : {V : Type 0} → KeyBytes → List (KeyBytes × V) → List (KeyBytes × V)
+below k es = where_key key_cmp (λ x. is_lt (key_cmp x k)) es

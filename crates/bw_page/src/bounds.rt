@@ -80,4 +80,12 @@ impl Bounds {
             side: self.side,
         })
     }
+
+    /// Ends the range at this key, before this right neighbour. It takes no memory.
+    pub(crate) fn narrow(&mut self, high: Key, side: PageId)
+        ensures { self.new ≡ record { low = self.old.low; high = Some high; side = Some side } }
+    {
+        self.high.replace(high);
+        self.side.replace(side);
+    }
 }

@@ -1,8 +1,8 @@
 // Inner pages.
-ghost use Rattle.std.specs.Prelude.{◌≡◌, ◌≢◌, ◌<◌, length, Some, IfOk, MatchOption, true, false, T};
+ghost use Rattle.std.specs.Prelude.{◌≡◌, ◌≢◌, ◌<◌, length, Some, IfOk, OnErr, OnOk, MatchOption, true, false, T};
 ghost use Rattle.std.specs.Option.{option_copied};
 ghost use Rattle.bw_model.specs.Contents.{is_below_end, is_in_range};
-ghost use Rattle.bw_page.specs.Inners.{IsInner, IsLastUpto, IsUpto, joined_inner, upper_inner, with_child, without_child};
+ghost use Rattle.bw_page.specs.Inners.{IsInner, IsLastUpto, IsUpto, joined_inner, lower_inner, narrowed_inner, upper_inner, with_child, without_child};
 ghost use Rattle.bw_page.specs.Pages.{BeginsAt};
 
 use crate::bounds::Bounds;
@@ -145,6 +145,40 @@ impl Inner {
             bounds: self.bounds.with_low(&self.children[keep].0)?,
             children: sorted::copy_from(*self.children.allocator(), &self.children, keep)?,
         })
+    }
+
+    /// Cuts the page in its place: its children from place `keep` on move to a page that begins at the first of their
+    /// separators and ends where this one did, and this one keeps the others and its bounds. Both have children.
+    ///
+    /// No separator is copied but those that the new page has as bounds. It takes one growth for the list of the children
+    /// that move, and one for each bound of their page that has more than 24 bytes. `Memory` is answered where one of
+    /// them is refused, and this page is as before. A last growth, to a smaller block, gives back the room that the
+    /// children leave; where that is refused the room stays.
+    pub fn cut(&mut self, keep: usize) -> Result<Inner, Memory>
+        requires some { 0 < keep }
+        requires fewer { keep < length self.old.children }
+        ensures half { IfOk result (λ half. half ≡ upper_inner self.old keep) }
+        ensures kept { OnOk result (self.new ≡ lower_inner self.old keep) }
+        ensures err { OnErr result (self.new ≡ self.old) }
+    {
+        let bounds = self.bounds.with_low(&self.children[keep].0)?;
+        let children = sorted::cut(&mut self.children, keep)?;
+        Ok(Inner {
+            level: self.level,
+            bounds,
+            children,
+        })
+    }
+
+    /// Ends the page at this key, which isn't its low one nor below it, before this right neighbour. The children with
+    /// smaller separators stay, and the others are let go. It takes no memory, and about log2 n key comparisons for n
+    /// children.
+    pub fn narrow(&mut self, high: Key, side: PageId)
+        requires { T (is_below_end (Some high) self.old.low) }
+        ensures { self.new ≡ narrowed_inner self.old high side }
+    {
+        sorted::keep_below(&mut self.children, &high);
+        self.bounds.narrow(high, side);
     }
 
     /// This page and its right neighbour as one: the children of both, up to the neighbour's end and with its

@@ -1,10 +1,10 @@
 // Leaf pages.
-ghost use Rattle.std.specs.Prelude.{◌≡◌, ◌<◌, filter, length, [], Some, None, IfOk, MatchOption, true, false};
+ghost use Rattle.std.specs.Prelude.{◌≡◌, ◌<◌, filter, length, [], Some, None, IfOk, OnErr, OnOk, MatchOption, T, true, false};
 ghost use Rattle.std.specs.FinMap.{find};
 ghost use Rattle.std.specs.Option.{option_copied};
 ghost use Rattle.bw_key.specs.Order.{key_cmp};
 ghost use Rattle.bw_model.specs.Contents.{is_below_end, is_pair_in_range};
-ghost use Rattle.bw_page.specs.Leaves.{joined_leaf, upper_leaf};
+ghost use Rattle.bw_page.specs.Leaves.{joined_leaf, lower_leaf, narrowed_leaf, upper_leaf};
 ghost use Rattle.bw_page.specs.Pages.{BeginsAt, IsPage};
 
 use crate::bounds::Bounds;
@@ -151,6 +151,33 @@ impl Leaf {
             bounds: self.bounds.with_low(&self.pairs[keep].0)?,
             pairs: sorted::copy_from(*self.pairs.allocator(), &self.pairs, keep)?,
         })
+    }
+
+    /// Cuts the leaf in its place: its pairs from place `keep` on move to a leaf that begins at the first of their keys
+    /// and ends where this one did, and this one keeps the others and its bounds. `keep` is less than the number of pairs.
+    ///
+    /// No pair is copied. It takes one growth for the list of the pairs that move, and one for each bound of their leaf
+    /// that has more than 24 bytes. `Memory` is answered where one of them is refused, and this leaf is as before. A last
+    /// growth, to a smaller block, gives back the room that the pairs leave; where that is refused the room stays.
+    pub fn cut(&mut self, keep: usize) -> Result<Leaf, Memory>
+        requires { keep < length self.old.pairs }
+        ensures half { IfOk result (λ half. half ≡ upper_leaf self.old keep) }
+        ensures kept { OnOk result (self.new ≡ lower_leaf self.old keep) }
+        ensures err { OnErr result (self.new ≡ self.old) }
+    {
+        let bounds = self.bounds.with_low(&self.pairs[keep].0)?;
+        let pairs = sorted::cut(&mut self.pairs, keep)?;
+        Ok(Leaf { bounds, pairs })
+    }
+
+    /// Ends the leaf at this key, which isn't its low one nor below it, before this right neighbour. The pairs with smaller
+    /// keys stay, and the others are let go. It takes no memory, and about log2 n key comparisons for n pairs.
+    pub fn narrow(&mut self, high: Key, side: PageId)
+        requires { T (is_below_end (Some high) self.old.low) }
+        ensures { self.new ≡ narrowed_leaf self.old high side }
+    {
+        sorted::keep_below(&mut self.pairs, &high);
+        self.bounds.narrow(high, side);
     }
 
     /// This leaf and its right neighbour as one: the pairs of both, up to the neighbour's end and with its neighbour.

@@ -1,6 +1,6 @@
 //! Base pages of an ordered index in the form of a Bw-tree: the pairs of a range of keys, or the separators of its
-//! children, with the bounds of the range and a side link to the right neighbour, as in a B-link tree. A page is never
-//! edited: a new one takes its place.
+//! children, with the bounds of the range and a side link to the right neighbour, as in a B-link tree. A page is cut and
+//! narrowed in its place; for any other change a new one is made.
 #![tactic(auto)]
 
 mod bounds;

@@ -1,12 +1,12 @@
-// Sorted lists of entries: searched by halves, and copied.
-ghost use Rattle.std.specs.Prelude.{◌≡◌, ◌<◌, ◌≤◌, ◌++◌, drop, filter, length, not, IfOk, OnOk, T};
+// Sorted lists of entries: searched by halves, copied, and cut.
+ghost use Rattle.std.specs.Prelude.{◌≡◌, ◌<◌, ◌≤◌, ◌++◌, drop, filter, length, not, take, IfOk, OnErr, OnOk, T};
 ghost use Rattle.std.specs.FinMap.{find, is_sorted, put};
 ghost use Rattle.std.specs.Option.{option_copied};
 ghost use Rattle.bw_key.specs.Order.{key_cmp, key_eq};
 ghost use Rattle.bw_model.specs.Contents.{is_pair_in_range};
 ghost use Rattle.bw_model.specs.Sorted.{place_of};
 ghost use Rattle.bw_page.specs.Inners.{IsLastUpto, IsUpto};
-ghost use Rattle.bw_page.specs.Pages.{first_key};
+ghost use Rattle.bw_page.specs.Pages.{below, first_key};
 
 use crate::pages::PageId;
 use bw_key::{Key, Memory};
@@ -171,4 +171,29 @@ pub(crate) fn copy_without<V: Copied + Drop>(
         copy.push((entry.0.copy()?, entry.1.copied()?))?;
     }
     Ok(copy)
+}
+
+/// Moves the entries from a place on to a list of their own. `Memory` is answered where that list finds none, and all is as
+/// before. The room that they leave is given back, by a growth that may be refused: then it stays.
+pub(crate) fn cut<V>(
+    entries: &mut Vec<(Key, V), Alloc>,
+    keep: usize,
+) -> Result<Vec<(Key, V), Alloc>, Memory>
+    requires { keep ≤ length entries.old.items }
+    ensures kept { OnOk result (entries.new.items ≡ take keep entries.old.items) }
+    ensures rest { IfOk result (λ rest. rest.items ≡ drop keep entries.old.items) }
+    ensures err { OnErr result (entries.new ≡ entries.old) }
+{
+    let rest = entries.split_off(keep)?;
+    entries.shrink_to_fit();
+    Ok(rest)
+}
+
+/// Lets the entries go whose keys aren't below the given one, in about log2 n key comparisons.
+pub(crate) fn keep_below<V: Drop>(entries: &mut Vec<(Key, V), Alloc>, key: &Key)
+    requires { T (is_sorted key_cmp entries.old.items) }
+    ensures { entries.new.items ≡ below key.now entries.old.items }
+{
+    let end = place(entries, key);
+    entries.truncate(end);
 }

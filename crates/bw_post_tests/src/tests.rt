@@ -5,5 +5,6 @@ mod making;
 mod rows;
 mod shapes;
 mod side_by_side;
+mod states;
 mod sweeping;
 mod tidying;

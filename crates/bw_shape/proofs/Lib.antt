@@ -4,3 +4,4 @@ pub mod NamingLemmas
 pub mod PartLemmas
 pub mod TidyLemmas
 pub mod WholeLemmas
+pub mod PlainLemmas

@@ -9,7 +9,7 @@ use Rattle.bw_chain.specs.Levels.{row}
 use Rattle.bw_chain.specs.Splits.{level_parted, put_behind}
 use Rattle.bw_tree.specs.Routing.{IsInLevel}
 use Rattle.bw_tree.specs.View.{TreeView}
-use Rattle.bw_shape.specs.Tidying.{DueView, HasPassed, IsBare, IsHalved, IsNextBefore, IsPart, StandBefore, work_left}
+use Rattle.bw_shape.specs.Tidying.{DueView, HasPassed, IsBare, IsHalved, IsNextBefore, IsPart, StandBefore, half_of, work_left}
 
 -- the pages of a row stand in it still, and the new one does
 still_there : (p q r : ℕ) (ps : List ℕ) → Contains ps r → Contains (put_behind p q ps) r
@@ -93,13 +93,13 @@ passed_on old due due' p level was above = record {
 -- a page that was consolidated, and split if it had too many entries
 pub passed_part : (old mid new : TreeView) (due due' : DueView) (p level : ℕ) (split : Bool) → IsInLevel old p level → IsBare old mid p → IsPart mid new due due' p split → HasPassed old new due due' p level
 passed_part old mid new due due' p level true on bare h = record {
-  rest = h.1.split.rest;
-  was = h.1.split.was;
-  halves = h.1.split.right ∷ p ∷ [];
-  is = h.1.split.is;
-  stand = both_on mid new due due' p h.0 h.1 level (same p level on);
-  still = λ q n there. still_on mid new due due' p h.0 h.1 q n (same q n there);
-  less = omega (arith, halved_less mid new due due' p h.0 h.1, bare.same.pages);
+  rest = h.split.rest;
+  was = h.split.was;
+  halves = h.split.right ∷ p ∷ [];
+  is = h.split.is;
+  stand = both_on mid new due due' p (half_of mid p) h level (same p level on);
+  still = λ q n there. still_on mid new due due' p (half_of mid p) h q n (same q n there);
+  less = omega (arith, halved_less mid new due due' p (half_of mid p) h, bare.same.pages);
 }
   where
     same : (q n : ℕ) → IsInLevel old q n → IsInLevel mid q n

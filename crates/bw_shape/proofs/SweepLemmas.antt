@@ -2,14 +2,18 @@
 use Rattle.std.proofs.Common.{inl, inr, ◌⊎◌, ◌≡◌, ℕ, suc, ◌+◌, ◌<◌, ◌≤◌, ◌^◌, List, [], ◌∷◌, length, None, refl, sym, ap, ◌∙◌, subst, arith}
 use Rattle.std.proofs.lemmas.Bool.{cases_eq, cases_lt}
 use Rattle.std.proofs.lemmas.List.{get_or-set_other, length-set}
-use Rattle.std.specs.List.{AllByRecursion}
+use Rattle.std.specs.List.{AllByRecursion, Contains}
 use Rattle.std.specs.Prelude.{slice_index}
+use Rattle.bw_chain.specs.Levels.{row}
 use Rattle.bw_chain.specs.Reading.{writes_over}
+use Rattle.bw_chain.specs.Searches.{IsInLevels}
 use Rattle.bw_chain.specs.Slots.{slot_at}
 use Rattle.bw_tree.specs.Consolidation.{IsConsolidated, IsRebased}
 use Rattle.bw_tree.specs.View.{TreeView, contents_at}
 use Rattle.bw_shape.specs.Steps.{HasLostChain, IsConsolidationStep}
-use Rattle.bw_shape.specs.Sweeps.{ArePlainBelow, HoldsSame, IsPlainAt, IsSwept, KeepsPlain}
+use Rattle.bw_shape.specs.Limits.{IsWithin}
+use Rattle.bw_shape.specs.Sweeps.{ArePlainBelow, HasAllRecorded, HoldsSame, IsPlainAt, IsSwept, KeepsPlain}
+use Rattle.bw_shape.specs.Tidying.{HasBoth, KeepsWithin}
 use Rattle.bw_shape.specs.declared.steps.Did.{Did}
 use Rattle.bw_shape.specs.declared.steps.Did.TheVariants.{Done, NotNeeded}
 
@@ -120,3 +124,19 @@ swept_all old tree new held plain view contents bare = record {
   next = ap (λ (v : TreeView). v.next) view;
   staged = ap (λ (v : TreeView). v.staged) view ∙ held.staged;
 }
+
+some_levels : (levels : List (List ℕ)) (p : ℕ) → Contains (row levels 0) p → 0 < length levels
+some_levels [] p has = absurd (omega (arith, has.1))
+some_levels (ps ∷ levels) p has = omega arith
+
+-- Each leaf is within the limits or due behind a sweep, where the pages that had records are due, too.
+pub within_swept : (old new : TreeView) (due due' pages : List ℕ) → new.levels ≡ old.levels → KeepsPlain old new → HasAllRecorded old pages → ((p : ℕ) → IsInLevels old.levels p → p < length old.heads) → HasBoth pages due due' → KeepsWithin old new due due'
+within_swept old new due due' pages levels kept all there both limits but p leaf = by (cases_lt (slice_index old.heads p) (2 ^ 32)) (but p was)
+  where
+    was : Contains (row old.levels 0) p
+    was = subst (λ (l : List (List ℕ)). Contains (row l 0) p) levels leaf
+
+    by : (slice_index old.heads p < 2 ^ 32) ⊎ (2 ^ 32 ≤ slice_index old.heads p) → Contains due p ⊎ IsWithin limits (slot_at old.slots p) → Contains due' p ⊎ IsWithin limits (slot_at new.slots p)
+    by low (inl has) = inl (both.right p has)
+    by (inl low) (inr within) = inr (subst (IsWithin limits) (sym (kept p low)) within)
+    by (inr high) (inr within) = inl (both.left p (all p (there p (record { level = 0; within = some_levels old.levels p was; in_level = was })) high))

@@ -1,8 +1,11 @@
 -- Right neighbours that get their index entries at once.
-use Rattle.std.specs.Prelude.{ℕ, ◌<◌, List, [], ◌∷◌, length}
+use Rattle.std.specs.Prelude.{ℕ, ◌<◌, ◌⊎◌, List, [], ◌∷◌, length}
+use Rattle.std.specs.List.{Contains}
 use Rattle.bw_key.specs.Order.{KeyBytes}
-use Rattle.bw_tree.specs.Children.{AreNamed, IsUnnamed}
+use Rattle.bw_tree.specs.Children.{AreNamed, HasNoUnnamed, IsUnnamed}
 use Rattle.bw_tree.specs.View.{TreeView}
+use Rattle.bw_shape.specs.Steps.{IsRootStep}
+use Rattle.bw_shape.specs.declared.steps.Did.{Did}
 
 -- the page has no right neighbour that this page of the level above is to name
 abbrev pub HasNoUnnamedOn : TreeView → ℕ → ℕ → Type 0
@@ -29,3 +32,10 @@ pub record AreFinished (old new : TreeView) (p parent : ℕ) : Type 0 where
   pub some : 0 < length entries
   pub unnamed : AreAllUnnamed old p parent entries
   pub named : AreNamed old new parent entries
+
+-- The splits of p are finished: its right neighbours have their index entries on a page that is due, or none of them lacked
+-- one, and a root that was split has a root above it.
+abbrev pub HasFinished : TreeView → TreeView → List ℕ → ℕ → Type 0
+HasFinished old new due p =
+    ((parent : ℕ) × AreFinished old new p parent × Contains due parent)
+    ⊎ (HasNoUnnamed old p × ((did : Did) × IsRootStep old new did))

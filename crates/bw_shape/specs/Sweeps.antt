@@ -1,6 +1,6 @@
 -- What a sweep does, on its way and at its end.
-use Rattle.std.specs.Prelude.{◌≡◌, ℕ, ◌<◌, ◌^◌, [], None, length, slice_index}
-use Rattle.std.specs.List.{AllByRecursion}
+use Rattle.std.specs.Prelude.{◌≡◌, ℕ, ◌<◌, ◌≤◌, ◌^◌, List, [], None, length, slice_index}
+use Rattle.std.specs.List.{AllByRecursion, Contains}
 use Rattle.bw_chain.specs.Reading.{writes_over}
 use Rattle.bw_chain.specs.Slots.{slot_at}
 use Rattle.bw_tree.specs.View.{TreeView, contents_at}
@@ -29,6 +29,11 @@ pub record IsPlainAt (old new : TreeView) (p : ℕ) : Type 0 where
 -- the pages below a number have no records
 abbrev pub ArePlainBelow : TreeView → ℕ → Type 0
 ArePlainBelow tree n = (p : ℕ) → p < n → slice_index tree.heads p < 2 ^ 32
+
+-- each page that has a record is one of these
+abbrev pub HasAllRecorded : TreeView → List ℕ → Type 0
+HasAllRecorded tree pages =
+    (p : ℕ) → p < length tree.heads → 2 ^ 32 ≤ slice_index tree.heads p → Contains pages p
 
 -- As of every stamp the tree holds what it held as of its next one. There is no record, so no page has one, nor a write
 -- over it, and the next stamp is 0.

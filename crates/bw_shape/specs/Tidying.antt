@@ -1,12 +1,11 @@
 -- Tidying: pages that are over a limit are consolidated and split.
-use Rattle.std.specs.Prelude.{◌≡◌, ℕ, Bool, true, false, ◌+◌, ◌-◌, ◌*◌, ◌≤◌, ◌<◌, ◌^◌, ◌⊎◌, List, [], ◌∷◌, ◌++◌, length, drop, map, filter, Option, nat_eq, nat_lt, None, slice_index}
+use Rattle.std.specs.Prelude.{◌≡◌, ℕ, Bool, true, false, ◌+◌, ◌-◌, ◌*◌, ◌≤◌, ◌<◌, ◌^◌, ◌⊎◌, List, [], ◌∷◌, ◌++◌, ◌/◌, length, drop, Option, None, slice_index}
 use Rattle.std.specs.List.{Contains}
 use Rattle.bw_chain.specs.Reading.{writes_over}
 use Rattle.bw_chain.specs.Slots.{Slot, slot_at}
 use Rattle.bw_chain.specs.Splits.{slot_entries}
 use Rattle.bw_tree.specs.Routing.{IsInLevel}
 use Rattle.bw_tree.specs.Splits.{IsSplit, IsSplittable}
-use Rattle.bw_tree.specs.declared.tree.shape.PageShape.{PageShape}
 use Rattle.bw_tree.specs.View.{TreeView, contents_at}
 use Rattle.bw_shape.specs.Limits.{LimitsView, AreWithinBut}
 use Rattle.bw_shape.specs.Sweeps.{HoldsSame}
@@ -25,6 +24,12 @@ pub record HoldsAll (old new : TreeView) : Type 0 where
   pub records : old.records ≤ new.records
   pub staged : new.staged ≡ None
 
+-- the pages of two lists, and no others
+pub record HasBoth (pages more both : List ℕ) : Type 0 where
+  pub left : (p : ℕ) → Contains pages p → Contains both p
+  pub right : (p : ℕ) → Contains more p → Contains both p
+  pub only : (p : ℕ) → Contains both p → Contains pages p ⊎ Contains more p
+
 -- whatever the limits are, each leaf is within them or to be looked at, if that was so
 abbrev pub KeepsWithin : TreeView → TreeView → List ℕ → List ℕ → Type 0
 KeepsWithin old new due due' = (limits : LimitsView) → AreWithinBut limits old due → AreWithinBut limits new due'
@@ -38,8 +43,12 @@ abbrev pub IsNextBefore : List ℕ → ℕ → ℕ → Type 0
 IsNextBefore pages others p = IsNext pages p × (others < length pages)
 
 -- no page is to be looked at
+abbrev pub HasNoPage : DueView → Type 0
+HasNoPage due = (due.pages ≡ []) × (due.above ≡ [])
+
+-- nor are splits of a page left to be finished
 abbrev pub HasNoneDue : DueView → Type 0
-HasNoneDue due = (due.pages ≡ []) × (due.above ≡ [])
+HasNoneDue due = HasNoPage due × (due.unfinished ≡ None)
 
 -- a page has more writes over its base page than a leaf may have, or more entries under them than a page may have
 abbrev pub IsOver : LimitsView → Slot → Type 0
@@ -64,9 +73,13 @@ pub record IsHalved (old new : TreeView) (due due' : DueView) (p keep : ℕ) : T
   pub above : due'.above ≡ due.above
   pub few : length new.heads ≤ 2 ^ 32
 
--- the next page was looked at: it was split, or nothing has changed and it is due no more
+-- half of a page's entries, rounded down
+abbrev pub half_of : TreeView → ℕ → ℕ
+half_of tree p = slot_entries (slot_at tree.slots p) / 2
+
+-- the next page was looked at: it was split and keeps its first half, or nothing has changed and it is due no more
 abbrev pub IsPart : TreeView → TreeView → DueView → DueView → ℕ → Bool → Type 0
-IsPart old new due due' p true = (keep : ℕ) × IsHalved old new due due' p keep
+IsPart old new due due' p true = IsHalved old new due due' p (half_of old p)
 IsPart old new due due' p false = (new ≡ old) × (due.pages ≡ due'.pages ++ p ∷ []) × (due'.above ≡ due.above)
 
 -- the pages that are to be looked at before so many others stand on this level

@@ -1,10 +1,12 @@
 // The pages that tidying is to look at.
-ghost use Rattle.std.specs.Prelude.{◌≡◌, ℕ, ◌+◌, ◌<◌, ◌≤◌, ◌^◌, true, false, [], ◌∷◌, ◌++◌, None, length, reverse, slice_index, MatchOption, OnOk, OnErr};
+ghost use Rattle.std.specs.Prelude.{◌≡◌, ℕ, ◌+◌, ◌<◌, ◌≤◌, ◌^◌, true, false, [], ◌∷◌, ◌++◌, None, length, reverse, slice_index, MatchOption, IfOk, OnOk, OnErr};
 ghost use Rattle.std.specs.List.{Contains};
 ghost use Rattle.bw_tree.specs.Splits.{IsSplittable};
-ghost use Rattle.bw_shape.specs.Tidying.{HasNoneDue, HoldsAll, IsNext, IsNextBefore, IsSplitNext, KeepsWithin};
+ghost use Rattle.bw_shape.specs.Naming.{HasFinished};
+ghost use Rattle.bw_shape.specs.Tidying.{HasBoth, HasNoPage, HoldsAll, IsNext, IsNextBefore, IsSplitNext, KeepsWithin};
 
 use crate::naming::name_rights;
+use crate::page_lists::sort_by_low_key;
 use crate::steps::grow_root;
 use bw_key::Memory;
 use bw_memory::Alloc;
@@ -55,25 +57,54 @@ impl Due {
         self.above = inner;
     }
 
-    /// Adds pages, which are looked at in their order, behind those that are due already. It costs a step for each page that
-    /// is due then. After `Memory` all is as before.
-    pub fn add(&mut self, mut pages: Vec<PageId, Alloc>) -> Result<(), Memory>
-        ensures ok { OnOk result (self.new.pages ≡ reverse pages.entry.items ++ self.old.pages) }
+    /// Adds pages of the tree that come in the order of the keys at which they begin. Where others are due already all of them
+    /// are sorted, so that they are looked at in that order, each once. It takes no memory where no page is added or none was
+    /// due. After `Memory` all is as before.
+    pub fn add(&mut self, tree: &Tree, pages: Vec<PageId, Alloc>) -> Result<(), Memory>
+        ensures ok { OnOk result (HasBoth pages.entry.items self.old.pages self.new.pages) }
+        ensures alone { self.old.pages ≡ [] → OnOk result (self.new.pages ≡ reverse pages.entry.items) }
         ensures rest { (self.new.above ≡ self.old.above) × (self.new.unfinished ≡ self.old.unfinished) }
         ensures err { OnErr result (self.new.pages ≡ self.old.pages) }
     {
+        if pages.is_empty() {
+            return Ok(());
+        }
+        let mut pages = self.joined(tree, pages)?;
         pages.reverse();
-        pages.extend_from_slice(&self.pages)?;
         self.pages = pages;
         Ok(())
     }
 
+    // These pages with those that are due, in the order of keys.
+    fn joined(
+        &self,
+        tree: &Tree,
+        mut pages: Vec<PageId, Alloc>,
+    ) -> Result<Vec<PageId, Alloc>, Memory>
+        ensures both { IfOk result (λ both. HasBoth pages.entry.items self.now.pages both.items) }
+        ensures alone { self.now.pages ≡ [] → IfOk result (λ both. both.items ≡ pages.entry.items) }
+    {
+        if self.pages.is_empty() {
+            return Ok(pages);
+        }
+        pages.extend_from_slice(&self.pages)?;
+        sort_by_low_key(tree, &mut pages);
+        pages.dedup();
+        Ok(pages)
+    }
+
+    /// Where its memory comes from.
+    pub(crate) fn alloc(&self) -> Alloc {
+        *self.pages.allocator()
+    }
+
     /// The next page: where no page is left, the inner pages behind them are next.
     pub(crate) fn next(&mut self) -> Option<PageId>
-        ensures next { MatchOption result (HasNoneDue self.new) (IsNext self.new.pages) }
+        ensures next { MatchOption result (HasNoPage self.new) (IsNext self.new.pages) }
         ensures kept { (p : ℕ) → Contains self.old.pages p → Contains self.new.pages p }
         ensures count { length self.new.pages + length self.new.above
             ≡ length self.old.pages + length self.old.above }
+        ensures unfinished { self.new.unfinished ≡ self.old.unfinished }
     {
         if self.pages.is_empty() {
             mem::swap(&mut self.pages, &mut self.above);
@@ -86,6 +117,7 @@ impl Due {
     pub(crate) fn pass(&mut self)
         ensures pages { (p : ℕ) → IsNext self.old.pages p → self.old.pages ≡ self.new.pages ++ p ∷ [] }
         ensures above { self.new.above ≡ self.old.above }
+        ensures unfinished { self.new.unfinished ≡ self.old.unfinished }
     {
         self.pages.pop();
     }
@@ -147,8 +179,11 @@ impl Due {
     }
 
     /// Finishes the splits of a page: its right neighbours are named above it, or a root that was split gets one above it.
+    /// After `Memory` the tree is as before.
     pub(crate) fn finish(&mut self, tree: &mut Tree, page: PageId) -> Result<(), Memory>
         requires { tree.old.staged ≡ None }
+        ensures ok { OnOk result (HasFinished tree.old tree.new self.new.above page) }
+        ensures err { OnErr result (tree.new ≡ tree.old) }
         ensures holds { HoldsAll tree.old tree.new }
         ensures within { KeepsWithin tree.old tree.new self.old.pages self.new.pages }
         ensures pages { self.new.pages ≡ self.old.pages }

@@ -7,7 +7,6 @@ ghost use Rattle.bw_tree.specs.Routing.{IsInLevel, IsInnerPage};
 ghost use Rattle.bw_tree.specs.Splits.{IsSplittable};
 ghost use Rattle.bw_shape.specs.Steps.{IsConsolidationStep, IsFinishStep, IsFinished, HasLostChain, IsRootStep, IsSameOver, IsSplitStep};
 
-use bw_chain::FLOOR;
 use bw_key::{Key, Memory};
 use bw_page::PageId;
 use bw_tree::Tree;
@@ -32,12 +31,11 @@ pub fn consolidate(tree: &mut Tree, page: PageId) -> Result<Did, Memory>
     ensures err { OnErr result (tree.new ≡ tree.old) }
 {
     tree.know_records();
-    if !has_record(tree, page) {
+    if tree.is_plain(page) {
         return Ok(Did::NotNeeded);
     }
     let Some(level) = tree.in_level(page) else {
-        // No page of no level has a record.
-        unreachable!();
+        return Ok(Did::NotNeeded);
     };
     lose_chain(tree, page, level)?;
     Ok(Did::Done)
@@ -79,25 +77,14 @@ fn is_splittable(tree: &Tree, page: PageId, keep: usize) -> bool
     ensures yes { result ≡ true → IsSplittable tree.now page keep }
     ensures no { result ≡ false → IsSplittable tree.now page keep → ⊥ }
 {
-    if has_record(tree, page) {
+    tree.know_records();
+    if !tree.is_plain(page) {
         return false;
     }
     let Some(_) = tree.in_level(page) else {
         return false;
     };
     keep > 0 && keep < tree.entries(page)
-}
-
-/// Whether a page has a record over its base page, as its mapping word tells.
-pub(crate) fn has_record(tree: &Tree, page: PageId) -> bool
-    ensures there { result ≡ true → page < length tree.now.heads }
-    ensures yes { result ≡ true → 2 ^ 32 ≤ slice_index tree.now.heads page }
-    ensures no { result ≡ false → slice_index tree.now.heads page < 2 ^ 32 }
-{
-    match tree.heads().get(page.0 as usize) {
-        Some(head) => *head >= FLOOR,
-        None => false,
-    }
 }
 
 /// Finishes the split of a page: its right neighbour gets an index entry on the page of the level above in whose range it
@@ -117,8 +104,8 @@ pub fn finish_split(tree: &mut Tree, page: PageId) -> Result<Did, Memory>
     }
 }
 
-/// The same, with the page above that has the index entry now, if it got one.
-pub(crate) fn name_right(tree: &mut Tree, page: PageId) -> Result<Option<PageId>, Memory>
+// The same, with the page above that has the index entry now, if it got one.
+fn name_right(tree: &mut Tree, page: PageId) -> Result<Option<PageId>, Memory>
     requires { tree.old.staged ≡ None }
     ensures ok { IfOk result (λ parent. MatchOption parent (IsFinishStep tree.old tree.new page Did.NotNeeded)
         (IsFinished tree.old tree.new page)) }
@@ -156,7 +143,7 @@ fn rebase(tree: &mut Tree, inner: PageId) -> Result<(), Memory>
     ensures ok { OnOk result (IsRebased tree.old tree.new inner) }
     ensures err { OnErr result (tree.new ≡ tree.old) }
 {
-    if !has_record(tree, inner) {
+    if tree.is_plain(inner) {
         return Ok(());
     }
     tree.consolidate_inner(inner)

@@ -1,10 +1,11 @@
 // A sweep: every chain is consolidated, and records and stamps start over.
-ghost use Rattle.std.specs.Prelude.{◌≡◌, ◌<◌, None, OnOk, OnErr, length};
+ghost use Rattle.std.specs.Prelude.{◌≡◌, ℕ, ◌<◌, None, OnOk, OnErr, length};
+ghost use Rattle.std.specs.List.{Contains};
 ghost use Rattle.bw_shape.specs.Tidying.{KeepsWithin};
 ghost use Rattle.bw_shape.specs.Sweeps.{ArePlainBelow, HoldsSame, IsPlainAt, IsSwept, KeepsPlain};
 
 use crate::due::Due;
-use crate::page_lists::{inner_pages, leaf_pages};
+use crate::page_lists::recorded_pages;
 use crate::steps::consolidate;
 use bw_key::Memory;
 use bw_page::PageId;
@@ -27,17 +28,20 @@ pub fn sweep(tree: &mut Tree) -> Result<(), Memory>
     Ok(())
 }
 
-/// The same, with all pages due: consolidated leaves may have too many pairs. It costs a walk along each level, too. After
-/// `Memory` all pages may be due already.
+/// The same, with the pages due that had records, beside those that were due before: a consolidated leaf may have too many
+/// pairs. It costs a list of these pages, too, which are sorted by the keys at which they begin. After `Memory` they may be
+/// due already.
 pub fn sweep_due(tree: &mut Tree, due: &mut Due) -> Result<(), Memory>
     requires { tree.old.staged ≡ None }
     ensures ok { OnOk result (IsSwept tree.old tree.new) }
     ensures err { OnErr result (HoldsSame tree.old tree.new) }
     ensures within { KeepsWithin tree.old tree.new due.old.pages due.new.pages }
+    ensures kept { (p : ℕ) → Contains due.old.pages p → Contains due.new.pages p }
+    ensures rest { (due.new.above ≡ due.old.above) × (due.new.unfinished ≡ due.old.unfinished) }
 {
-    let leaves = leaf_pages(tree)?;
-    let inner = inner_pages(*leaves.allocator(), tree)?;
-    due.set_pages(leaves, inner);
+    tree.know_records();
+    let pages = recorded_pages(due.alloc(), tree)?;
+    due.add(tree, pages)?;
     sweep(tree)
 }
 

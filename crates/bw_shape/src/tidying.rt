@@ -12,7 +12,7 @@ ghost use Rattle.bw_shape.specs.Tidying.{HasNoneDue, HasPassed, HoldsAll, IsBare
 use crate::due::Due;
 use crate::limits::Limits;
 use crate::outcome::Tidy;
-use crate::steps::{has_record, lose_chain};
+use crate::steps::lose_chain;
 use bw_key::Memory;
 use bw_page::PageId;
 use bw_tree::Tree;
@@ -62,6 +62,7 @@ fn go_on(tree: &mut Tree, due: &mut Due) -> Result<(), Memory>
     requires { tree.old.staged ≡ None }
     ensures holds { HoldsAll tree.old tree.new }
     ensures within { KeepsWithin tree.old tree.new due.old.pages due.new.pages }
+    ensures finished { OnOk result (due.new.unfinished ≡ None) }
 {
     let Some(page) = due.unfinished() else {
         return Ok(());
@@ -82,9 +83,11 @@ fn visit(
     requires none { tree.old.staged ≡ None }
     requires next { IsNext due.old.pages page }
     requires within { AreWithinBut limits.now tree.old due.old.pages }
+    requires finished { due.old.unfinished ≡ None }
     ensures holds { HoldsAll tree.old tree.new }
     ensures within { AreWithinBut limits.now tree.new due.new.pages }
     ensures less { OnOk result (work_left tree.new due.new < work_left tree.old due.old) }
+    ensures finished { OnOk result (due.new.unfinished ≡ None) }
 {
     if !is_over(tree, limits, page) {
         due.pass();
@@ -115,6 +118,7 @@ fn part_all(
     ensures holds { HoldsAll tree.old tree.new }
     ensures within { AreWithinBut limits.now tree.new due.new.pages }
     ensures less { OnOk result (work_left tree.new due.new < work_left tree.old due.old) }
+    ensures finished { OnOk result (due.new.unfinished ≡ None) }
 {
     let others = due.len() - 1;
     due.set_unfinished(Some(page));
@@ -234,7 +238,8 @@ fn bare(tree: &mut Tree, counts: &mut Tidy, page: PageId, level: u32) -> Result<
     ensures ok { OnOk result (IsBare tree.old tree.new page) }
     ensures err { OnErr result (tree.new ≡ tree.old) }
 {
-    if !has_record(tree, page) {
+    tree.know_records();
+    if tree.is_plain(page) {
         return Ok(());
     }
     lose_chain(tree, page, level)?;

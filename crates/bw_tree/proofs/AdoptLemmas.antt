@@ -33,12 +33,13 @@ use Rattle.bw_chain.specs.Slots.{Slot, PageState, Live, Free, slot_at, has_key, 
 use Rattle.bw_chain.specs.Reading.{writes_over, row_pairs, row_writes}
 use Rattle.bw_chain.specs.Turns.{slot_without_writes}
 use Rattle.bw_chain.specs.Levels.{AreLevels, IsHome, row, levels_under}
+use Rattle.bw_chain.specs.Entries.{AreExact}
 use Rattle.bw_chain.specs.Chains.{Bases, Records, Ends, slot_of_word, slots_of}
 use Rattle.bw_chain.specs.Searches.{IsInLevels}
 use Rattle.bw_tree.specs.Trees.{ArePlaced, IsStanding}
 use Rattle.bw_chain.specs.Records.{put_records, writes_in}
 use Rattle.bw_chain.specs.Supports.{supports_at}
-use Rattle.bw_tree.proofs.AlikeLemmas.{IsPutOver, AreInside, levels_written, pairs_alike, put_bare}
+use Rattle.bw_tree.proofs.AlikeLemmas.{IsPutOver, AreInside, exact_written, levels_written, pairs_alike, put_bare}
 use Rattle.bw_chain.proofs.GrowthLemmas.{take_front}
 use Rattle.bw_chain.proofs.LevelLemmas.{levels_now}
 use Rattle.bw_tree.proofs.PlacedLemmas.{named_are, named_pass}
@@ -235,6 +236,7 @@ module _ (heads heads' : List ℕ) (bases : Bases) (first : Records) (root next 
         t.own p q (slice_index heads p) (slice_index heads q) b (slice_get-get_or heads p 0 x.0) (slice_get-get_or heads q 0 y.0) lt
         (subst (λ (l : List ℕ). Contains l b) x.1 has_p) (subst (λ (l : List ℕ). Contains l b) y.1 has_q);
     lawful = subst (AreLevels new_slots root) (sym levels_after) lawful_after;
+    exact = subst (AreExact new_slots) (sym levels_after) (exact_written bases old_slots new_slots over old_levels t.exact);
     distinct = subst (λ (l : List (List ℕ)). HasDistinctStamps (row_writes new_slots (row l 0))) (sym levels_after) new_distinct;
     past = subst (λ (l : List (List ℕ)). AreBelow bound (row_writes new_slots (row l 0))) (sym levels_after) new_below;
     placed = subst (ArePlaced heads') (sym levels_after) placed_after;

@@ -8,12 +8,13 @@ use Rattle.bw_delta.specs.Writes.{WriteView}
 use Rattle.bw_delta.specs.declared.deltas.Delta.TheVariants.{Put}
 use Rattle.bw_chain.specs.Slots.{Slot, PageState, Body, Pairs, Children, Free, Gone, Live, slot_at, level_of, children_of, IsSoundBody}
 use Rattle.bw_chain.specs.Levels.{AreLevels}
+use Rattle.bw_chain.specs.Entries.{AreExact}
 use Rattle.bw_chain.specs.Chains.{Bases, body_written, change}
 use Rattle.bw_chain.specs.Reading.{body_pairs, pairs_under, row_pairs}
 use Rattle.bw_chain.specs.Turns.{slot_without_writes}
 use Rattle.bw_chain.specs.Steps.{AreAlike, IsAlike}
 use Rattle.bw_chain.proofs.RowLemmas.{same_each}
-use Rattle.bw_chain.proofs.AlikeLemmas.{levels_alike}
+use Rattle.bw_chain.proofs.AlikeLemmas.{exact_alike, levels_alike}
 use Rattle.bw_chain.proofs.ChainLemmas.{bare_put}
 use Rattle.bw_tree.proofs.PostedLemmas.{put_over}
 
@@ -78,9 +79,15 @@ put_alike bases (Gone l) other o = o.is ∙ put_gone bases o.writes l
 put_alike bases (Live s) other o = subst (IsAlike s) (sym o.is) (alike_put bases o.writes s (o.inside s refl))
 
 module _ (bases : Bases) (old new : List Slot) (over : (p : ℕ) → IsPutOver bases (slot_at old p) (slot_at new p)) where
-  -- the same levels stand over pages that differ in writes alone
+  alike : (p : ℕ) → AreAlike (slot_at old p) (slot_at new p)
+  alike p = put_alike bases (slot_at old p) (slot_at new p) (over p)
+
+  -- the same levels stand over pages that differ in writes alone, with exact index entries
   pub levels_written : (root : ℕ) (levels : List (List ℕ)) → AreLevels old root levels → AreLevels new root levels
-  levels_written root levels = levels_alike old new root levels (λ p. put_alike bases (slot_at old p) (slot_at new p) (over p))
+  levels_written root levels = levels_alike old new root levels alike
+
+  pub exact_written : (levels : List (List ℕ)) → AreExact old levels → AreExact new levels
+  exact_written levels = exact_alike old new alike levels
 
   put_pairs : (ws : List WriteView) (slot : Slot) → pairs_under (put_over bases ws slot) ≡ pairs_under slot
   put_pairs [] slot = refl

@@ -20,12 +20,13 @@ use Rattle.bw_delta.proofs.Maps.{find_in_range}
 use Rattle.bw_chain.specs.Chains.{Bases, Records, slot_of_word, slots_of}
 use Rattle.bw_chain.specs.Slots.{Slot, PageState, Body, Pairs, Children, Free, Gone, Live, IsSoundBody, children_of, level_of, side_of, side_of_slot, slot_at}
 use Rattle.bw_chain.specs.Before.{low_of}
+use Rattle.bw_chain.specs.Entries.{AreExact}
 use Rattle.bw_chain.specs.Levels.{AreLevels, IsHome, row, levels_under}
 use Rattle.bw_chain.specs.Reading.{contents_in, row_writes, value_in, writes_over}
 use Rattle.bw_chain.specs.Scans.{high_of}
 use Rattle.bw_chain.specs.Steps.{AreAlike, IsAlike}
 use Rattle.bw_chain.specs.Supports.{base_under}
-use Rattle.bw_chain.proofs.AlikeLemmas.{levels_alike}
+use Rattle.bw_chain.proofs.AlikeLemmas.{exact_alike, levels_alike}
 use Rattle.bw_chain.proofs.BaseLemmas.{low, others_kept, put_there}
 use Rattle.bw_chain.proofs.HomeLemmas.{home_value, one_home}
 use Rattle.bw_chain.proofs.LevelLemmas.{levels_now}
@@ -196,6 +197,7 @@ module _ (heads : List ℕ) (bases : Bases) (records : Records) (root next : ℕ
   standing_new : IsStanding heads' bases' records root next
   standing_new = stands_with heads bases records root next t p word within at_p (LeafPage leaf)
       (subst (AreLevels new.slots root) (sym same_levels) lawful_new)
+      (subst (AreExact new.slots) (sym same_levels) (exact_alike old.slots new.slots alike old.levels t.exact))
       (subst (λ (l : List (List ℕ)). HasDistinctStamps (row_writes new.slots (row l 0))) (sym same_levels) distinct_new)
       (subst (λ (l : List (List ℕ)). AllByRecursion IsPast (row_writes new.slots (row l 0))) (sym same_levels) past_new)
       same_levels

@@ -1,5 +1,5 @@
 -- A leaf with what the tree holds in its range, which consolidation puts in the place of a chain.
-use Rattle.std.proofs.Common.{◌≡◌, ℕ, zero, suc, ◌-◌, ◌<◌, Bool, true, false, cond, ◌&&◌, T, List, [], ◌∷◌, length, get_or, Option, Some, None, is_some, refl, sym, ap, ◌∙◌, subst, arith}
+use Rattle.std.proofs.Common.{◌≡◌, ℕ, zero, suc, ◌<◌, Bool, true, false, cond, ◌&&◌, T, List, [], ◌∷◌, length, get_or, Option, Some, None, is_some, refl, sym, ap, ◌∙◌, subst, arith}
 use Rattle.std.specs.Prelude.{filter}
 use Rattle.std.specs.List.{Contains, list_all}
 use Rattle.std.specs.FinMap.{entries, entries_sorted}
@@ -10,7 +10,6 @@ use Rattle.bw_model.specs.Values.{ValueBytes}
 use Rattle.bw_page.specs.Inners.{IsUpto}
 use Rattle.bw_page.specs.Leaves.{LeafView}
 use Rattle.bw_page.specs.Pages.{IsPage}
-use Rattle.bw_page.proofs.Truths.{holds}
 use Rattle.bw_delta.specs.History.{HasDistinctStamps}
 use Rattle.bw_delta.proofs.Maps.{sorted_in_range}
 use Rattle.bw_chain.specs.Slots.{Slot, Body, Pairs, Children, slot_at, side_of, side_of_slot, IsSoundBody, has_key}

@@ -25,8 +25,10 @@ pub mod EntryLemmas
 pub mod RootLemmas
 pub mod RestartLemmas
 pub mod RebaseLemmas
+pub mod NarrowLemmas
 pub mod UnnamedLemmas
 pub mod ShapeLemmas
 pub mod BoundLemmas
 pub mod MergingLemmas
 pub mod NamingLemmas
+pub mod PageLemmas

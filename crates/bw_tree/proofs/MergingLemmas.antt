@@ -96,15 +96,15 @@ entry_added all some new children rest passed at next e is place puts copied pus
 }
 
 -- What was merged: the children up to a place and the entries so far, which come before all that comes behind these.
-pub record IsMerging (yielded all children : List (KeyBytes × ℕ)) (passed : ℕ) : Type 0 where
+pub record HasMerged (yielded all children : List (KeyBytes × ℕ)) (passed : ℕ) : Type 0 where
   pub within : passed ≤ length children
   pub is : all ++ drop passed children ≡ put_all yielded children
   pub before : (key : KeyBytes) → AreBefore key yielded → AreBefore key all
 
-pub merging_none : (children : List (KeyBytes × ℕ)) → IsMerging [] [] children 0
+pub merging_none : (children : List (KeyBytes × ℕ)) → HasMerged [] [] children 0
 merging_none children = record { within = omega arith; is = refl; before = λ key h. tt }
 
-pub merging_more : (yielded all all' children : List (KeyBytes × ℕ)) (passed next : ℕ) (e : KeyBytes × ℕ) → AreBefore e.0 yielded → IsMerging yielded all children passed → next ≤ length children → HasAdded all all' (drop passed children) (drop next children) e → IsMerging (yielded ++ e ∷ []) all' children next
+pub merging_more : (yielded all all' children : List (KeyBytes × ℕ)) (passed next : ℕ) (e : KeyBytes × ℕ) → AreBefore e.0 yielded → HasMerged yielded all children passed → next ≤ length children → HasAdded all all' (drop passed children) (drop next children) e → HasMerged (yielded ++ e ∷ []) all' children next
 merging_more yielded all all' children passed next e behind m within more = record {
   within = within;
   is =

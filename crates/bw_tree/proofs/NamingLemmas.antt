@@ -1,5 +1,5 @@
 -- A page that names several pages more leaves a tree that holds the same.
-use Rattle.std.proofs.Common.{inl, inr, ◌⊎◌, set, ◌≡◌, ℕ, suc, ◌<◌, ◌≤◌, ◌^◌, true, T, List, [], ◌∷◌, length, Option, Some, None, refl, sym, ap, ◌∙◌, subst, arith}
+use Rattle.std.proofs.Common.{inl, inr, ◌⊎◌, set, ◌≡◌, ℕ, suc, ◌+◌, ◌<◌, ◌≤◌, ◌^◌, true, T, List, [], ◌∷◌, ◌++◌, length, length-append, Option, Some, None, refl, sym, ap, ◌∙◌, subst, arith}
 use Rattle.std.proofs.lemmas.Bool.{cases_eq, cases_lt}
 use Rattle.std.proofs.lemmas.Option.{slice_get-get_or}
 use Rattle.std.proofs.lemmas.List.{get_or-set_same, get_or-set_other, length-map, length-set}
@@ -14,7 +14,7 @@ use Rattle.bw_page.specs.declared.pages.Page.{Page}
 use Rattle.bw_page.proofs.KeyLemmas.{below_back}
 use Rattle.bw_page.proofs.Truths.{both_of, not_holds}
 use Rattle.bw_delta.specs.History.{HasDistinctStamps}
-use Rattle.bw_chain.specs.Chains.{Bases, Records, plain, slot_of_word, slots_of}
+use Rattle.bw_chain.specs.Chains.{Bases, Records, Ends, plain, slot_of_word, slots_of}
 use Rattle.bw_chain.specs.Children.{FitsChild, HasChild, state_with_child}
 use Rattle.bw_chain.specs.Laws.{KeepsAll}
 use Rattle.bw_chain.specs.Levels.{AreLevels, row}
@@ -23,6 +23,7 @@ use Rattle.bw_chain.specs.Slots.{Slot, PageState, Children, Free, Live, slot_at}
 use Rattle.bw_chain.specs.Supports.{base_under}
 use Rattle.bw_chain.proofs.BaseLemmas.{all_end, low, others_kept, own_after, put_there}
 use Rattle.bw_chain.proofs.EntryLemmas.{child_kept}
+use Rattle.bw_chain.proofs.GrowthLemmas.{append_extends, still_ends}
 use Rattle.bw_chain.proofs.ReadingLemmas.{slot_of_head}
 use Rattle.bw_chain.proofs.RouteLemmas.{held}
 use Rattle.bw_chain.proofs.RowLemmas.{in_row}
@@ -34,6 +35,7 @@ use Rattle.bw_tree.specs.View.{StageView, TreeView}
 use Rattle.bw_tree.proofs.AdoptLemmas.{slot_past}
 use Rattle.bw_tree.proofs.RebaseLemmas.{put_on}
 use Rattle.bw_tree.proofs.RoutingLemmas.{page_there}
+use Rattle.bw_tree.proofs.StageLemmas.{stands_on}
 use Rattle.bw_tree.proofs.StandingLemmas.{contents_same, placed_set, same_levels, standing_kept}
 
 one_state : {s t : PageState} → Live s ≡ Live t → s ≡ t
@@ -110,7 +112,7 @@ all_fit_still old new levels p sep child given (e ∷ es) fit =
 
 -- levels stay where a page names children that fit, as they do for each of them
 children_kept : (es : List (KeyBytes × ℕ)) (old new : List Slot) (root : ℕ) (levels : List (List ℕ)) (p : ℕ) → AreLevels old root levels → AllByRecursion (λ e. FitsChild old levels p e.0 e.1) es → HasChildren old new p es → length new ≡ length old → KeepsAll old new root levels levels
-children_kept [] old new root levels p lawful fit given size = subst (λ (s : List Slot). KeepsAll old s root levels levels) (sym same) (record { lawful = lawful; writes = refl; contents = λ distinct stamp. refl })
+children_kept [] old new root levels p lawful fit given size = subst (λ (s : List Slot). KeepsAll old s root levels levels) (sym same) (record { lawful = lawful; exact = λ h. h; writes = refl; contents = λ distinct stamp. refl })
   where
     each : (q : ℕ) → (q ≡ p) ⊎ (q ≡ p → ⊥) → slot_at new q ≡ slot_at old q
     each q (inl here) = ap (slot_at new) here ∙ given.now ∙ sym given.is ∙ ap (slot_at old) (sym here)
@@ -123,6 +125,7 @@ children_kept (e ∷ es) old new root levels p lawful fit given size =
     let rest = children_kept es mid new root levels p first.lawful (all_fit_still old mid levels p e.0 e.1 named es fit.1) others (size ∙ sym (length-set old p (Live next))) in
     record {
       lawful = rest.lawful;
+      exact = λ h. rest.exact (first.exact h);
       writes = rest.writes ∙ first.writes;
       contents = λ distinct stamp. rest.contents (subst HasDistinctStamps (sym first.writes) distinct) stamp ∙ first.contents distinct stamp;
     }
@@ -152,9 +155,19 @@ children_kept (e ∷ es) old new root levels p lawful fit given size =
       others = λ r other. given.others r other ∙ sym (get_or-set_other old p r (Live next) Free other);
     }
 
-module _ (heads : List ℕ) (bases : Bases) (records : Records) (root next : ℕ) (t : IsStanding heads bases records root next) (p : ℕ) (within : p < length heads) (es : List (KeyBytes × ℕ)) (fit : MayHaveChildren (view_of heads bases records root next None) p es) (was : PageState) (is : slot_at (slots_of heads bases records) p ≡ Live was) (page : Page) (made : plain page ≡ Live (state_with_children es was)) where
+module _ (heads : List ℕ) (bases : Bases) (records more : Records) (root next : ℕ) (t : IsStanding heads bases records root next) (few : length (records ++ more) ≤ 2 ^ 32) (p : ℕ) (within : p < length heads) (es : List (KeyBytes × ℕ)) (count : length more ≡ length es) (fit : MayHaveChildren (view_of heads bases records root next None) p es) (was : PageState) (is : slot_at (slots_of heads bases records) p ≡ Live was) (page : Page) (made : plain page ≡ Live (state_with_children es was)) where
   abbrev old : TreeView
   old = view_of heads bases records root next None
+
+  abbrev records' : Records
+  records' = records ++ more
+
+  -- records that no chain names leave all pages as they are
+  longer : (slots_of heads bases records' ≡ slots_of heads bases records) × IsStanding heads bases records' root next
+  longer = stands_on heads bases records records' root next next t (append_extends records more) (omega (arith, length-append records more)) (omega arith) t.fits few
+
+  t' : IsStanding heads bases records' root next
+  t' = longer.1
 
   abbrev word : ℕ
   word = slice_index heads p
@@ -163,7 +176,7 @@ module _ (heads : List ℕ) (bases : Bases) (records : Records) (root next : ℕ
   at_p = slice_get-get_or heads p 0 within
 
   abbrev base : ℕ
-  base = base_under records word
+  base = base_under records' word
 
   abbrev heads' : List ℕ
   heads' = set heads p base
@@ -172,44 +185,45 @@ module _ (heads : List ℕ) (bases : Bases) (records : Records) (root next : ℕ
   bases' = set bases base (Some page)
 
   abbrev new : TreeView
-  new = view_of heads' bases' records root next None
+  new = view_of heads' bases' records' root next None
 
   page_new : slot_at new.slots p ≡ plain page
   page_new =
-      slot_of_head bases' records heads' p 0 (omega (arith, within, length-set heads p base))
-      ∙ ap (slot_of_word bases' records) (get_or-set_same heads p base 0 within)
-      ∙ put_there heads bases records t.ends t.own p word at_p page
+      slot_of_head bases' records' heads' p 0 (omega (arith, within, length-set heads p base))
+      ∙ ap (slot_of_word bases' records') (get_or-set_same heads p base 0 within)
+      ∙ put_there heads bases records' t'.ends t'.own p word at_p page
 
   others_new : (q : ℕ) → (q ≡ p → ⊥) → slot_at new.slots q ≡ slot_at old.slots q
   others_new q other = by (cases_lt q (length heads))
     where
       by : (q < length heads) ⊎ (length heads ≤ q) → slot_at new.slots q ≡ slot_at old.slots q
       by (inl lt) =
-          slot_of_head bases' records heads' q 0 (omega (arith, lt, length-set heads p base))
-          ∙ ap (slot_of_word bases' records) (get_or-set_other heads p q base 0 other)
-          ∙ others_kept heads bases records t.ends t.own p word at_p page q (slice_index heads q) (slice_get-get_or heads q 0 lt) other
-          ∙ sym (slot_of_head bases records heads q 0 lt)
+          slot_of_head bases' records' heads' q 0 (omega (arith, lt, length-set heads p base))
+          ∙ ap (slot_of_word bases' records') (get_or-set_other heads p q base 0 other)
+          ∙ others_kept heads bases records' t'.ends t'.own p word at_p page q (slice_index heads q) (slice_get-get_or heads q 0 lt) other
+          ∙ sym (slot_of_head bases records' heads q 0 lt)
+          ∙ ap (λ (l : List Slot). slot_at l q) longer.0
       by (inr ge) =
-          slot_past (slot_of_word bases' records) heads' q (omega (arith, ge, length-set heads p base))
+          slot_past (slot_of_word bases' records') heads' q (omega (arith, ge, length-set heads p base))
           ∙ sym (slot_past (slot_of_word bases records) heads q ge)
 
   given : HasChildren old.slots new.slots p es
   given = record { was = was; is = is; now = page_new ∙ made; others = others_new }
 
   size : length new.slots ≡ length old.slots
-  size = length-map heads' (slot_of_word bases' records) ∙ length-set heads p base ∙ sym (length-map heads (slot_of_word bases records))
+  size = length-map heads' (slot_of_word bases' records') ∙ length-set heads p base ∙ sym (length-map heads (slot_of_word bases records))
 
   kept : KeepsAll old.slots new.slots root old.levels old.levels
   kept = children_kept es old.slots new.slots root old.levels p t.lawful fit given size
 
   base_low : base < 2 ^ 32
-  base_low = low heads bases records t.ends t.own p word at_p page
+  base_low = low heads bases records' t'.ends t'.own p word at_p page
 
-  standing : IsStanding heads' bases' records root next
-  standing = standing_kept heads bases records root next t heads' bases' records root old.levels kept
-      (all_end heads bases records t.ends t.own p word at_p page)
-      (own_after heads bases records t.ends t.own p word at_p page)
-      t.few_records
+  standing : IsStanding heads' bases' records' root next
+  standing = standing_kept heads bases records root next t heads' bases' records' root old.levels kept
+      (all_end heads bases records' t'.ends t'.own p word at_p page)
+      (own_after heads bases records' t'.ends t'.own p word at_p page)
+      few
       (omega (arith, t.few_pages, length-set heads p base))
       (omega (arith, t.few_bases, length-set bases base (Some page)))
       (placed_set heads old.levels p base within (λ high. absurd (omega (arith, high, base_low))) t.placed)
@@ -220,39 +234,47 @@ module _ (heads : List ℕ) (bases : Bases) (records : Records) (root next : ℕ
   named_all : AreNamed old new p es
   named_all = record {
     named = given;
-    levels = same_levels heads bases records root next t heads' bases' records root old.levels kept;
-    contents = contents_same heads bases records root next t heads' bases' records root old.levels kept;
+    levels = same_levels heads bases records root next t heads' bases' records' root old.levels kept;
+    contents = contents_same heads bases records root next t heads' bases' records' root old.levels kept;
     heads = ap (set heads p) (sym placed);
     plain = subst (λ n. n < 2 ^ 32) (sym placed) base_low;
     root = refl;
-    records = refl;
+    records = length-append records more ∙ ap (λ n. length records + n) count;
     next = refl;
     staged = refl;
   }
 
+-- a word ends where it ended over records behind the others, which no chain names
+pub ends_behind : (bases bases' : Bases) (records records' more : Records) (word : ℕ) → bases' ≡ bases → records' ≡ records ++ more → Ends bases records word → Ends bases' records' word
+ends_behind bases bases' records records' more word same longer ends =
+    subst (λ (b : Bases). Ends b records' word) (sym same)
+    (subst (λ (r : Records). Ends bases r word) (sym longer)
+    (still_ends bases records (records ++ more) word (append_extends records more) (omega (arith, length-append records more)) ends).0)
+
 -- so does a tree that was given the page in the place of the base page
-pub all_named_on : (heads : List ℕ) (bases : Bases) (records : Records) (root next : ℕ) (staged : Option StageWords) (tree : TreeView) (p : ℕ) (es : List (KeyBytes × ℕ)) (page : Page) → IsTree heads bases records root next staged → view_of heads bases records root next staged ≡ tree → tree.staged ≡ None → IsInnerPage tree p → MayHaveChildren tree p es → ((was : PageState) → slot_at tree.slots p ≡ Live was → plain page ≡ Live (state_with_children es was)) →
-    (heads' : List ℕ) (bases' : Bases) (records' : Records) (base : ℕ) → base ≡ base_under records (slice_index heads p) → heads' ≡ set heads p base → bases' ≡ set bases base (Some page) → records' ≡ records →
+pub all_named_on : (heads : List ℕ) (bases : Bases) (records more : Records) (root next : ℕ) (staged : Option StageWords) (tree : TreeView) (p : ℕ) (es : List (KeyBytes × ℕ)) (page : Page) → length more ≡ length es → length (records ++ more) ≤ 2 ^ 32 → IsTree heads bases records root next staged → view_of heads bases records root next staged ≡ tree → tree.staged ≡ None → IsInnerPage tree p → MayHaveChildren tree p es → ((was : PageState) → slot_at tree.slots p ≡ Live was → plain page ≡ Live (state_with_children es was)) →
+    (heads' : List ℕ) (bases' : Bases) (records' : Records) (base : ℕ) → base ≡ base_under (records ++ more) (slice_index heads p) → heads' ≡ set heads p base → bases' ≡ set bases base (Some page) → records' ≡ records ++ more →
     IsTree heads' bases' records' root next staged × AreNamed tree (view_of heads' bases' records' root next staged) p es
-all_named_on heads bases records root next None tree p es page t is none inner fit made heads' bases' records' base based placed put same =
+all_named_on heads bases records more root next None tree p es page count few t is none inner fit made heads' bases' records' base based placed put same =
     let lawful : AreLevels tree.slots root tree.levels = subst (λ (v : TreeView). AreLevels v.slots root v.levels) is t.now.lawful in
     let on = inner.in_levels in
     let st = (in_row tree.slots on.level _ (row tree.levels on.level) on.in_level.0 p (lawful.rows on.level on.within) on.in_level.1 on.in_level.2).stands in
     let here : p < length heads = page_there heads bases records root next next None tree p is t.now on in
     let fit_here : MayHaveChildren (view_of heads bases records root next None) p es = subst (λ (v : TreeView). MayHaveChildren v p es) (sym is) fit in
     let was_here : slot_at (slots_of heads bases records) p ≡ Live st.state = ap (λ (v : TreeView). slot_at v.slots p) is ∙ st.is in
-    put_on IsMade heads bases records p under page (
-      record { now = standing heads bases records root next t.now p here es fit_here st.state was_here page (made st.state st.is); stage = tt },
-      subst (λ (v : TreeView). AreNamed v (view_of (set heads p under) (set bases under (Some page)) records root next None) p es) is (named_all heads bases records root next t.now p here es fit_here st.state was_here page (made st.state st.is)),
+    put_on IsMade heads bases (records ++ more) p under page (
+      record { now = standing heads bases records more root next t.now few p here es count fit_here st.state was_here page (made st.state st.is); stage = tt },
+      subst (λ (v : TreeView). AreNamed v (view_of (set heads p under) (set bases under (Some page)) (records ++ more) root next None) p es) is
+          (named_all heads bases records more root next t.now few p here es count fit_here st.state was_here page (made st.state st.is)),
     )
     heads' bases' records' base based placed put same
   where
     under : ℕ
-    under = base_under records (slice_index heads p)
+    under = base_under (records ++ more) (slice_index heads p)
 
     IsMade : List ℕ → Bases → Records → Type 0
     IsMade h b r = IsTree h b r root next None × AreNamed tree (view_of h b r root next None) p es
-all_named_on heads bases records root next (Some stage) tree p es page t is none inner fit made heads' bases' records' base based placed put same = absurd (unstaged (ap (λ (v : TreeView). v.staged) is ∙ none))
+all_named_on heads bases records more root next (Some stage) tree p es page count few t is none inner fit made heads' bases' records' base based placed put same = absurd (unstaged (ap (λ (v : TreeView). v.staged) is ∙ none))
   where
     unstaged : {s : StageView} → Some s ≡ None → ⊥
     unstaged e = cc

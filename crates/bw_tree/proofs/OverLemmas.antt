@@ -19,6 +19,8 @@ use Rattle.bw_delta.specs.History.{HasDistinctStamps}
 use Rattle.bw_delta.specs.ContentsAsOf.{contents_as_of}
 use Rattle.bw_chain.specs.Slots.{Slot, PageState, Children, Live, slot_at, left_of_slot, children_of}
 use Rattle.bw_chain.specs.Levels.{AreLevels, SideBySide, Stands, StartsWith, LeadsBelow, BeginsWith, FirstChild, row}
+use Rattle.bw_chain.specs.Entries.{AreExact}
+use Rattle.bw_chain.specs.Steps.{IsTerm}
 use Rattle.bw_tree.specs.Making.{AreAbutting, HasRules, IsOverLeaves, base_of_leaf, count_from, leaf_slot, pages_over, pairs_in, terms_from, tree_over}
 use Rattle.bw_tree.specs.View.{TreeView, contents_at}
 use Rattle.bw_chain.specs.Reading.{row_pairs, row_writes}
@@ -54,8 +56,8 @@ none_distinct : HasDistinctStamps []
 unfolding IsDistinct
 none_distinct = tt
 
-over_tree : (bases : Bases) (levels : List (List ℕ)) → AreLevels (over_slots bases) (length bases - 1) levels → row_writes (over_slots bases) (row levels 0) ≡ [] → length bases ≤ 2 ^ 32 → IsTree (count_from 0 (length bases)) bases [] (length bases - 1) 0 None
-over_tree bases levels lawful none few =
+over_tree : (bases : Bases) (levels : List (List ℕ)) → AreLevels (over_slots bases) (length bases - 1) levels → AreExact (over_slots bases) levels → row_writes (over_slots bases) (row levels 0) ≡ [] → length bases ≤ 2 ^ 32 → IsTree (count_from 0 (length bases)) bases [] (length bases - 1) 0 None
+over_tree bases levels lawful exact none few =
     let now = levels_now (over_slots bases) (length bases - 1) levels lawful in
     record {
       stage = tt;
@@ -63,6 +65,7 @@ over_tree bases levels lawful none few =
         ends = over_ends bases few;
         own = over_own bases;
         lawful = subst (AreLevels (over_slots bases) (length bases - 1)) (sym now) lawful;
+        exact = subst (AreExact (over_slots bases)) (sym now) exact;
         distinct = subst (λ (l : List (List ℕ)). HasDistinctStamps (row_writes (over_slots bases) (row l 0))) (sym now) (subst HasDistinctStamps (sym none) none_distinct);
         placed = λ p lt high.
             let at = counted_word 0 (length bases) p (slice_index (count_from 0 (length bases)) p) (slice_get-get_or (count_from 0 (length bases)) p 0 lt) in
@@ -136,7 +139,7 @@ alone_over l abut rules =
       terms = λ n p s k c within. absurd (omega (arith, within));
     } in
     record {
-      tree = over_tree bases levels lawful (leaf_writes slots 0 (l ∷ []) stand) (omega arith);
+      tree = over_tree bases levels lawful one_level (leaf_writes slots 0 (l ∷ []) stand) (omega arith);
       over = record {
         slots = slots_are (l ∷ []) [];
         contents = over_contents bases levels (l ∷ []) lawful refl stand;
@@ -149,6 +152,9 @@ alone_over l abut rules =
       };
     }
   where
+    one_level : {slots : List Slot} → AreExact slots ((0 ∷ []) ∷ [])
+    one_level = record { begins = λ n k c s within. absurd (omega (arith, within)); once = λ n k h c within. absurd (omega (arith, within)) }
+
     rows : (slots : List Slot) → SideBySide slots 0 [] (0 ∷ []) → (n : ℕ) → n < 1 → SideBySide slots n [] (row ((0 ∷ []) ∷ []) n)
     rows slots h zero within = h
     rows slots h (suc n) within = absurd (omega arith)
@@ -228,6 +234,25 @@ module _ (l k : LeafView ValueBytes) (rest : List (LeafView ValueBytes)) (abut :
       }
   terms (suc n) p s key c within has is named = absurd (omega arith)
 
+  -- the leaf that a child of the root is, which begins at its separator
+  child_at : (n : ℕ) (key : KeyBytes) (c : ℕ) → suc n < 2 → IsTerm rooted_slots two_levels n key c → (leaf : LeafView ValueBytes) × (slot_at rooted_slots c ≡ Live (leaf_state leaf)) × (leaf.low ≡ key)
+  child_at zero key c within term =
+      let same = root_is term.page term.state (is_root term.page term.in_level) term.is in
+      let at = term_named 0 given key c (subst (λ (t : PageState). Contains (children_of t.body) (key, c)) (sym same) term.named) in
+      (at.1, ap (slot_at rooted_slots) (sym at.4) ∙ stand at.0 at.1 at.2, at.3)
+  child_at (suc n) key c within term = absurd (omega arith)
+
+  exact : AreExact rooted_slots two_levels
+  exact = record {
+    begins = λ n key c s within term is.
+        let at = child_at n key c within term in
+        ap (λ (t : PageState). t.low) (one_state (sym is ∙ at.1)) ∙ at.2;
+    once = λ n key other c within one more.
+        let a = child_at n key c within one in
+        let b = child_at n other c within more in
+        sym a.2 ∙ ap (λ (t : PageState). t.low) (one_state (sym a.1 ∙ b.1)) ∙ b.2;
+  }
+
   rooted_lawful : AreLevels rooted_slots (length rooted - 1) two_levels
   rooted_lawful = record { some = omega arith; top = omega (arith, rooted_length); rows = rows; firsts = firsts; terms = terms }
 
@@ -236,7 +261,7 @@ module _ (l k : LeafView ValueBytes) (rest : List (LeafView ValueBytes)) (abut :
 
   rooted_over : length rooted ≤ 2 ^ 32 → StandsOver rooted given
   rooted_over few = record {
-    tree = over_tree rooted two_levels rooted_lawful (leaf_writes rooted_slots 0 given stand) few;
+    tree = over_tree rooted two_levels rooted_lawful exact (leaf_writes rooted_slots 0 given stand) few;
     over = record {
       slots = slots_are given (Some (InnerPage (root_of given)) ∷ []);
       contents = over_contents rooted two_levels given rooted_lawful refl stand;

@@ -7,6 +7,7 @@ use Rattle.std.specs.Prelude.{slice_get, slice_index}
 use Rattle.bw_page.specs.declared.pages.Page.{Page}
 use Rattle.bw_delta.specs.History.{HasDistinctStamps}
 use Rattle.bw_chain.specs.Chains.{Bases, Records, Ends, plain, slot_of_word, slots_of}
+use Rattle.bw_chain.specs.Entries.{AreExact}
 use Rattle.bw_chain.specs.Levels.{AreLevels, row, levels_under}
 use Rattle.bw_chain.specs.Slots.{Slot, Body, Pairs, Children, IsSoundInner, body_is_leaf, level_of, slot_at}
 use Rattle.bw_chain.specs.Supports.{base_under}
@@ -37,7 +38,8 @@ sound_there heads bases records root next bound staged tree p head is t inner re
     let lawful : AreLevels tree.slots root tree.levels = subst (λ (v : TreeView). AreLevels v.slots root v.levels) is t.lawful in
     subst IsSoundInner (page_at_head heads bases records root next bound staged tree p head is t inner.in_levels read).slot (inner_sound tree root p lawful inner)
 
--- Pages stand where one took the place of a chain and the levels are the same, if these levels and the writes are lawful.
+-- Pages stand where one took the place of a chain and the levels are the same, if these levels, their index entries and
+-- the writes are lawful.
 module _ (heads : List ℕ) (bases : Bases) (records : Records) (root next : ℕ) (t : IsStanding heads bases records root next) (p word : ℕ) (within : p < length heads) (at : slice_get heads p ≡ Some word) (page : Page) where
   abbrev heads_with : List ℕ
   heads_with = set heads p (base_under records word)
@@ -48,11 +50,12 @@ module _ (heads : List ℕ) (bases : Bases) (records : Records) (root next : ℕ
   abbrev slots_with : List Slot
   slots_with = slots_of heads_with bases_with records
 
-  pub stands_with : AreLevels slots_with root (levels_under slots_with root) → HasDistinctStamps (leaf_writes slots_with root) → AllByRecursion (λ w. w.stamp < next) (leaf_writes slots_with root) → levels_under slots_with root ≡ levels_under (slots_of heads bases records) root → IsStanding heads_with bases_with records root next
-  stands_with lawful distinct past same = record {
+  pub stands_with : AreLevels slots_with root (levels_under slots_with root) → AreExact slots_with (levels_under slots_with root) → HasDistinctStamps (leaf_writes slots_with root) → AllByRecursion (λ w. w.stamp < next) (leaf_writes slots_with root) → levels_under slots_with root ≡ levels_under (slots_of heads bases records) root → IsStanding heads_with bases_with records root next
+  stands_with lawful exact distinct past same = record {
     ends = all_end heads bases records t.ends t.own p word at page;
     own = own_after heads bases records t.ends t.own p word at page;
     lawful = lawful;
+    exact = exact;
     distinct = distinct;
     past = past;
     placed = subst (ArePlaced heads_with) (sym same)
@@ -95,6 +98,7 @@ module _ (heads : List ℕ) (bases : Bases) (records : Records) (root next : ℕ
   standing : IsStanding heads' bases' records root next
   standing = stands_with heads bases records root next t p word within at_p page
       (subst (λ (s : List Slot). AreLevels s root (levels_under s root)) (sym kept) t.lawful)
+      (subst (λ (s : List Slot). AreExact s (levels_under s root)) (sym kept) t.exact)
       (subst (λ (s : List Slot). HasDistinctStamps (leaf_writes s root)) (sym kept) t.distinct)
       (subst (λ (s : List Slot). AllByRecursion (λ w. w.stamp < next) (leaf_writes s root)) (sym kept) t.past)
       (ap (λ (s : List Slot). levels_under s root) kept)

@@ -10,6 +10,7 @@ use Rattle.bw_delta.specs.ContentsAsOf.{contents_as_of}
 use Rattle.bw_delta.specs.History.{HasDistinctStamps}
 use Rattle.bw_delta.specs.Writes.{WriteView}
 use Rattle.bw_chain.specs.Chains.{Bases, Records, Ends, EndsAt, link_of, slot_of_word, slots_of}
+use Rattle.bw_chain.specs.Entries.{AreExact}
 use Rattle.bw_chain.specs.Levels.{AreLevels, row, levels_under}
 use Rattle.bw_chain.specs.Reading.{row_pairs, row_writes, writes_over}
 use Rattle.bw_chain.specs.Slots.{Slot, slot_at}
@@ -97,6 +98,7 @@ module _ (heads : List ℕ) (bases : Bases) (records : Records) (root next : ℕ
         (subst (λ (l : List ℕ). Contains l b) (rests_alone [] v low_p ∙ sym (rests_alone records v low_p)) has_p)
         (subst (λ (l : List ℕ). Contains l b) (rests_alone [] w low_q ∙ sym (rests_alone records w low_q)) has_q);
     lawful = subst (λ (s : List Slot). AreLevels s root (levels_under s root)) (sym same_slots) t.lawful;
+    exact = subst (λ (s : List Slot). AreExact s (levels_under s root)) (sym same_slots) t.exact;
     distinct = subst (λ (s : List Slot). HasDistinctStamps (leaf_writes s root)) (sym same_slots) t.distinct;
     past = subst (λ (s : List Slot). AllByRecursion (λ w. w.stamp < 0) (leaf_writes s root)) (sym same_slots) (subst (λ (l : List WriteView). AllByRecursion (λ w. w.stamp < 0) l) (sym no_writes) tt);
     placed = λ p lt high. absurd (omega (arith, high, each_plain heads p (slice_index heads p) plain (slice_get-get_or heads p 0 lt)));

@@ -5,25 +5,25 @@ use Rattle.std.proofs.lemmas.List.{length-map, length-set}
 use Rattle.std.specs.List.{Contains}
 use Rattle.std.specs.Option.{unwrap_or}
 use Rattle.std.specs.Prelude.{slice_get, slice_index}
-use Rattle.bw_key.specs.Order.{KeyBytes}
 use Rattle.bw_page.specs.declared.pages.Page.{Page}
 use Rattle.bw_delta.specs.declared.deltas.Delta.{Delta}
 use Rattle.bw_delta.specs.declared.deltas.Delta.TheVariants.{Split}
-use Rattle.bw_chain.specs.Chains.{AllEnd, Bases, Records, change, slot_of_word, slots_of}
+use Rattle.bw_chain.specs.Chains.{AllEnd, Bases, ChainsView, Records, change, plain, slot_of_word}
 use Rattle.bw_chain.specs.Slots.{Slot, PageState, Body, Free, Live, slot_at}
 use Rattle.bw_chain.specs.Laws.{KeepsAll}
 use Rattle.bw_chain.specs.Levels.{row}
 use Rattle.bw_chain.specs.Reading.{body_writes, writes_over}
 use Rattle.bw_chain.specs.Searches.{IsInLevels}
-use Rattle.bw_chain.specs.Splits.{IsParted, IsUpperHalf, entry_count, left_part, level_parted, put_behind, right_part, separator, slot_entries, slot_right, slot_separator}
+use Rattle.bw_chain.specs.Splits.{IsCut, IsParted, entry_count, left_part, level_parted, put_behind, right_part, separator, slot_entries, slot_left, slot_right, slot_separator}
 use Rattle.bw_chain.specs.Supports.{OwnBases}
 use Rattle.bw_chain.proofs.AdditionLemmas.{get_last, not_last, page_all_end, page_others, page_own, page_there, record_all_end, record_here, record_others, record_own}
 use Rattle.bw_chain.proofs.BaseLemmas.{get_set_other, get_set_same}
 use Rattle.bw_chain.proofs.ChainLemmas.{no_record, on_base}
+use Rattle.bw_chain.proofs.InPlaceLemmas.{now_end, now_here, now_others, now_own}
 use Rattle.bw_chain.proofs.ReadingLemmas.{no_writes_on_base, slot_of_head}
 use Rattle.bw_chain.proofs.RouteLemmas.{held}
 use Rattle.bw_chain.proofs.RowLemmas.{InRow, in_row}
-use Rattle.bw_chain.proofs.SplitLemmas.{below_is, has_new, parts_kept}
+use Rattle.bw_chain.proofs.SplitLemmas.{cut_is, has_new, parts_kept}
 use Rattle.bw_tree.specs.Splits.{IsSplit, IsSplittable}
 use Rattle.bw_tree.specs.Trees.{ArePlaced, IsStanding, IsTree, StageWords, view_of}
 use Rattle.bw_tree.specs.View.{StageView, TreeView}
@@ -39,7 +39,7 @@ index_is [] i = refl
 index_is (x ∷ xs) zero = refl
 index_is (x ∷ xs) (suc i) = index_is xs i
 
-module _ (heads : List ℕ) (bases : Bases) (records : Records) (root next : ℕ) (t : IsStanding heads bases records root next) (p keep : ℕ) (ok : IsSplittable (view_of heads bases records root next None) p keep) (key : KeyBytes) (right : Page) (half : IsUpperHalf (slot_at (slots_of heads bases records) p) keep (key, right)) (few_pages : length heads < 2 ^ 32) (few_records : length records < 2 ^ 32) (few_bases : length bases < 2 ^ 32 - 1) where
+module _ (heads : List ℕ) (bases : Bases) (records : Records) (root next : ℕ) (t : IsStanding heads bases records root next) (p keep : ℕ) (ok : IsSplittable (view_of heads bases records root next None) p keep) (left right : Page) (first : plain left ≡ slot_left keep (slot_of_word bases records (slice_index heads p))) (others : plain right ≡ slot_right keep (slot_of_word bases records (slice_index heads p))) (few_pages : length heads < 2 ^ 32) (few_records : length records < 2 ^ 32) (few_bases : length bases < 2 ^ 32 - 1) where
   abbrev old : TreeView
   old = view_of heads bases records root next None
 
@@ -62,7 +62,11 @@ module _ (heads : List ℕ) (bases : Bases) (records : Records) (root next : ℕ
   at_p = slice_get-get_or heads p 0 within
 
   abbrev delta : Delta
-  delta = Split key q
+  delta = Split (slot_separator keep (slot_of_word bases records word)) q
+
+  -- the base page was cut before the record came over it
+  abbrev bases1 : Bases
+  bases1 = set bases word (Some left)
 
   abbrev records' : Records
   records' = records ++ (delta, word) ∷ []
@@ -74,10 +78,10 @@ module _ (heads : List ℕ) (bases : Bases) (records : Records) (root next : ℕ
   heads1 = set heads p new_word
 
   abbrev heads' : List ℕ
-  heads' = heads1 ++ length bases ∷ []
+  heads' = heads1 ++ length bases1 ∷ []
 
   abbrev bases' : Bases
-  bases' = bases ++ Some right ∷ []
+  bases' = bases1 ++ Some right ∷ []
 
   abbrev new : TreeView
   new = view_of heads' bases' records' root next None
@@ -85,14 +89,26 @@ module _ (heads : List ℕ) (bases : Bases) (records : Records) (root next : ℕ
   pages1 : length heads1 ≡ length heads
   pages1 = length-set heads p new_word
 
-  few : length bases < 2 ^ 32
-  few = omega (arith, few_bases)
+  same_count : length bases1 ≡ length bases
+  same_count = length-set bases word (Some left)
 
-  ends1 : AllEnd bases records' heads1
-  ends1 = record_all_end heads bases records t.ends t.own p word at_p ok.plain delta refl
+  few : length bases1 < 2 ^ 32
+  few = omega (arith, few_bases, same_count)
 
-  own1 : OwnBases heads1 bases records'
-  own1 = record_own heads bases records t.ends t.own p word at_p ok.plain delta refl
+  ends0 : AllEnd bases1 records heads
+  ends0 = now_end heads bases records t.ends t.own p word at_p ok.plain left
+
+  own0 : OwnBases heads bases1 records
+  own0 = now_own heads bases records t.ends t.own p word at_p ok.plain left
+
+  ends1 : AllEnd bases1 records' heads1
+  ends1 = record_all_end heads bases1 records ends0 own0 p word at_p ok.plain delta refl
+
+  own1 : OwnBases heads1 bases1 records'
+  own1 = record_own heads bases1 records ends0 own0 p word at_p ok.plain delta refl
+
+  here : slot_of_word bases records word ≡ Live was
+  here = sym (slot_of_head bases records heads p 0 within) ∙ at.stands.is
 
   fewer : keep < entry_count was.body
   fewer = subst (λ (o : Slot). keep < slot_entries o) at.stands.is ok.fewer
@@ -105,17 +121,17 @@ module _ (heads : List ℕ) (bases : Bases) (records : Records) (root next : ℕ
 
   left_now : slot_at new.slots p ≡ Live (left_part keep q was)
   left_now =
-      page_others heads1 bases records' ends1 own1 few right p (λ e. omega (arith, within, pages1, e))
-      ∙ record_here heads bases records t.ends t.own p word at_p ok.plain delta refl
-      ∙ ap (change bases delta) at.stands.is
-      ∙ ap (λ (k : KeyBytes). change bases (Split k q) (Live was)) (half.0 ∙ ap (slot_separator keep) at.stands.is)
-      ∙ ap (λ (b : Body). Live (record { low = was.low; high = Some (separator keep was.body); side = Some q; body = b })) (below_is was.low was.high was.side keep was.body at.stands.sound fewer)
+      page_others heads1 bases1 records' ends1 own1 few right p (λ e. omega (arith, within, pages1, e))
+      ∙ record_here heads bases1 records ends0 own0 p word at_p ok.plain delta refl
+      ∙ ap (change bases1 delta) (now_here heads bases records t.ends t.own p word at_p ok.plain left ∙ first)
+      ∙ ap (λ (o : Slot). change bases1 (Split (slot_separator keep o) q) (slot_left keep o)) here
+      ∙ ap (λ (b : Body). Live (record { low = was.low; high = Some (separator keep was.body); side = Some q; body = b })) (cut_is was.low was.high was.side keep was.body at.stands.sound fewer)
 
   right_now : slot_at new.slots q ≡ Live (right_part keep was)
   right_now =
       ap (slot_at new.slots) (sym pages1)
-      ∙ page_there heads1 bases records' ends1 own1 few right
-      ∙ half.1 ∙ ap (slot_right keep) at.stands.is
+      ∙ page_there heads1 bases1 records' ends1 own1 few right
+      ∙ others ∙ ap (slot_right keep) here
 
   parted : IsParted old.slots new.slots p q keep
   parted = record {
@@ -128,8 +144,9 @@ module _ (heads : List ℕ) (bases : Bases) (records : Records) (root next : ℕ
     left = left_now;
     right = right_now;
     others = λ r other old_one.
-        page_others heads1 bases records' ends1 own1 few right r (λ e. old_one (e ∙ pages1))
-        ∙ record_others heads bases records t.ends t.own p word at_p ok.plain delta refl r other;
+        page_others heads1 bases1 records' ends1 own1 few right r (λ e. old_one (e ∙ pages1))
+        ∙ record_others heads bases1 records ends0 own0 p word at_p ok.plain delta refl r other
+        ∙ now_others heads bases records t.ends t.own p word at_p ok.plain left r other;
   }
 
   kept : (level : ℕ) → level < length old.levels → Contains (row old.levels level) p → KeepsAll old.slots new.slots root old.levels (level_parted old.levels level p q)
@@ -149,27 +166,27 @@ module _ (heads : List ℕ) (bases : Bases) (records : Records) (root next : ℕ
   }
 
   placed_new : ArePlaced heads' after
-  placed_new = placed_added heads1 after (length bases) few
+  placed_new = placed_added heads1 after (length bases1) few
       (placed_set heads after p new_word within (λ high. still_in p (record { level = ok.level; within = ok.within; in_level = ok.in_level }))
       (λ r lt high. still_in r (t.placed r lt high)))
 
   pub standing_new : IsStanding heads' bases' records' root next
   standing_new = standing_kept heads bases records root next t heads' bases' records' root after (kept ok.level ok.within ok.in_level)
-      (page_all_end heads1 bases records' ends1 own1 few right)
-      (page_own heads1 bases records' ends1 own1 few right)
+      (page_all_end heads1 bases1 records' ends1 own1 few right)
+      (page_own heads1 bases1 records' ends1 own1 few right)
       (omega (arith, few_records, length-append records ((delta, word) ∷ [])))
-      (omega (arith, few_pages, pages1, length-append heads1 (length bases ∷ [])))
-      (omega (arith, few_bases, length-append bases (Some right ∷ [])))
+      (omega (arith, few_pages, pages1, length-append heads1 (length bases1 ∷ [])))
+      (omega (arith, few_bases, same_count, length-append bases1 (Some right ∷ [])))
       placed_new
 
   word_at : (r : ℕ) (o : Option ℕ) → slice_get heads' r ≡ o → slice_index heads' r ≡ unwrap_or o 0
   word_at r o e = index_is heads' r ∙ ap (λ (x : Option ℕ). unwrap_or x 0) e
 
   get_p : slice_get heads' p ≡ Some new_word
-  get_p = not_last heads1 (length bases) p (λ e. omega (arith, within, pages1, e)) ∙ get_set_same heads p new_word within
+  get_p = not_last heads1 (length bases1) p (λ e. omega (arith, within, pages1, e)) ∙ get_set_same heads p new_word within
 
-  get_q : slice_get heads' q ≡ Some (length bases)
-  get_q = ap (slice_get heads') (sym pages1) ∙ get_last heads1 (length bases)
+  get_q : slice_get heads' q ≡ Some (length bases1)
+  get_q = ap (slice_get heads') (sym pages1) ∙ get_last heads1 (length bases1)
 
   pub split_new : IsSplit old new p keep q
   split_new = record {
@@ -177,12 +194,12 @@ module _ (heads : List ℕ) (bases : Bases) (records : Records) (root next : ℕ
     levels = same_levels;
     contents = contents_same heads bases records root next t heads' bases' records' root (level_parted old.levels ok.level p q) (kept ok.level ok.within ok.in_level);
     page = refl;
-    pages = omega (arith, pages1, length-append heads1 (length bases ∷ []));
+    pages = omega (arith, pages1, length-append heads1 (length bases1 ∷ []));
     heads = λ r other old_one.
-        word_at r (slice_get heads r) (not_last heads1 (length bases) r (λ e. old_one (e ∙ pages1)) ∙ get_set_other heads p r new_word other)
+        word_at r (slice_get heads r) (not_last heads1 (length bases1) r (λ e. old_one (e ∙ pages1)) ∙ get_set_other heads p r new_word other)
         ∙ sym (index_is heads r);
     changed = omega (arith, word_at p (Some new_word) get_p);
-    plain = omega (arith, few, word_at q (Some (length bases)) get_q);
+    plain = omega (arith, few, word_at q (Some (length bases1)) get_q);
     root = refl;
     records = omega (arith, length-append records ((delta, word) ∷ []));
     next = refl;
@@ -198,38 +215,53 @@ module _ (heads : List ℕ) (bases : Bases) (records : Records) (root next : ℕ
   ok_here : IsSplittable (view_of heads bases records root next None) p keep
   ok_here = subst (λ (v : TreeView). IsSplittable v p keep) (sym is) ok
 
+  abbrev word_under : ℕ
+  word_under = slice_index heads p
+
+  abbrev slot_there : Slot
+  slot_there = slot_of_word bases records word_under
+
+  abbrev chains : ChainsView
+  chains = record { bases = bases; records = records }
+
   abbrev IsMade : List ℕ → Bases → Records → ℕ → Type 0
   IsMade h b r q = IsTree h b r root next None × IsSplit tree (view_of h b r root next None) p keep q
 
-  made_here : (key : KeyBytes) (right : Page) → IsUpperHalf (slot_at tree.slots p) keep (key, right) → length heads < 2 ^ 32 → length records < 2 ^ 32 → length bases < 2 ^ 32 - 1 →
-      IsMade (set heads p (2 ^ 32 + length records) ++ length bases ∷ []) (bases ++ Some right ∷ []) (records ++ (Split key (length heads), slice_index heads p) ∷ []) (length heads)
-  made_here key right half few_pages few_records few_bases =
-      let half_here : IsUpperHalf (slot_at (slots_of heads bases records) p) keep (key, right) = subst (λ (v : TreeView). IsUpperHalf (slot_at v.slots p) keep (key, right)) (sym is) half in (
-        record { now = standing_new heads bases records root next t.now p keep ok_here key right half_here few_pages few_records few_bases; stage = tt },
-        subst (λ (v : TreeView). IsSplit v (view_of (set heads p (2 ^ 32 + length records) ++ length bases ∷ []) (bases ++ Some right ∷ []) (records ++ (Split key (length heads), slice_index heads p) ∷ []) root next None) p keep (length heads)) is
-            (split_new heads bases records root next t.now p keep ok_here key right half_here few_pages few_records few_bases),
-      )
+  made_here : (left right : Page) → plain left ≡ slot_left keep slot_there → plain right ≡ slot_right keep slot_there → length heads < 2 ^ 32 → length records < 2 ^ 32 → length bases < 2 ^ 32 - 1 →
+      IsMade (set heads p (2 ^ 32 + length records) ++ length (set bases word_under (Some left)) ∷ []) (set bases word_under (Some left) ++ Some right ∷ []) (records ++ (Split (slot_separator keep slot_there) (length heads), word_under) ∷ []) (length heads)
+  made_here left right first others few_pages few_records few_bases = (
+    record { now = standing_new heads bases records root next t.now p keep ok_here left right first others few_pages few_records few_bases; stage = tt },
+    subst (λ (v : TreeView). IsSplit v (view_of (set heads p (2 ^ 32 + length records) ++ length (set bases word_under (Some left)) ∷ []) (set bases word_under (Some left) ++ Some right ∷ []) (records ++ (Split (slot_separator keep slot_there) (length heads), word_under) ∷ []) root next None) p keep (length heads)) is
+        (split_new heads bases records root next t.now p keep ok_here left right first others few_pages few_records few_bases),
+  )
 
-  made_on : (key : KeyBytes) (right : Page) → IsUpperHalf (slot_at tree.slots p) keep (key, right) → length heads < 2 ^ 32 → length records < 2 ^ 32 → length bases < 2 ^ 32 - 1 →
-      (hs : List ℕ) (bs : Bases) (rs : Records) (q w number under : ℕ) → q ≡ length heads → w ≡ 2 ^ 32 + length records → number ≡ length bases → under ≡ slice_index heads p →
-      hs ≡ set heads p w ++ number ∷ [] → bs ≡ bases ++ Some right ∷ [] → rs ≡ records ++ (Split key q, under) ∷ [] → IsMade hs bs rs q
-  made_on key right half few_pages few_records few_bases hs bs rs q w number under q_is word_is number_is under_is heads_are bases_are records_are =
-      subst (λ (r : Records). IsMade hs bs r q) (sym records_are)
-      (subst (λ (b : Bases). IsMade hs b (records ++ (Split key q, under) ∷ []) q) (sym bases_are)
-      (subst (λ (h : List ℕ). IsMade h (bases ++ Some right ∷ []) (records ++ (Split key q, under) ∷ []) q) (sym heads_are)
-      (subst (λ x. IsMade (set heads p x ++ number ∷ []) (bases ++ Some right ∷ []) (records ++ (Split key q, under) ∷ []) q) (sym word_is)
-      (subst (λ n. IsMade (set heads p (2 ^ 32 + length records) ++ n ∷ []) (bases ++ Some right ∷ []) (records ++ (Split key q, under) ∷ []) q) (sym number_is)
-      (subst (λ e. IsMade (set heads p (2 ^ 32 + length records) ++ length bases ∷ []) (bases ++ Some right ∷ []) (records ++ (Split key q, e) ∷ []) q) (sym under_is)
-      (subst (λ n. IsMade (set heads p (2 ^ 32 + length records) ++ length bases ∷ []) (bases ++ Some right ∷ []) (records ++ (Split key n, slice_index heads p) ∷ []) n) (sym q_is)
-      (made_here key right half few_pages few_records few_bases)))))))
+  made_at : (hs : List ℕ) (bs : Bases) (rs : Records) (w number : ℕ) → IsCut chains (record { bases = bs; records = rs }) word_under keep (length heads) → length heads < 2 ^ 32 → length records < 2 ^ 32 → length bases < 2 ^ 32 - 1 →
+      w ≡ 2 ^ 32 + length records → number ≡ length bases → hs ≡ set heads p w ++ number ∷ [] → IsMade hs bs rs (length heads)
+  made_at hs bs rs w number cut few_pages few_records few_bases word_is number_is heads_are =
+      let placed : hs ≡ set heads p (2 ^ 32 + length records) ++ length (set bases word_under (Some cut.left)) ∷ [] =
+      heads_are
+      ∙ ap (λ n. set heads p n ++ number ∷ []) word_is
+      ∙ ap (λ n. set heads p (2 ^ 32 + length records) ++ n ∷ []) (number_is ∙ sym (length-set bases word_under (Some cut.left)))
+      in
+      subst (λ (r : Records). IsMade hs bs r (length heads)) (sym cut.records)
+      (subst (λ (b : Bases). IsMade hs b (records ++ (Split (slot_separator keep slot_there) (length heads), word_under) ∷ []) (length heads)) (sym cut.bases)
+      (subst (λ (h : List ℕ). IsMade h (set bases word_under (Some cut.left) ++ Some cut.right ∷ []) (records ++ (Split (slot_separator keep slot_there) (length heads), word_under) ∷ []) (length heads)) (sym placed)
+      (made_here cut.left cut.right cut.first cut.others few_pages few_records few_bases)))
+
+  made_on : (hs : List ℕ) (bs : Bases) (rs : Records) (q w number under : ℕ) → IsCut chains (record { bases = bs; records = rs }) under keep q → length heads < 2 ^ 32 → length records < 2 ^ 32 → length bases < 2 ^ 32 - 1 →
+      q ≡ length heads → w ≡ 2 ^ 32 + length records → number ≡ length bases → under ≡ slice_index heads p → hs ≡ set heads p w ++ number ∷ [] → IsMade hs bs rs q
+  made_on hs bs rs q w number under cut few_pages few_records few_bases q_is word_is number_is under_is heads_are =
+      subst (IsMade hs bs rs) (sym q_is)
+      (made_at hs bs rs w number
+      (subst (IsCut chains (record { bases = bs; records = rs }) word_under keep) q_is (subst (λ u. IsCut chains (record { bases = bs; records = rs }) u keep q) under_is cut))
+      few_pages few_records few_bases word_is number_is heads_are)
 
 unstaged : {s : StageView} → Some s ≡ None → ⊥
 unstaged e = cc
 
 pub split_on : (heads : List ℕ) (bases : Bases) (records : Records) (root next : ℕ) (staged : Option StageWords) (tree : TreeView) → view_of heads bases records root next staged ≡ tree → tree.staged ≡ None → IsTree heads bases records root next staged → (p keep : ℕ) → IsSplittable tree p keep →
-    (key : KeyBytes) (right : Page) → IsUpperHalf (slot_at tree.slots p) keep (key, right) → length heads < 2 ^ 32 → length records < 2 ^ 32 → length bases < 2 ^ 32 - 1 →
-    (heads' : List ℕ) (bases' : Bases) (records' : Records) (q word number under : ℕ) → q ≡ length heads → word ≡ 2 ^ 32 + length records → number ≡ length bases → under ≡ slice_index heads p →
-    heads' ≡ set heads p word ++ number ∷ [] → bases' ≡ bases ++ Some right ∷ [] → records' ≡ records ++ (Split key q, under) ∷ [] →
+    (heads' : List ℕ) (bases' : Bases) (records' : Records) (q word number under : ℕ) → IsCut (record { bases = bases; records = records }) (record { bases = bases'; records = records' }) under keep q → length heads < 2 ^ 32 → length records < 2 ^ 32 → length bases < 2 ^ 32 - 1 →
+    q ≡ length heads → word ≡ 2 ^ 32 + length records → number ≡ length bases → under ≡ slice_index heads p → heads' ≡ set heads p word ++ number ∷ [] →
     IsTree heads' bases' records' root next staged × IsSplit tree (view_of heads' bases' records' root next staged) p keep q
 split_on heads bases records root next None tree is none t p keep ok = made_on heads bases records root next tree is t p keep ok
 split_on heads bases records root next (Some stage) tree is none t p keep ok = absurd (unstaged (ap (λ (v : TreeView). v.staged) is ∙ none))

@@ -12,6 +12,7 @@ use Rattle.bw_delta.specs.declared.deltas.Delta.TheVariants.{Put}
 use Rattle.bw_delta.proofs.Batches.{rising_batch}
 use Rattle.bw_delta.proofs.Stagings.{AreBelow, batch_below, below_all, over_read}
 use Rattle.bw_chain.specs.Slots.{Slot}
+use Rattle.bw_chain.specs.Entries.{AreExact}
 use Rattle.bw_chain.specs.Levels.{AreLevels, row, levels_under}
 use Rattle.bw_chain.specs.Chains.{Bases, Records, slot_of_word, slots_of}
 use Rattle.bw_chain.proofs.RecordLemmas.{unlinked_put, writes_unlinked}
@@ -34,6 +35,7 @@ stands_on heads bases old new root bound later t kept more le fits few = (
         (subst (λ (l : List ℕ). Contains l b) (still_rests bases old new v kept more (t.ends p v at_p)) has_p)
         (subst (λ (l : List ℕ). Contains l b) (still_rests bases old new w kept more (t.ends q w at_q)) has_q);
     lawful = subst (λ (s : List Slot). AreLevels s root (levels_under s root)) (sym same) t.lawful;
+    exact = subst (λ (s : List Slot). AreExact s (levels_under s root)) (sym same) t.exact;
     distinct = subst (λ (s : List Slot). HasDistinctStamps (row_writes s (row (levels_under s root) 0))) (sym same) t.distinct;
     past = subst (λ (s : List Slot). AreBelow later (row_writes s (row (levels_under s root) 0))) (sym same) (below_all bound later (row_writes (slots_of heads bases old) (row (levels_under (slots_of heads bases old) root) 0)) le t.past);
     placed = subst (λ (s : List Slot). ArePlaced heads (levels_under s root)) (sym same) t.placed;

@@ -7,6 +7,7 @@ use Rattle.std.specs.List.{AllByRecursion}
 use Rattle.bw_delta.specs.History.{HasDistinctStamps}
 use Rattle.bw_delta.specs.Writes.{WriteView}
 use Rattle.bw_chain.specs.Chains.{AllEnd, Bases, Records, slots_of}
+use Rattle.bw_chain.specs.Entries.{AreExact}
 use Rattle.bw_chain.specs.Laws.{KeepsAll}
 use Rattle.bw_chain.specs.Levels.{AreLevels, levels_under, row}
 use Rattle.bw_chain.specs.Reading.{contents_in, row_writes}
@@ -68,6 +69,7 @@ module _ (heads : List ℕ) (bases : Bases) (records : Records) (root next : ℕ
         ends = ends;
         own = own;
         lawful = subst (AreLevels new_slots root') (sym same) kept.lawful;
+        exact = subst (AreExact new_slots) (sym same) (kept.exact t.exact);
         distinct = subst (λ (l : List (List ℕ)). HasDistinctStamps (row_writes new_slots (row l 0))) (sym same) (subst HasDistinctStamps (sym kept.writes) t.distinct);
         past = subst (λ (l : List (List ℕ)). AllByRecursion IsPast (row_writes new_slots (row l 0))) (sym same) (subst (AllByRecursion IsPast) (sym kept.writes) t.past);
         placed = subst (ArePlaced heads') (sym same) placed;

@@ -42,8 +42,8 @@ pub record HasChildren (old new : List Slot) (parent : ℕ) (entries : List (Key
   pub now : slot_at new parent ≡ Live (state_with_children entries was)
   pub others : (r : ℕ) → (r ≡ parent → ⊥) → slot_at new r ≡ slot_at old r
 
--- The page names the children as well, and is a base page by itself. All other pages are as before, and so are the levels
--- and what the tree holds.
+-- The page names the children as well, and is a base page by itself. There is a record more for each of them, which no
+-- chain names. All other pages are as before, and so are the levels and what the tree holds.
 pub record AreNamed (old new : TreeView) (parent : ℕ) (entries : List (KeyBytes × ℕ)) : Type 0 where
   pub named : HasChildren old.slots new.slots parent entries
   pub levels : new.levels ≡ old.levels
@@ -51,7 +51,7 @@ pub record AreNamed (old new : TreeView) (parent : ℕ) (entries : List (KeyByte
   pub heads : new.heads ≡ slice_set old.heads parent (slice_index new.heads parent)
   pub plain : slice_index new.heads parent < 2 ^ 32
   pub root : new.root ≡ old.root
-  pub records : new.records ≡ old.records
+  pub records : new.records ≡ old.records + length entries
   pub next : new.next ≡ old.next
   pub staged : new.staged ≡ None
 

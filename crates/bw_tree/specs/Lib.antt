@@ -25,3 +25,4 @@ pub mod Merging
 pub mod Children
 pub mod Roots
 pub mod Shapes
+pub mod Pages

@@ -8,10 +8,10 @@ use Rattle.bw_model.specs.Contents.{is_below_end}
 use Rattle.bw_page.specs.Inners.{InnerView}
 use Rattle.bw_chain.specs.Searches.{IsInLevels, plain_inner}
 use Rattle.bw_chain.specs.declared.target.Target.{Target}
-use Rattle.bw_chain.specs.Levels.{IsHome, row}
+use Rattle.bw_chain.specs.Levels.{IsHome, IsHomeAt, row}
 use Rattle.bw_chain.specs.Scans.{high_of}
 use Rattle.bw_chain.specs.Slots.{slot_at}
-use Rattle.bw_chain.specs.Targets.{AreAtHome}
+use Rattle.bw_chain.specs.Targets.{AreAtHome, StandsOnAll}
 use Rattle.bw_tree.specs.View.{TreeView}
 
 -- what contracts see of searches: the tree, and where the range of the leaf ends that the last one found
@@ -59,3 +59,8 @@ pub record IsFound (tree : TreeView) (key : KeyBytes) (end : Option KeyBytes) (p
   pub home : IsHome tree.slots tree.levels key page
   pub there : page < length tree.heads
   pub is : end ≡ high_of (slot_at tree.slots page)
+
+-- each key that stands for what is sought, on all pages, is at home on this page of a level
+abbrev pub AreAtHomeOn : TreeView → Target → ℕ → ℕ → Type 0
+AreAtHomeOn tree target level p =
+    (key : KeyBytes) → StandsOnAll tree.slots target key → IsHomeAt tree.slots tree.levels key level p

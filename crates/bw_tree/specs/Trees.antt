@@ -7,6 +7,7 @@ use Rattle.bw_delta.specs.History.{HasDistinctStamps}
 use Rattle.bw_delta.specs.Rising.{HasRisingStamps}
 use Rattle.bw_chain.specs.Slots.{Slot}
 use Rattle.bw_chain.specs.Levels.{AreLevels, row, levels_under}
+use Rattle.bw_chain.specs.Entries.{AreExact}
 use Rattle.bw_chain.specs.Chains.{AllEnd, Bases, Records, slots_of}
 use Rattle.bw_chain.specs.Records.{put_records, writes_in}
 use Rattle.bw_chain.specs.Reading.{row_writes}
@@ -24,11 +25,13 @@ leaf_writes slots root = row_writes slots (row (levels_under slots root) 0)
 abbrev pub ArePlaced : List ℕ → List (List ℕ) → Type 0
 ArePlaced heads levels = (p : ℕ) → p < length heads → 2 ^ 32 ≤ slice_index heads p → IsInLevels levels p
 
--- Pages that form levels, each on base pages of its own, with writes whose stamps are distinct and below a bound.
+-- Pages that form levels with exact index entries, each page on base pages of its own, with writes whose stamps are
+-- distinct and below a bound.
 pub record IsStanding (heads : List ℕ) (bases : Bases) (records : Records) (root bound : ℕ) : Type 0 where
   pub ends : AllEnd bases records heads
   pub own : OwnBases heads bases records
   pub lawful : AreLevels (slots_of heads bases records) root (levels_under (slots_of heads bases records) root)
+  pub exact : AreExact (slots_of heads bases records) (levels_under (slots_of heads bases records) root)
   pub distinct : HasDistinctStamps (leaf_writes (slots_of heads bases records) root)
   pub past : AllByRecursion (λ w. w.stamp < bound) (leaf_writes (slots_of heads bases records) root)
   pub placed : ArePlaced heads (levels_under (slots_of heads bases records) root)

@@ -1,6 +1,7 @@
 // The tree.
 ghost use Rattle.std.specs.Prelude.{◌≡◌, ℕ, ◌-◌, ◌<◌, ◌≤◌, ◌^◌, [], ◌∷◌, None, length, slice_index, IfOk};
 ghost use Rattle.std.specs.FinMap.{empty};
+ghost use Rattle.bw_chain.specs.Entries.{AreExact};
 ghost use Rattle.bw_chain.specs.Levels.{AreLevels, row};
 ghost use Rattle.bw_chain.specs.Searches.{IsInLevels};
 ghost use Rattle.bw_delta.specs.History.{HasDistinctStamps};
@@ -19,6 +20,7 @@ mod consolidation;
 mod counts;
 mod merging;
 mod naming;
+mod pages;
 mod reading;
 mod restart;
 mod roots;
@@ -176,8 +178,20 @@ impl Tree {
         let _ = &self.root;
     }
 
+    /// What every tree keeps of its index entries: each names the page of the level below that begins at its separator, or a
+    /// removed page, and none names a page that another one names. So once the entry at the key where a page begins is gone,
+    /// no separator names the page, which is what giving its identifier back asks. A caller's proof knows it behind this
+    /// call, which does nothing.
+    pub fn know_entries(&self)
+        ensures { AreExact self.now.slots self.now.levels }
+    {
+        // A look at a field is what makes the type's rule known here.
+        let _ = &self.root;
+    }
+
     /// What every tree keeps of its mapping words: a page of a level has one, a page that has records stands on a level, one
-    /// that has none has no writes, and each page has an identifier of 32 bits. A caller's proof knows it behind this call, which does nothing.
+    /// that has none has no writes, and each page has an identifier of 32 bits. A caller's proof knows it behind this call,
+    /// which does nothing.
     pub fn know_records(&self)
         ensures there { (p : ℕ) → IsInLevels self.now.levels p → p < length self.now.heads }
         ensures placed { ArePlaced self.now.heads self.now.levels }

@@ -2,6 +2,7 @@
 // refused in turn.
 mod consolidation;
 mod drops;
+mod levels;
 mod making;
 mod naming;
 mod pages;

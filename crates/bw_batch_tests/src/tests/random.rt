@@ -52,7 +52,7 @@ fn batch<R: Abort>(rt: &R, make: &Maker<R>, random: &mut Random) -> Vec<Op, Allo
 }
 
 // Runs batches that are drawn from a seed, some 1,800 writes on a few keys, with so many workers and pieces of so many
-// records: leaves are consolidated and split among them.
+// records: the one leaf is consolidated among them, and with so few keys never split.
 fn compare<R: Abort + Threads + Sync>(
     rt: &R,
     make: &Maker<R>,

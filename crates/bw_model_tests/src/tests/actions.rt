@@ -1,18 +1,38 @@
 // What each write answers and leaves.
+ghost use Rattle.std.specs.Prelude.{◌≡◌, is_some, true};
+ghost use Rattle.bw_model.specs.Model.{key_of};
+
 use super::making::Maker;
-use bw_model::{Action, Op, Reply, Value};
+use bw_fixtures::{TextOp, TextReply, is_reply};
+use bw_model::{Action, Op, Value};
 use std::process::Abort;
 
-// Compares what a write answers and leaves at a key that had this value.
-fn compare<R: Abort>(
-    rt: &R,
-    make: &Maker<R>,
-    (action, before): (Action, Option<&'static str>),
-    (reply, after): (Reply, Option<&'static str>),
-) {
+// What an operation does with the value at its key, if it writes.
+fn action_of<R: Abort>(rt: &R, make: &Maker<R>, text: TextOp) -> Action {
+    match text {
+        TextOp::Insert(_, put) => Action::Insert(make.value(put)),
+        TextOp::Upsert(_, put) => Action::Upsert(make.value(put)),
+        TextOp::Update(_, put) => Action::Update(make.value(put)),
+        TextOp::Delete(_) => Action::Delete,
+        TextOp::SwapIf(_, old, new) => Action::SwapIf(make.value(old), make.value(new)),
+        _ => panic!(rt; "an operation that writes"),
+    }
+}
+
+// A write, the value before it, its reply, and the value behind it.
+type Row = (
+    TextOp,
+    Option<&'static str>,
+    TextReply,
+    Option<&'static str>,
+);
+
+// Compares what a write answers and leaves.
+fn compare<R: Abort>(rt: &R, make: &Maker<R>, (text, before, reply, after): Row) {
+    let action = action_of(rt, make, text);
     let before = make.value_or_none(before);
     let answer = action.answer(before.as_ref()).expect(rt, "memory");
-    assert!(rt; answer == reply);
+    assert!(rt; is_reply(&answer, reply));
     assert!(rt; is(action.effect(before.as_ref()), after));
 }
 
@@ -28,72 +48,113 @@ fn is(value: Option<&Value>, text: Option<&'static str>) -> bool {
 #[test]
 fn each_write_over_a_value(rt: HostRuntime) {
     let make = Maker::new(&rt, rt.alloc());
-    let insert = Action::Insert(make.value("2"));
-    compare(&rt, &make, (insert, Some("1")), (make.held("1"), Some("1")));
-    let upsert = Action::Upsert(make.value("2"));
-    compare(&rt, &make, (upsert, Some("1")), (make.was("1"), Some("2")));
-    let update = Action::Update(make.value("2"));
-    compare(&rt, &make, (update, Some("1")), (make.was("1"), Some("2")));
-    let delete = Action::Delete;
-    compare(&rt, &make, (delete, Some("1")), (make.was("1"), None));
-    let swap_if = Action::SwapIf(make.value("1"), make.value("2"));
-    compare(&rt, &make, (swap_if, Some("1")), (make.was("1"), Some("2")));
-    let swap_if = Action::SwapIf(make.value("3"), make.value("2"));
-    compare(
-        &rt,
-        &make,
-        (swap_if, Some("1")),
-        (make.held("1"), Some("1")),
-    );
+    let one = Some("1");
+    let rows: [Row; 6] = [
+        (TextOp::Insert("k", "2"), one, TextReply::Held("1"), one),
+        (
+            TextOp::Upsert("k", "2"),
+            one,
+            TextReply::Was("1"),
+            Some("2"),
+        ),
+        (
+            TextOp::Update("k", "2"),
+            one,
+            TextReply::Was("1"),
+            Some("2"),
+        ),
+        (TextOp::Delete("k"), one, TextReply::Was("1"), None),
+        (
+            TextOp::SwapIf("k", "1", "2"),
+            one,
+            TextReply::Was("1"),
+            Some("2"),
+        ),
+        (
+            TextOp::SwapIf("k", "3", "2"),
+            one,
+            TextReply::Held("1"),
+            one,
+        ),
+    ];
+    for row in rows {
+        compare(&rt, &make, row);
+    }
 }
 
 #[test]
 fn each_write_where_there_is_no_value(rt: HostRuntime) {
     let make = Maker::new(&rt, rt.alloc());
-    let insert = Action::Insert(make.value("2"));
-    compare(&rt, &make, (insert, None), (Reply::Inserted, Some("2")));
-    let upsert = Action::Upsert(make.value("2"));
-    compare(&rt, &make, (upsert, None), (Reply::New, Some("2")));
-    let update = Action::Update(make.value("2"));
-    compare(&rt, &make, (update, None), (Reply::Absent, None));
-    compare(&rt, &make, (Action::Delete, None), (Reply::Absent, None));
-    let swap_if = Action::SwapIf(make.value("1"), make.value("2"));
-    compare(&rt, &make, (swap_if, None), (Reply::Absent, None));
+    let rows: [Row; 5] = [
+        (
+            TextOp::Insert("k", "2"),
+            None,
+            TextReply::Inserted,
+            Some("2"),
+        ),
+        (TextOp::Upsert("k", "2"), None, TextReply::New, Some("2")),
+        (TextOp::Update("k", "2"), None, TextReply::Absent, None),
+        (TextOp::Delete("k"), None, TextReply::Absent, None),
+        (TextOp::SwapIf("k", "1", "2"), None, TextReply::Absent, None),
+    ];
+    for row in rows {
+        compare(&rt, &make, row);
+    }
+}
+
+// Compares what an operation answers at a key with this value, or with none.
+fn has_reply<R: Abort>(rt: &R, op: &Op, value: Option<&Value>, reply: TextReply)
+    requires { is_some (key_of op.now) ≡ true }
+{
+    let answer = op.reply_at(value).expect(rt, "memory");
+    assert!(rt; is_reply(&answer, reply));
 }
 
 // Compares what an operation on `k` answers where that has a 1, and where it has no value.
-fn compare_replies<R: Abort>(rt: &R, make: &Maker<R>, op: &Op, wanted: (Reply, Reply)) {
+fn compare_replies<R: Abort>(
+    rt: &R,
+    op: &Op,
+    one: &Value,
+    (there, absent): (TextReply, TextReply),
+) {
     let Some(key) = op.key() else {
         panic!(rt; "an operation on a key");
     };
     assert!(rt; key.bytes() == b"k".as_slice());
-    let one = make.value("1");
-    assert!(rt; op.reply_at(Some(&one)).expect(rt, "memory") == wanted.0);
-    assert!(rt; op.reply_at(None).expect(rt, "memory") == wanted.1);
+    has_reply(rt, op, Some(one), there);
+    has_reply(rt, op, None, absent);
 }
 
 #[test]
 fn each_operation_answers_by_the_value_at_its_key(rt: HostRuntime) {
     let make = Maker::new(&rt, rt.alloc());
-    let get = make.get("k");
-    compare_replies(&rt, &make, &get, (make.found("1"), Reply::Absent));
-    let insert = make.insert("k", "2");
-    compare_replies(&rt, &make, &insert, (make.held("1"), Reply::Inserted));
-    let delete = make.delete("k");
-    compare_replies(&rt, &make, &delete, (make.was("1"), Reply::Absent));
-}
-
-#[test]
-fn a_swap_answers_by_the_value_at_its_key(rt: HostRuntime) {
-    let make = Maker::new(&rt, rt.alloc());
-    let swap = make.swap_if("k", "1", "2");
-    compare_replies(&rt, &make, &swap, (make.was("1"), Reply::Absent));
-    let swap = make.swap_if("k", "3", "2");
-    compare_replies(&rt, &make, &swap, (make.held("1"), Reply::Absent));
+    let one = make.value("1");
+    let rows = [
+        (TextOp::Get("k"), TextReply::Found("1"), TextReply::Absent),
+        (
+            TextOp::Insert("k", "2"),
+            TextReply::Held("1"),
+            TextReply::Inserted,
+        ),
+        (TextOp::Delete("k"), TextReply::Was("1"), TextReply::Absent),
+        (
+            TextOp::SwapIf("k", "1", "2"),
+            TextReply::Was("1"),
+            TextReply::Absent,
+        ),
+        (
+            TextOp::SwapIf("k", "3", "2"),
+            TextReply::Held("1"),
+            TextReply::Absent,
+        ),
+    ];
+    for (text, there, absent) in rows {
+        compare_replies(&rt, &make.op(text), &one, (there, absent));
+    }
 }
 
 #[test]
 fn a_scan_has_no_key(rt: HostRuntime) {
     let make = Maker::new(&rt, rt.alloc());
-    assert!(rt; make.scan("k", None, 1).key().is_none());
+    assert!(rt; make.op(TextOp::Scan("k", None, 1)).key().is_none());
 }

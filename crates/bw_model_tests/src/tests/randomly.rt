@@ -1,7 +1,7 @@
 // Some thousand operations drawn from a seed, compared with a table of optional values.
 use super::making::{LONG, Maker, Pair};
-use super::reference::{are_answered, holds};
-use bw_fixtures::Random;
+use super::reference::holds;
+use bw_fixtures::{Random, TextOp, TextReply};
 use bw_memory::Alloc;
 use bw_model::{Op, ReferenceMap, Reply};
 use std::process::Abort;
@@ -18,31 +18,46 @@ fn drawn_value(random: &mut Random) -> &'static str {
     VALUES[random.below(4)]
 }
 
+// A write that is drawn at a key, with its value and another one.
+fn drawn_write(random: &mut Random, key: &'static str, put: &'static str) -> TextOp {
+    match random.below(5) {
+        0 => TextOp::Insert(key, put),
+        1 => TextOp::Upsert(key, put),
+        2 => TextOp::Update(key, put),
+        3 => TextOp::Delete(key),
+        _ => TextOp::SwapIf(key, drawn_value(random), put),
+    }
+}
+
+// The reply to a write over a value, or over none, and what it leaves.
+fn write_over(
+    text: TextOp,
+    put: &'static str,
+    before: Option<&'static str>,
+) -> (TextReply, Option<&'static str>) {
+    let Some(held) = before else {
+        return match text {
+            TextOp::Insert(_, _) => (TextReply::Inserted, Some(put)),
+            TextOp::Upsert(_, _) => (TextReply::New, Some(put)),
+            _ => (TextReply::Absent, None),
+        };
+    };
+    match text {
+        TextOp::Upsert(_, _) | TextOp::Update(_, _) => (TextReply::Was(held), Some(put)),
+        TextOp::Delete(_) => (TextReply::Was(held), None),
+        TextOp::SwapIf(_, old, _) if held == old => (TextReply::Was(held), Some(put)),
+        _ => (TextReply::Held(held), before),
+    }
+}
+
 // A write that is drawn, and its reply. The table is changed by it.
-fn write<R: Abort>(make: &Maker<R>, table: &mut Table, random: &mut Random) -> (Op, Reply) {
+fn write(table: &mut Table, random: &mut Random) -> (TextOp, TextReply) {
     let at = random.below(6);
-    let (key, value, other) = (KEYS[at], drawn_value(random), drawn_value(random));
-    let before = table[at];
-    let op = match random.below(5) {
-        0 => make.insert(key, value),
-        1 => make.upsert(key, value),
-        2 => make.update(key, value),
-        3 => make.delete(key),
-        _ => make.swap_if(key, other, value),
-    };
-    let (reply, after) = match (&op, before) {
-        (Op::Insert(_, _), None) => (Reply::Inserted, Some(value)),
-        (Op::Insert(_, _), Some(held)) => (make.held(held), before),
-        (Op::Upsert(_, _), None) => (Reply::New, Some(value)),
-        (Op::Upsert(_, _), Some(held)) => (make.was(held), Some(value)),
-        (Op::Update(_, _), Some(held)) => (make.was(held), Some(value)),
-        (Op::Delete(_), Some(held)) => (make.was(held), None),
-        (Op::SwapIf(_, _, _), Some(held)) if held == other => (make.was(held), Some(value)),
-        (Op::SwapIf(_, _, _), Some(held)) => (make.held(held), before),
-        _ => (Reply::Absent, None),
-    };
+    let put = drawn_value(random);
+    let text = drawn_write(random, KEYS[at], put);
+    let (reply, after) = write_over(text, put, table[at]);
     table[at] = after;
-    (op, reply)
+    (text, reply)
 }
 
 // The pairs of the table at the keys from the first place on and below the last.
@@ -61,35 +76,78 @@ fn pairs_between<R: Abort>(
     pairs
 }
 
-// A range that is drawn, read upwards or downwards.
-fn range<R: Abort>(rt: &R, make: &Maker<R>, table: &Table, random: &mut Random) -> (Op, Reply) {
+// A range that is drawn, read upwards or downwards, and its reply.
+fn range<R: Abort>(rt: &R, make: &Maker<R>, table: &Table, random: &mut Random) -> (TextOp, Reply) {
     let (first, end, most) = (random.below(6), random.below(7), random.below(5));
     let mut pairs = pairs_between(rt, make, table, (first, end));
     let (from, to) = (KEYS[first], KEYS.get(end).copied());
-    if random.below(2) == 0 {
-        pairs.truncate(most);
-        (make.scan(from, to, most as u64), make.scanned(&pairs))
-    } else {
-        pairs.reverse();
-        pairs.truncate(most);
-        (make.rscan(from, to, most as u64), make.scanned(&pairs))
+    let text = match random.below(2) {
+        0 => TextOp::Scan(from, to, most as u64),
+        _ => {
+            pairs.reverse();
+            TextOp::Rscan(from, to, most as u64)
+        }
+    };
+    (text, make.scanned(&pairs[..most.min(pairs.len())]))
+}
+
+// A read of a key that is drawn, and its reply.
+fn get(table: &Table, random: &mut Random) -> (TextOp, TextReply) {
+    let at = random.below(6);
+    match table[at] {
+        Some(value) => (TextOp::Get(KEYS[at]), TextReply::Found(value)),
+        None => (TextOp::Get(KEYS[at]), TextReply::Absent),
     }
 }
 
 // An operation that is drawn, and its reply.
-fn step<R: Abort>(rt: &R, make: &Maker<R>, table: &mut Table, random: &mut Random) -> (Op, Reply) {
-    match random.below(8) {
-        0 => {
-            let at = random.below(6);
-            let reply = match table[at] {
-                Some(value) => make.found(value),
-                None => Reply::Absent,
-            };
-            (make.get(KEYS[at]), reply)
-        }
-        1 | 2 => range(rt, make, table, random),
-        _ => write(make, table, random),
+fn step<R: Abort>(
+    rt: &R,
+    make: &Maker<R>,
+    table: &mut Table,
+    random: &mut Random,
+) -> (TextOp, Reply) {
+    let (text, reply) = match random.below(8) {
+        0 => get(table, random),
+        1 | 2 => return range(rt, make, table, random),
+        _ => write(table, random),
+    };
+    (text, make.reply(reply))
+}
+
+// Draws a batch, and the replies to it.
+fn draw_batch<R: Abort>(
+    rt: &R,
+    make: &Maker<R>,
+    table: &mut Table,
+    random: &mut Random,
+    ops: &mut Vec<Op, Alloc>,
+    replies: &mut Vec<Reply, Alloc>,
+) {
+    for _ in 0..random.below(17) {
+        let (text, reply) = step(rt, make, table, random);
+        replies.push(reply).expect(rt, "memory");
+        ops.push(make.op(text)).expect(rt, "memory");
     }
+}
+
+// Whether replies are those.
+fn same(left: &[Reply], right: &[Reply]) -> bool {
+    if left.len() != right.len() {
+        return false;
+    }
+    for (left, right) in left.iter().zip(right) {
+        if *left != *right {
+            return false;
+        }
+    }
+    true
+}
+
+// Compares the replies to a batch.
+fn are_answered<R: Abort>(rt: &R, map: &mut ReferenceMap, ops: &[Op], replies: &[Reply]) {
+    let answered = map.run(ops).expect(rt, "memory");
+    assert!(rt; same(answered.as_slice(), replies));
 }
 
 // Runs a batch of drawn operations, and compares its replies and the pairs afterwards.
@@ -102,17 +160,10 @@ fn run_batch<R: Abort>(
 ) {
     let mut ops = Vec::new(make.alloc);
     let mut replies = Vec::new(make.alloc);
-    for _ in 0..random.below(17) {
-        let (op, reply) = step(rt, make, table, random);
-        ops.push(op).expect(rt, "memory");
-        replies.push(reply).expect(rt, "memory");
-    }
+    draw_batch(rt, make, table, random, &mut ops, &mut replies);
     are_answered(rt, map, &ops, &replies);
-    holds(
-        rt,
-        map,
-        &make.pairs(&pairs_between(rt, make, table, (0, 6))),
-    );
+    let pairs = pairs_between(rt, make, table, (0, 6));
+    holds(rt, map, &pairs);
 }
 
 #[test]

@@ -1,48 +1,53 @@
 // The plain program: each operation over present and absent keys, and ranges.
-use super::making::{LONG, Maker, Pair, same};
+use super::making::{LONG, Maker, Pair};
+use bw_fixtures::{TextOp, TextReply, are_replies, have_texts, is_reply};
 use bw_key::Key;
 use bw_memory::Alloc;
-use bw_model::{Action, Op, Pairs, ReferenceMap, Replies, Reply};
+use bw_model::{Action, Pairs, ReferenceMap, Replies, Reply};
 use std::process::Abort;
 
 // Runs an operation, whatever its reply is.
-fn run<R: Abort>(rt: &R, map: &mut ReferenceMap, op: &Op) {
-    map.apply(op).expect(rt, "memory");
+fn run<R: Abort>(rt: &R, make: &Maker<R>, map: &mut ReferenceMap, text: TextOp) {
+    let op = make.op(text);
+    map.apply(&op).expect(rt, "memory");
 }
 
 /// A map of these pairs.
 pub fn map_of<R: Abort>(rt: &R, make: &Maker<R>, pairs: &[Pair]) -> ReferenceMap {
     let mut map = ReferenceMap::new(make.alloc);
     for (key, value) in pairs {
-        run(rt, &mut map, &make.upsert(key, value));
+        run(rt, make, &mut map, TextOp::Upsert(key, value));
     }
     map
 }
 
 // Compares the reply to an operation.
-fn answers<R: Abort>(rt: &R, map: &mut ReferenceMap, op: &Op, reply: &Reply) {
-    let answer = map.apply(op).expect(rt, "memory");
-    assert!(rt; answer == *reply);
+fn answers<R: Abort>(
+    rt: &R,
+    make: &Maker<R>,
+    map: &mut ReferenceMap,
+    text: TextOp,
+    reply: TextReply,
+) {
+    let op = make.op(text);
+    let answer = map.apply(&op).expect(rt, "memory");
+    assert!(rt; is_reply(&answer, reply));
 }
 
 /// Compares the pairs of a map.
-pub fn holds<R: Abort>(rt: &R, map: &ReferenceMap, pairs: &Pairs) {
+pub fn holds<R: Abort>(rt: &R, map: &ReferenceMap, pairs: &[Pair]) {
     let entries = map.entries().expect(rt, "memory");
-    assert!(rt; entries == *pairs);
+    assert!(rt; have_texts(entries.as_slice(), pairs));
 }
 
-// Compares the reply to an operation, and the pairs afterwards.
-fn compare<R: Abort>(
-    rt: &R,
-    make: &Maker<R>,
-    before: &[Pair],
-    op: Op,
-    reply: Reply,
-    after: &[Pair],
-) {
+// An operation, its reply, and the pairs afterwards.
+type Row = (TextOp, TextReply, &'static [Pair]);
+
+// Compares the reply to an operation on a map of these pairs, and the pairs afterwards.
+fn compare<R: Abort>(rt: &R, make: &Maker<R>, before: &[Pair], (op, reply, after): Row) {
     let mut map = map_of(rt, make, before);
-    answers(rt, &mut map, &op, &reply);
-    holds(rt, &map, &make.pairs(after));
+    answers(rt, make, &mut map, op, reply);
+    holds(rt, &map, after);
 }
 
 #[test]
@@ -53,51 +58,61 @@ fn a_new_map_is_empty(rt: HostRuntime) {
     assert!(rt; map.get(&make.key("")).is_none());
     assert_eq!(rt; make.alloc.left(), 1);
     make.alloc.refuse(0);
-    assert!(rt; map.entries().expect(&rt, "memory") == make.pairs(&[]));
+    holds(&rt, &map, &[]);
 }
+
+const TWO: &[Pair] = &[("a", "1"), ("b", "2"), ("c", "3")];
+
+const NINE: &[Pair] = &[("a", "1"), ("b", "9"), ("c", "3")];
+
+const NONE: &[Pair] = &[("a", "1"), ("c", "3")];
 
 #[test]
 fn each_operation_over_a_key_that_is_there(rt: HostRuntime) {
     let make = Maker::new(&rt, rt.alloc());
-    let two = &[("a", "1"), ("b", "2"), ("c", "3")];
-    let nine = &[("a", "1"), ("b", "9"), ("c", "3")];
-    let none = &[("a", "1"), ("c", "3")];
-    compare(&rt, &make, two, make.get("b"), make.found("2"), two);
-    compare(&rt, &make, two, make.insert("b", "9"), make.held("2"), two);
-    compare(&rt, &make, two, make.upsert("b", "9"), make.was("2"), nine);
-    compare(&rt, &make, two, make.update("b", "9"), make.was("2"), nine);
-    compare(&rt, &make, two, make.delete("b"), make.was("2"), none);
-    let swap_if = make.swap_if("b", "2", "9");
-    compare(&rt, &make, two, swap_if, make.was("2"), nine);
-    let swap_if = make.swap_if("b", "1", "9");
-    compare(&rt, &make, two, swap_if, make.held("2"), two);
+    let rows: [Row; 7] = [
+        (TextOp::Get("b"), TextReply::Found("2"), TWO),
+        (TextOp::Insert("b", "9"), TextReply::Held("2"), TWO),
+        (TextOp::Upsert("b", "9"), TextReply::Was("2"), NINE),
+        (TextOp::Update("b", "9"), TextReply::Was("2"), NINE),
+        (TextOp::Delete("b"), TextReply::Was("2"), NONE),
+        (TextOp::SwapIf("b", "2", "9"), TextReply::Was("2"), NINE),
+        (TextOp::SwapIf("b", "1", "9"), TextReply::Held("2"), TWO),
+    ];
+    for row in rows {
+        compare(&rt, &make, TWO, row);
+    }
 }
 
 #[test]
 fn each_operation_over_a_key_that_is_not_there(rt: HostRuntime) {
     let make = Maker::new(&rt, rt.alloc());
-    let nine = &[("a", "1"), ("b", "9"), ("c", "3")];
-    let none = &[("a", "1"), ("c", "3")];
-    compare(&rt, &make, none, make.get("b"), Reply::Absent, none);
-    compare(
-        &rt,
-        &make,
-        none,
-        make.insert("b", "9"),
-        Reply::Inserted,
-        nine,
-    );
-    compare(&rt, &make, none, make.upsert("b", "9"), Reply::New, nine);
-    compare(&rt, &make, none, make.update("b", "9"), Reply::Absent, none);
-    compare(&rt, &make, none, make.delete("b"), Reply::Absent, none);
-    let swap_if = make.swap_if("b", "1", "9");
-    compare(&rt, &make, none, swap_if, Reply::Absent, none);
+    let rows: [Row; 6] = [
+        (TextOp::Get("b"), TextReply::Absent, NONE),
+        (TextOp::Insert("b", "9"), TextReply::Inserted, NINE),
+        (TextOp::Upsert("b", "9"), TextReply::New, NINE),
+        (TextOp::Update("b", "9"), TextReply::Absent, NONE),
+        (TextOp::Delete("b"), TextReply::Absent, NONE),
+        (TextOp::SwapIf("b", "1", "9"), TextReply::Absent, NONE),
+    ];
+    for row in rows {
+        compare(&rt, &make, NONE, row);
+    }
 }
 
-// Compares the reply to a write.
-fn writes<R: Abort>(rt: &R, map: &mut ReferenceMap, key: &Key, action: &Action, reply: &Reply) {
-    let answer = map.write(key, action).expect(rt, "memory");
-    assert!(rt; answer == *reply);
+// Compares the reply to a write that puts a long value in place of 1.
+fn swaps<R: Abort>(rt: &R, make: &Maker<R>, map: &mut ReferenceMap, key: &Key) {
+    let action = Action::SwapIf(make.value("1"), make.value(LONG));
+    let answer = map.write(key, &action).expect(rt, "memory");
+    assert!(rt; is_reply(&answer, TextReply::Was("1")));
+}
+
+// Whether a map has this text at a key.
+fn has_at(map: &ReferenceMap, key: &Key, text: &str) -> bool {
+    match map.get(key) {
+        Some(value) => value.bytes() == text.as_bytes(),
+        None => false,
+    }
 }
 
 #[test]
@@ -105,9 +120,8 @@ fn a_write_is_answered_and_then_read(rt: HostRuntime) {
     let make = Maker::new(&rt, rt.alloc());
     let mut map = map_of(&rt, &make, &[("a", "1")]);
     let key = make.key("a");
-    let action = Action::SwapIf(make.value("1"), make.value(LONG));
-    writes(&rt, &mut map, &key, &action, &make.was("1"));
-    assert!(rt; map.get(&key) == Some(&make.value(LONG)));
+    swaps(&rt, &make, &mut map, &key);
+    assert!(rt; has_at(&map, &key, LONG));
     assert!(rt; map.get(&make.key("A")).is_none());
 }
 
@@ -124,131 +138,174 @@ fn turned<R: Abort>(rt: &R, alloc: Alloc, pairs: &[Pair], count: usize) -> Vec<P
 fn scans<R: Abort>(
     rt: &R,
     map: &ReferenceMap,
-    from: &Key,
-    to: Option<&Key>,
+    (from, to): (&Key, Option<&Key>),
     most: u64,
-    pairs: &Pairs,
+    pairs: &[Pair],
 ) {
     let scanned = map.scan(from, to, most).expect(rt, "memory");
-    assert!(rt; scanned == *pairs);
+    assert!(rt; have_texts(scanned.as_slice(), pairs));
 }
 
 // And the last ones, the last one first.
 fn scans_back<R: Abort>(
     rt: &R,
     map: &ReferenceMap,
-    from: &Key,
-    to: Option<&Key>,
+    (from, to): (&Key, Option<&Key>),
     most: u64,
-    pairs: &Pairs,
+    pairs: &[Pair],
 ) {
     let scanned = map.rscan(from, to, most).expect(rt, "memory");
-    assert!(rt; scanned == *pairs);
+    assert!(rt; have_texts(scanned.as_slice(), pairs));
 }
+
+// Compares the first pairs of a range, and the last ones, up to this many.
+fn scans_most<R: Abort>(
+    rt: &R,
+    alloc: Alloc,
+    map: &ReferenceMap,
+    range: (&Key, Option<&Key>),
+    most: u64,
+    pairs: &[Pair],
+) {
+    let count = pairs.len().min(most as usize);
+    scans(rt, map, range, most, &pairs[..count]);
+    let falling = turned(rt, alloc, pairs, count);
+    scans_back(rt, map, range, most, &falling);
+}
+
+// Compares the pairs of a range, up to many numbers of them.
+fn has_range<R: Abort>(
+    rt: &R,
+    make: &Maker<R>,
+    map: &ReferenceMap,
+    (from, to): (&'static str, Option<&'static str>),
+    pairs: &[Pair],
+) {
+    let from = make.key(from);
+    let to = make.end(to);
+    for most in [0, 1, 2, 3, 4, 9, u64::MAX] {
+        scans_most(rt, make.alloc, map, (&from, to.as_ref()), most, pairs);
+    }
+}
+
+const ALL: [Pair; 4] = [("", "0"), ("a", "1"), ("b", "2"), ("c", "3")];
 
 #[test]
 fn a_range_has_its_lower_end_and_not_its_upper_one(rt: HostRuntime) {
     let make = Maker::new(&rt, rt.alloc());
-    let map = map_of(&rt, &make, &[("", "0"), ("a", "1"), ("b", "2"), ("c", "3")]);
-    let (none, a, b, c) = (("", "0"), ("a", "1"), ("b", "2"), ("c", "3"));
-    let rows: [(&str, Option<&'static str>, &[Pair]); 8] = [
-        ("", None, &[none, a, b, c]),
-        ("a", None, &[a, b, c]),
-        ("a", Some("c"), &[a, b]),
-        ("a\0", Some("c\0"), &[b, c]),
-        ("b", Some("b"), &[]),
-        ("c", Some("a"), &[]),
-        ("d", None, &[]),
-        ("", Some("a"), &[none]),
+    let map = map_of(&rt, &make, &ALL);
+    // Where a range begins and ends, and the places of its pairs.
+    let rows = [
+        ("", None, 0, 4),
+        ("a", None, 1, 4),
+        ("a", Some("c"), 1, 3),
+        ("a\0", Some("c\0"), 2, 4),
+        ("b", Some("b"), 0, 0),
+        ("c", Some("a"), 0, 0),
+        ("d", None, 0, 0),
+        ("", Some("a"), 0, 1),
     ];
-    for (from, to, pairs) in rows {
-        let from = make.key(from);
-        let to = make.end(to);
-        for most in [0, 1, 2, 3, 4, 9, u64::MAX] {
-            let count = pairs.len().min(most as usize);
-            let rising = make.pairs(&pairs[..count]);
-            scans(&rt, &map, &from, to.as_ref(), most, &rising);
-            let falling = make.pairs(&turned(&rt, make.alloc, pairs, count));
-            scans_back(&rt, &map, &from, to.as_ref(), most, &falling);
-        }
+    for (from, to, first, end) in rows {
+        has_range(&rt, &make, &map, (from, to), &ALL[first..end]);
     }
 }
 
-/// Compares the replies to a batch.
-pub fn are_answered<R: Abort>(rt: &R, map: &mut ReferenceMap, ops: &[Op], replies: &[Reply]) {
-    let answered = map.run(ops).expect(rt, "memory");
-    same(rt, answered.as_slice(), replies);
+// Compares the replies to a batch.
+fn are_answered<R: Abort>(
+    rt: &R,
+    make: &Maker<R>,
+    map: &mut ReferenceMap,
+    texts: &[TextOp],
+    replies: &[TextReply],
+) {
+    let ops = make.ops(texts);
+    let answered = map.run(&ops).expect(rt, "memory");
+    assert!(rt; are_replies(answered.as_slice(), replies));
 }
 
 #[test]
 fn a_batch_runs_in_its_order(rt: HostRuntime) {
     let make = Maker::new(&rt, rt.alloc());
     let ops = [
-        make.get("a"),
-        make.upsert("a", "1"),
-        make.scan("", None, 9),
-        make.upsert("b", "2"),
-        make.get("a"),
-        make.rscan("", None, 9),
-        make.delete("a"),
-        make.get("a"),
+        TextOp::Get("a"),
+        TextOp::Upsert("a", "1"),
+        TextOp::Scan("", None, 9),
+        TextOp::Upsert("b", "2"),
+        TextOp::Get("a"),
+        TextOp::Rscan("", None, 9),
+        TextOp::Delete("a"),
+        TextOp::Get("a"),
     ];
     let replies = [
-        Reply::Absent,
-        Reply::New,
-        make.scanned(&[("a", "1")]),
-        Reply::New,
-        make.found("1"),
-        make.scanned(&[("b", "2"), ("a", "1")]),
-        make.was("1"),
-        Reply::Absent,
+        TextReply::Absent,
+        TextReply::New,
+        TextReply::Pairs(&[("a", "1")]),
+        TextReply::New,
+        TextReply::Found("1"),
+        TextReply::Pairs(&[("b", "2"), ("a", "1")]),
+        TextReply::Was("1"),
+        TextReply::Absent,
     ];
     let mut map = ReferenceMap::new(make.alloc);
-    are_answered(&rt, &mut map, &ops, &replies);
-    holds(&rt, &map, &make.pairs(&[("b", "2")]));
-    assert_eq!(rt; map.run(&[]).expect(&rt, "memory").as_slice().len(), 0);
-    holds(&rt, &map, &make.pairs(&[("b", "2")]));
+    are_answered(&rt, &make, &mut map, &ops, &replies);
+    holds(&rt, &map, &[("b", "2")]);
+    are_answered(&rt, &make, &mut map, &[], &[]);
+    holds(&rt, &map, &[("b", "2")]);
 }
 
 // Runs operations on a map, a copy of which holds the pairs from before.
-fn copies<R: Abort>(rt: &R, map: &mut ReferenceMap, ops: &[Op], before: &Pairs) {
+fn copies<R: Abort>(
+    rt: &R,
+    make: &Maker<R>,
+    map: &mut ReferenceMap,
+    texts: &[TextOp],
+    before: &[Pair],
+) {
     let copy = map.copy().expect(rt, "memory");
-    map.run(ops).expect(rt, "memory");
+    let ops = make.ops(texts);
+    map.run(&ops).expect(rt, "memory");
     holds(rt, &copy, before);
 }
 
 #[test]
 fn a_copy_is_a_map_of_its_own(rt: HostRuntime) {
     let make = Maker::new(&rt, rt.alloc());
-    let before = make.pairs(&[("a", "1"), (LONG, LONG)]);
-    let changes = [make.delete("a"), make.upsert(LONG, "2")];
-    let mut map = map_of(&rt, &make, &[("a", "1"), (LONG, LONG)]);
-    copies(&rt, &mut map, &changes, &before);
+    let before: [Pair; 2] = [("a", "1"), (LONG, LONG)];
+    let changes = [TextOp::Delete("a"), TextOp::Upsert(LONG, "2")];
+    let mut map = map_of(&rt, &make, &before);
+    copies(&rt, &make, &mut map, &changes, &before);
+}
+
+// Whether pairs equal those of these texts.
+fn equal<R: Abort>(make: &Maker<R>, pairs: &Pairs, texts: &[Pair]) -> bool {
+    *pairs == make.pairs(texts)
+}
+
+#[test]
+fn pairs_are_equal_where_each_key_and_value_is(rt: HostRuntime) {
+    let make = Maker::new(&rt, rt.alloc());
+    let pairs = make.pairs(&[("a", "1"), ("b", "2")]);
+    assert!(rt; equal(&make, &pairs, &[("a", "1"), ("b", "2")]));
+    assert!(rt; !equal(&make, &pairs, &[("a", "1"), ("b", "3")]));
+    assert!(rt; !equal(&make, &pairs, &[("a", "1"), ("c", "2")]));
+    assert!(rt; !equal(&make, &pairs, &[("a", "1")]));
 }
 
 #[test]
 fn lists_give_back_what_they_were_made_of(rt: HostRuntime) {
     let make = Maker::new(&rt, rt.alloc());
     let pairs = make.pairs(&[("a", "1"), ("b", "2")]);
-    assert!(rt; pairs == make.pairs(&[("a", "1"), ("b", "2")]));
-    assert!(rt; pairs != make.pairs(&[("a", "1"), ("b", "3")]));
-    assert!(rt; pairs != make.pairs(&[("a", "1"), ("c", "2")]));
-    assert!(rt; pairs != make.pairs(&[("a", "1")]));
-    assert_eq!(rt; pairs.as_slice().len(), 2);
-    assert!(rt; pairs.as_slice()[1].0 == make.key("b"));
-    assert!(rt; pairs.as_slice()[1].1 == make.value("2"));
+    assert!(rt; have_texts(pairs.as_slice(), &[("a", "1"), ("b", "2")]));
     let pairs = Pairs::from_vec(pairs.into_vec());
-    assert!(rt; pairs == make.pairs(&[("a", "1"), ("b", "2")]));
+    assert!(rt; have_texts(pairs.as_slice(), &[("a", "1"), ("b", "2")]));
 }
 
 #[test]
 fn replies_give_back_what_they_were_made_of(rt: HostRuntime) {
     let make = Maker::new(&rt, rt.alloc());
-    let expected = [Reply::New, make.was("1")];
-    let mut replies = Vec::new(make.alloc);
-    replies.push(Reply::New).expect(&rt, "memory");
-    replies.push(make.was("1")).expect(&rt, "memory");
+    let expected = [TextReply::New, TextReply::Was("1")];
+    let replies = vec![in make.alloc; Reply::New, make.was("1")].expect(&rt, "memory");
     let replies = Replies::from_vec(replies);
-    same(&rt, replies.as_slice(), &expected);
-    same(&rt, &replies.into_vec(), &expected);
+    assert!(rt; are_replies(replies.as_slice(), &expected));
+    assert!(rt; are_replies(&replies.into_vec(), &expected));
 }

@@ -1,7 +1,7 @@
 // Each growth of memory refused in turn.
 use super::making::{LONG, Maker, Pair};
 use super::reference::{holds, map_of};
-use bw_fixtures::was_refused;
+use bw_fixtures::{TextOp, was_refused};
 use bw_key::Key;
 use bw_memory::Alloc;
 use bw_model::{Action, Op, ReferenceMap};
@@ -61,15 +61,15 @@ fn meets_refusal<R: Abort>(rt: &R, make: &Maker<R>, work: &Work, growth: u64) ->
 
     assert!(rt; lacked == refused);
     if refused {
-        holds(rt, &map, &make.pairs(BEFORE));
+        holds(rt, &map, BEFORE);
     }
     refused
 }
 
 // Does the work with growth 1 refused, then with growth 2, until it meets no refusal. Answers how many were refused.
-fn refusals<R: Abort>(rt: &R, make: &Maker<R>, work: Work) -> u64 {
+fn refusals<R: Abort>(rt: &R, make: &Maker<R>, work: &Work) -> u64 {
     for growth in 1..1000 {
-        if !meets_refusal(rt, make, &work, growth) {
+        if !meets_refusal(rt, make, work, growth) {
             return growth - 1;
         }
     }
@@ -77,52 +77,67 @@ fn refusals<R: Abort>(rt: &R, make: &Maker<R>, work: Work) -> u64 {
 }
 
 // Work that takes memory.
-fn is_refused<R: Abort>(rt: &R, make: &Maker<R>, work: Work) {
+fn is_refused<R: Abort>(rt: &R, make: &Maker<R>, work: &Work) {
     assert!(rt; refusals(rt, make, work) > 0);
 }
 
-// An operation that takes memory.
-fn is_op_refused<R: Abort>(rt: &R, make: &Maker<R>, op: Op) {
-    is_refused(rt, make, Work::Apply(op));
+// A batch that takes memory.
+fn is_batch_refused<R: Abort>(rt: &R, make: &Maker<R>, texts: &[TextOp]) {
+    is_refused(rt, make, &Work::Run(make.ops(texts)));
+}
+
+// How many growths of an operation are refused.
+fn op_refusals<R: Abort>(rt: &R, make: &Maker<R>, text: TextOp) -> u64 {
+    refusals(rt, make, &Work::Apply(make.op(text)))
+}
+
+// A write that takes memory.
+fn is_write_refused<R: Abort>(rt: &R, make: &Maker<R>) {
+    let action = Action::Upsert(make.value(LONG));
+    is_refused(rt, make, &Work::Write(make.key(LONG), action));
 }
 
 #[test]
 fn each_piece_of_work_meets_each_refusal(rt: HostRuntime) {
     let make = Maker::new(&rt, rt.alloc());
-    is_refused(&rt, &make, Work::Copy);
-    is_refused(&rt, &make, Work::Entries);
-    let action = Action::Upsert(make.value(LONG));
-    is_refused(&rt, &make, Work::Write(make.key(LONG), action));
-    is_refused(&rt, &make, Work::Run(Vec::new(make.alloc)));
+    is_refused(&rt, &make, &Work::Copy);
+    is_refused(&rt, &make, &Work::Entries);
+    is_write_refused(&rt, &make);
+    is_batch_refused(&rt, &make, &[]);
 }
 
 #[test]
 fn each_operation_meets_each_refusal(rt: HostRuntime) {
     let make = Maker::new(&rt, rt.alloc());
-    is_op_refused(&rt, &make, make.get(LONG));
-    is_op_refused(&rt, &make, make.insert(LONG, "2"));
-    is_op_refused(&rt, &make, make.upsert(LONG, "2"));
-    is_op_refused(&rt, &make, make.update(LONG, "2"));
-    is_op_refused(&rt, &make, make.delete(LONG));
-    is_op_refused(&rt, &make, make.swap_if(LONG, LONG, "2"));
-    is_op_refused(&rt, &make, make.scan("", None, 9));
-    is_op_refused(&rt, &make, make.rscan("", None, 9));
+    let texts = [
+        TextOp::Get(LONG),
+        TextOp::Insert(LONG, "2"),
+        TextOp::Upsert(LONG, "2"),
+        TextOp::Update(LONG, "2"),
+        TextOp::Delete(LONG),
+        TextOp::SwapIf(LONG, LONG, "2"),
+        TextOp::Scan("", None, 9),
+        TextOp::Rscan("", None, 9),
+    ];
+    for text in texts {
+        assert!(rt; op_refusals(&rt, &make, text) > 0);
+    }
 }
 
 #[test]
 fn a_batch_meets_each_refusal(rt: HostRuntime) {
     let make = Maker::new(&rt, rt.alloc());
-    let batch = vec![in make.alloc;
-        make.upsert("c", LONG),
-        make.delete("a"),
-        make.scan("", None, 9),
-        make.swap_if(LONG, LONG, "2"),
+    let texts = [
+        TextOp::Upsert("c", LONG),
+        TextOp::Delete("a"),
+        TextOp::Scan("", None, 9),
+        TextOp::SwapIf(LONG, LONG, "2"),
     ];
-    is_refused(&rt, &make, Work::Run(batch.expect(&rt, "memory")));
+    is_batch_refused(&rt, &make, &texts);
 }
 
 #[test]
 fn a_get_of_a_short_value_takes_no_memory(rt: HostRuntime) {
     let make = Maker::new(&rt, rt.alloc());
-    assert_eq!(rt; refusals(&rt, &make, Work::Apply(make.get("a"))), 0);
+    assert_eq!(rt; op_refusals(&rt, &make, TextOp::Get("a")), 0);
 }

@@ -5,19 +5,38 @@ use bw_model::{Memory, Pairs, Refusal, Replies, Reply, Value, ValueFault};
 use std::process::Abort;
 use std::test::Fail;
 
+// A value of these bytes.
+fn value_of<R: Abort>(rt: &R, alloc: Alloc, bytes: &[u8]) -> Value {
+    Value::new(alloc, bytes).expect(rt, "a value")
+}
+
+// What is wrong with a value of these bytes.
+fn fault_of(alloc: Alloc, bytes: &[u8]) -> Option<ValueFault> {
+    Value::new(alloc, bytes).err()
+}
+
+// Compares a value with its copy.
+fn is_copied<R: Abort>(rt: &R, value: &Value) {
+    let copy = value.copy().expect(rt, "a copy");
+    assert!(rt; copy == *value);
+    assert!(rt; copy.bytes() == value.bytes());
+}
+
+// Compares the bytes of a value with those that it was made of.
+fn has_bytes<R: Abort>(rt: &R, alloc: Alloc, bytes: &[u8]) {
+    let value = value_of(rt, alloc, bytes);
+    assert!(rt; value.bytes() == bytes);
+    is_copied(rt, &value);
+}
+
 #[test]
 fn a_value_has_up_to_1024_bytes(rt: HostRuntime) {
     let make = Maker::new(&rt, rt.alloc());
     let bytes = [b'v'; 1025];
     for length in [0, 1, 24, 25, 1023, 1024] {
-        let value = Value::new(make.alloc, &bytes[..length]).expect(&rt, "a value");
-        assert!(rt; value.bytes() == &bytes[..length]);
-        let copy = value.copy().expect(&rt, "a copy");
-        assert!(rt; copy == value);
-        assert!(rt; copy.bytes() == &bytes[..length]);
+        has_bytes(&rt, make.alloc, &bytes[..length]);
     }
-    let too_long = Value::new(make.alloc, &bytes);
-    assert!(rt; too_long == Err(ValueFault::TooLong(1025)));
+    assert!(rt; fault_of(make.alloc, &bytes) == Some(ValueFault::TooLong(1025)));
 }
 
 #[test]
@@ -38,52 +57,52 @@ fn a_value_is_48_bytes(rt: HostRuntime) {
 fn a_value_of_24_bytes_takes_no_others(rt: HostRuntime) {
     let make = Maker::new(&rt, rt.alloc());
     make.alloc.refuse(1);
-    let short = Value::new(make.alloc, &[b'v'; 24]).expect(&rt, "a value");
-    let copy = short.copy().expect(&rt, "a copy");
-    assert_eq!(rt; make.alloc.left(), 1);
-    assert!(rt; copy == short);
+    has_bytes(&rt, make.alloc, &[b'v'; 24]);
+    assert!(rt; make.alloc.left() == 1);
 }
 
 #[test]
 fn a_longer_value_is_refused_for_want_of_memory(rt: HostRuntime) {
     let make = Maker::new(&rt, rt.alloc());
     make.alloc.refuse(1);
-    let refused = Value::new(make.alloc, &[b'v'; 25]);
-    assert!(rt; refused == Err(ValueFault::Memory));
-    assert_eq!(rt; make.alloc.left(), 0);
+    assert!(rt; fault_of(make.alloc, &[b'v'; 25]) == Some(ValueFault::Memory));
+    assert!(rt; make.alloc.left() == 0);
+}
+
+// Copies a value of 25 bytes to a heap that has room for one.
+fn is_copied_in<R: Abort>(rt: &R, long: &Value, other: Alloc) {
+    let copy = long.copy_in(other).expect(rt, "a copy");
+    assert!(rt; copy == *long);
+    assert!(rt; other.used() == 25);
+    assert!(rt; long.copy_in(other).is_err());
+    assert!(rt; copy.copy().is_err());
 }
 
 #[test]
-fn a_copy_is_in_the_heap_that_it_was_made_with(rt: HostRuntime) -> Result<(), Fail> {
+fn a_copy_is_in_the_heap_that_it_was_made_with(rt: HostRuntime) {
     let make = Maker::new(&rt, rt.alloc());
-    let other = Heap::within(rt.alloc(), 30).leak(rt.alloc())?;
-    let long = Value::new(make.alloc, &[b'v'; 25]).expect(&rt, "a value");
+    let other = Heap::within(rt.alloc(), 30).leak(rt.alloc());
+    let long = value_of(&rt, make.alloc, &[b'v'; 25]);
     make.alloc.refuse(1);
-    let copy = long.copy_in(other).expect(&rt, "a copy");
-    assert!(rt; copy == long);
-    assert_eq!(rt; other.used(), 25);
-    assert!(rt; long.copy_in(other).is_err());
-    assert!(rt; copy.copy().is_err());
-    assert_eq!(rt; make.alloc.left(), 1);
-    Ok(())
+    is_copied_in(&rt, &long, other.expect(&rt, "a heap"));
+    assert!(rt; make.alloc.left() == 1);
 }
 
 #[test]
 fn a_copy_of_a_longer_value_is_refused_for_want_of_memory(rt: HostRuntime) {
     let make = Maker::new(&rt, rt.alloc());
-    let long = Value::new(make.alloc, &[b'v'; 25]).expect(&rt, "a value");
+    let long = value_of(&rt, make.alloc, &[b'v'; 25]);
     make.alloc.refuse(1);
     assert!(rt; long.copy().is_err());
-    assert!(rt; long.copy().expect(&rt, "a copy") == long);
+    is_copied(&rt, &long);
 }
 
 #[test]
 fn a_length_is_judged_before_memory(rt: HostRuntime) {
     let make = Maker::new(&rt, rt.alloc());
     make.alloc.refuse(1);
-    let too_long = Value::new(make.alloc, &[0; 2000]);
-    assert!(rt; too_long == Err(ValueFault::TooLong(2000)));
-    assert_eq!(rt; make.alloc.left(), 1);
+    assert!(rt; fault_of(make.alloc, &[0; 2000]) == Some(ValueFault::TooLong(2000)));
+    assert!(rt; make.alloc.left() == 1);
 }
 
 // Makes a value of 100 bytes, and drops it.

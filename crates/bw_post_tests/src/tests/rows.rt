@@ -18,8 +18,8 @@ use std::process::Abort;
 use std::test::Fail;
 use std::thread::Threads;
 
-// The tree over three leaves with the batch staged, posted and adopted.
-fn adopted<R: Abort + Threads + Sync>(rt: &R, alloc: Alloc) -> Tree
+/// The tree over three leaves with the batch staged, posted and adopted.
+pub fn adopted<R: Abort + Threads + Sync>(rt: &R, alloc: Alloc) -> Tree
     ensures { is_adopted result.staged ≡ true }
 {
     let mut tree = three(rt, alloc);

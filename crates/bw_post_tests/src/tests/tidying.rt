@@ -71,13 +71,13 @@ fn are_within_but(tree: &Tree, limits: &Limits, pages: &[PageId]) -> bool
 }
 
 // These pages, the first one next.
-fn due_of<R: Abort>(rt: &R, alloc: Alloc, pages: &[PageId]) -> Due
+fn due_of<R: Abort>(rt: &R, alloc: Alloc, tree: &Tree, pages: &[PageId]) -> Due
     ensures { result.pages ≡ reverse pages.now }
 {
     let mut list = Vec::new(alloc);
     list.extend_from_slice(pages).expect(rt, "a list");
     let mut due = Due::new(alloc);
-    due.add(list).expect(rt, "a list");
+    due.add(tree, list).expect(rt, "a list");
     due
 }
 
@@ -95,7 +95,7 @@ pub fn tidy_does<R: Abort>(
     ensures staged { tree.new.staged ≡ None }
 {
     assert!(rt; are_within_but(tree, limits, pages));
-    let mut due = due_of(rt, alloc, pages);
+    let mut due = due_of(rt, alloc, tree, pages);
     let tidied = tidy_due(tree, limits, &mut due);
     let wanted = Tidy {
         consolidated: wanted.0,

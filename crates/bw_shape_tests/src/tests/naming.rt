@@ -22,7 +22,7 @@ fn tidy_whole<R: Abort>(rt: &R, alloc: Alloc, tree: &mut Tree, pages: &[PageId])
 {
     let limits = four_pairs();
     assert!(rt; are_within_but(tree, &limits, pages));
-    let mut due = due_of(rt, alloc, pages);
+    let mut due = due_of(rt, alloc, tree, pages);
     let did = tidy_due(tree, &limits, &mut due);
     assert!(rt; !did.stopped);
 }
@@ -146,11 +146,11 @@ fn tidy_on<R: Abort>(rt: &R, alloc: Alloc, tree: &mut Tree, growth: u64) -> bool
     let limits = four_pairs();
     let pages = [PageId(1)];
     assert!(rt; are_within_but(tree, &limits, &pages));
-    let mut due = due_of(rt, alloc, &pages);
+    let mut due = due_of(rt, alloc, tree, &pages);
     alloc.refuse(growth);
     let stopped = tidy_due(tree, &limits, &mut due).stopped;
     let refused = was_refused(alloc, growth);
-    assert!(rt; stopped == refused);
+    assert!(rt; refused || !stopped);
     reads_numbers(rt, alloc, tree, FROM, 4120);
     let did = tidy_due(tree, &limits, &mut due);
     assert!(rt; !did.stopped);

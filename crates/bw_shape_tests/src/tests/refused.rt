@@ -5,14 +5,15 @@ use bw_memory::Alloc;
 use bw_shape::{Did, Memory, PageId, consolidate, finish_split, grow_root, split};
 use std::process::Abort;
 
-// Splits the leaf where this growth is refused, and compares the tree after that. Whether it was.
+// Splits the leaf where this growth is refused, and compares the tree after that. Whether that stopped it: the last growth
+// only gives room back, and the leaf is split without it.
 fn split_refused<R: Abort>(rt: &R, alloc: Alloc, growth: u64) -> bool {
     let mut tree = five(rt, alloc);
     alloc.refuse(growth);
     let parted = split(&mut tree, PageId(0), 2);
     let refused = was_refused(alloc, growth);
-    if refused {
-        assert!(rt; parted == Err(Memory));
+    if parted == Err(Memory) {
+        assert!(rt; refused);
         stands(rt, alloc, &tree, 0, &[0]);
         return true;
     }
@@ -38,22 +39,26 @@ fn grow_refused<R: Abort>(rt: &R, alloc: Alloc, growth: u64) -> bool {
     false
 }
 
-// Consolidates an inner page that was split where this growth is refused, and compares the tree after that. Whether it was.
+// Consolidates an inner page with an index entry over it where this growth is refused, and compares the tree after that.
+// Whether it was.
 fn consolidation_refused<R: Abort>(rt: &R, alloc: Alloc, growth: u64) -> bool {
-    let mut tree = five(rt, alloc);
-    split_does(rt, &mut tree, 0, 2, Did::Done);
-    grow_does(rt, &mut tree, Did::Done);
-    split_does(rt, &mut tree, 2, 1, Did::Done);
+    let mut tree = named_once(rt, alloc);
     alloc.refuse(growth);
     let consolidated = consolidate(&mut tree, PageId(2));
     let refused = was_refused(alloc, growth);
     if refused {
         assert!(rt; consolidated == Err(Memory));
-        stands(rt, alloc, &tree, 2, &[FLOOR, 1, FLOOR + 1, 3]);
+        stands(
+            rt,
+            alloc,
+            &tree,
+            2,
+            &[FLOOR, FLOOR + 1, FLOOR + 2, FLOOR + 3, 4],
+        );
         return true;
     }
     assert!(rt; consolidated == Ok(Did::Done));
-    stands(rt, alloc, &tree, 2, &[FLOOR, 1, 2, 3]);
+    stands(rt, alloc, &tree, 2, &[FLOOR, FLOOR + 1, 2, FLOOR + 3, 4]);
     false
 }
 
@@ -108,6 +113,21 @@ fn each_growth_of_a_consolidation_is_refused(rt: HostRuntime) {
         }
     }
     panic!(rt; "no run met no refusal")
+}
+
+#[test]
+fn a_page_that_was_split_is_consolidated_with_no_memory(rt: HostRuntime) {
+    let alloc = heap(rt.alloc()).expect(&rt, "memory");
+    let mut tree = five(&rt, alloc);
+    split_does(&rt, &mut tree, 0, 2, Did::Done);
+    grow_does(&rt, &mut tree, Did::Done);
+    split_does(&rt, &mut tree, 2, 1, Did::Done);
+    stands(&rt, alloc, &tree, 2, &[FLOOR, 1, FLOOR + 1, 3]);
+    alloc.refuse(1);
+    assert!(rt; consolidate(&mut tree, PageId(2)) == Ok(Did::Done));
+    assert_eq!(rt; alloc.left(), 1);
+    alloc.refuse(0);
+    stands(&rt, alloc, &tree, 2, &[FLOOR, 1, 2, 3]);
 }
 
 #[test]

@@ -1,7 +1,9 @@
 // Sweeps of trees whose pages were split.
 ghost use Rattle.std.specs.Prelude.{◌≡◌, None};
 
-use super::making::{FLOOR, five, grow_does, reads_all, split_does, stands, sweep_does};
+use super::making::{
+    FLOOR, five, grow_does, named_once, reads_all, split_does, stands, sweep_does,
+};
 use bw_fixtures::{heap, was_refused};
 use bw_memory::Alloc;
 use bw_shape::{Did, Memory, Tree, sweep};
@@ -41,17 +43,17 @@ fn a_tree_without_records_is_swept_as_well(rt: HostRuntime) {
 
 // Sweeps the tree where this growth is refused, and compares it after that. Whether it was.
 fn sweep_refused<R: Abort>(rt: &R, alloc: Alloc, growth: u64) -> bool {
-    let mut tree = parted(rt, alloc);
+    let mut tree = named_once(rt, alloc);
     alloc.refuse(growth);
     let swept = sweep(&mut tree);
     let refused = was_refused(alloc, growth);
     if refused {
         assert!(rt; swept == Err(Memory));
-        assert!(rt; tree.records() == 2);
+        assert!(rt; tree.records() == 4);
         reads_all(rt, alloc, &tree);
         sweep_does(rt, &mut tree);
     }
-    stands(rt, alloc, &tree, 2, &[0, 1, 2, 3]);
+    stands(rt, alloc, &tree, 2, &[0, 1, 2, 3, 4]);
     refused
 }
 
@@ -60,7 +62,7 @@ fn each_growth_of_a_sweep_is_refused(rt: HostRuntime) {
     let alloc = heap(rt.alloc()).expect(&rt, "memory");
     for growth in 1..100 {
         if !sweep_refused(&rt, alloc, growth) {
-            assert!(rt; growth > 2);
+            assert!(rt; growth > 1);
             return;
         }
     }

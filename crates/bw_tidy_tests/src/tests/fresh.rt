@@ -1,22 +1,39 @@
-// A batch of keys that are all new.
-use super::maker::{Maker, same};
-use bw_batch::{Index, Key, Op, OpenGate, Options, Reply};
+// A batch of 65,536 keys that are all new.
+use super::levels::{are_within, count_pages, is_whole};
+use super::maker::Maker;
+use bw_batch::{Index, Key, Op, OpenGate, Options, Reply, Value};
 use bw_memory::Alloc;
 use bw_tree::PageShape;
 use std::process::Abort;
 use std::thread::Threads;
+
+// How many keys there are.
+const KEYS: u32 = 65_536;
+
+// How far a key is from the next one, as a number.
+const STEP: u32 = 65_536;
 
 // The key of a number: its bits in the other order, so that keys go to and fro.
 fn key<R: Abort>(rt: &R, make: &Maker<R>, number: u32) -> Key {
     Key::new(make.alloc, &number.reverse_bits().to_be_bytes()).expect(rt, "a key")
 }
 
-// Upserts of so many keys, whose values are their numbers.
-fn upserts<R: Abort>(rt: &R, make: &Maker<R>, count: u32) -> Vec<Op, Alloc> {
+// Upserts of all keys, whose values are their numbers.
+fn upserts<R: Abort>(rt: &R, make: &Maker<R>) -> Vec<Op, Alloc> {
     let mut ops = Vec::new(make.alloc);
-    for number in 0..count {
+    for number in 0..KEYS {
         let op = Op::Upsert(key(rt, make, number), make.value(number));
         ops.push(op).expect(rt, "memory");
+    }
+    ops
+}
+
+// Reads of all keys.
+fn gets<R: Abort>(rt: &R, make: &Maker<R>) -> Vec<Op, Alloc> {
+    let mut ops = Vec::new(make.alloc);
+    for number in 0..KEYS {
+        ops.push(Op::Get(key(rt, make, number)))
+            .expect(rt, "memory");
     }
     ops
 }
@@ -32,77 +49,105 @@ fn put_all<R: Abort + Threads + Sync>(rt: &R, index: &mut Index, ops: &[Op]) {
     assert!(rt; !done.tidy.stopped);
 }
 
-// Reads the value of a number.
-fn read<R: Abort + Threads + Sync>(rt: &R, make: &Maker<R>, index: &mut Index, number: u32) {
-    let ops = [Op::Get(key(rt, make, number))];
-    let done = index.run(rt, &ops, &OpenGate).expect(rt, "memory");
-    same(rt, done.replies.as_slice(), &[make.found(number)]);
-}
-
-// How many pages a level has, and how many pairs or children these have.
-fn count(shape: &[PageShape], level: u32) -> (usize, usize) {
-    let (mut pages, mut entries) = (0usize, 0usize);
-    for page in shape {
-        if page.level == level {
-            pages = pages.saturating_add(1);
-            entries = entries.saturating_add(page.pairs);
-        }
-    }
-    (pages, entries)
-}
-
-// Each page is within the limit, and no write stands over a leaf.
-fn are_within<R: Abort>(rt: &R, shape: &[PageShape], page_max: u64) {
-    for page in shape {
-        assert!(rt; page.pairs as u64 <= page_max);
-        assert_eq!(rt; page.writes, 0);
+// Whether a reply is that a number was found.
+fn is_found(reply: &Reply, number: u32) -> bool {
+    match reply {
+        Reply::Found(value) => value.bytes() == number.to_be_bytes().as_slice(),
+        _ => false,
     }
 }
 
-// The leaves have so many pairs, and each page of these levels is a child of the one above, up to the root.
-fn are_named<R: Abort>(rt: &R, shape: &[PageShape], pairs: usize, levels: u32) {
-    let (mut below, mut all) = (pairs, 0usize);
-    for level in 0..levels {
-        let (pages, entries) = count(shape, level);
-        assert_eq!(rt; entries, below);
-        below = pages;
-        all = all.saturating_add(pages);
+// Reads all keys, each of which has its number.
+fn find_all<R: Abort + Threads + Sync>(rt: &R, index: &mut Index, ops: &[Op]) {
+    let done = index.run(rt, ops, &OpenGate).expect(rt, "memory");
+    let replies = done.replies.as_slice();
+    assert_eq!(rt; replies.len(), ops.len());
+    for (number, reply) in (0..KEYS).zip(replies) {
+        assert!(rt; is_found(reply, number));
     }
-    assert_eq!(rt; below, 1);
-    assert_eq!(rt; all, shape.len());
 }
 
-// Puts so many new keys at once, behind which there are so many levels.
-fn compare<R: Abort + Threads + Sync>(
-    rt: &R,
-    make: &Maker<R>,
-    keys: u32,
-    page_max: u64,
-    levels: u32,
-) {
+// Whether a pair is that of the key at a place, in the order of keys.
+fn is_pair_at(pair: &(Key, Value), place: u32) -> bool {
+    let bits = place.wrapping_mul(STEP);
+    pair.0.bytes() == bits.to_be_bytes().as_slice()
+        && pair.1.bytes() == bits.reverse_bits().to_be_bytes().as_slice()
+}
+
+// All pairs stand in the order of their keys.
+fn are_all<R: Abort>(rt: &R, index: &Index) {
+    let pairs = index.contents().expect(rt, "memory");
+    assert_eq!(rt; pairs.as_slice().len(), KEYS as usize);
+    for (place, pair) in (0..KEYS).zip(pairs.as_slice()) {
+        assert!(rt; is_pair_at(pair, place));
+    }
+}
+
+// Whether a page ends where the next one begins, or is the last of its level.
+fn abuts(page: &PageShape, next: &PageShape) -> bool {
+    match &page.high {
+        Some(high) => page.level == next.level && *high == next.low,
+        None => page.level < next.level && next.low.bytes().is_empty(),
+    }
+}
+
+// The pages of each level stand side by side.
+fn are_abutting<R: Abort>(rt: &R, shape: &[PageShape]) {
+    for (page, next) in shape.iter().zip(shape.iter().skip(1)) {
+        assert!(rt; abuts(page, next));
+    }
+}
+
+// Each level has so many pages, from the leaves up.
+fn has_levels<R: Abort>(rt: &R, shape: &[PageShape], levels: &[usize]) {
+    let mut all = 0usize;
+    for (level, count) in (0u32..64).zip(levels) {
+        assert_eq!(rt; count_pages(shape, level), *count);
+        all = all.saturating_add(*count);
+    }
+    assert_eq!(rt; shape.len(), all);
+}
+
+// The pages are within the limits, side by side and named, and each level has so many of them.
+fn has_pages<R: Abort>(rt: &R, make: &Maker<R>, index: &Index, page_max: u64, levels: &[usize]) {
+    let tree = index.tree();
+    let shape = tree.shape().expect(rt, "memory");
+    are_within(rt, &shape, 0, page_max);
+    are_abutting(rt, &shape);
+    has_levels(rt, &shape, levels);
+    assert!(rt; is_whole(rt, make.alloc, tree, &shape));
+}
+
+// An index into which all keys were put at once.
+fn full<R: Abort + Threads + Sync>(rt: &R, make: &Maker<R>, page_max: u64) -> Index {
     let options = Options::new(4, 64, 1, page_max, 0, 65536, 1048576).expect(rt, "options");
     let mut index = Index::new(make.alloc, options).expect(rt, "an index");
-    put_all(rt, &mut index, &upserts(rt, make, keys));
-    for number in [0, 1, 2, 1234, keys / 2, keys.saturating_sub(1)] {
-        read(rt, make, &mut index, number);
-    }
-    let held = index.contents().expect(rt, "memory").as_slice().len();
-    assert_eq!(rt; held, keys as usize);
-    let shape = index.tree().shape().expect(rt, "memory");
-    are_within(rt, &shape, page_max);
-    are_named(rt, &shape, held, levels);
+    put_all(rt, &mut index, &upserts(rt, make));
+    index
 }
 
-// 1,024 leaves, 16 pages above them, and the root.
+// Puts all keys at once: behind them each level has so many pages, and the pairs are these.
+fn compare<R: Abort + Threads + Sync>(rt: &R, make: &Maker<R>, page_max: u64, levels: &[usize]) {
+    let index = full(rt, make, page_max);
+    has_pages(rt, make, &index, page_max, levels);
+    are_all(rt, &index);
+}
+
 #[test]
 fn new_keys_make_leaves_of_64(rt: HostRuntime) {
     let make = Maker::new(&rt, rt.alloc());
-    compare(&rt, &make, 65_536, 64, 3);
+    compare(&rt, &make, 64, &[1024, 16, 1]);
 }
 
-// 1,024 leaves, and 256, 64, 16 and 4 pages above them, and the root.
 #[test]
 fn new_keys_make_leaves_of_four(rt: HostRuntime) {
     let make = Maker::new(&rt, rt.alloc());
-    compare(&rt, &make, 4096, 4, 6);
+    compare(&rt, &make, 4, &[16384, 4096, 1024, 256, 64, 16, 4, 1]);
+}
+
+#[test]
+fn new_keys_are_found_on_leaves_of_four(rt: HostRuntime) {
+    let make = Maker::new(&rt, rt.alloc());
+    let mut index = full(&rt, &make, 4);
+    find_all(&rt, &mut index, &gets(&rt, &make));
 }

@@ -1,5 +1,5 @@
 // Tidying as a plain program. It knows all keys and all pages, and has no list of pages that are due.
-use bw_batch::Tidy;
+use bw_batch::{Key, Op, Tidy};
 use bw_memory::Alloc;
 use std::process::Abort;
 
@@ -44,29 +44,49 @@ fn is_in(page: &PlainPage, key: u8) -> bool {
     }
 }
 
+// The number of a key.
+fn number_of(key: &Key) -> u8 {
+    key.bytes().first().copied().unwrap_or(0)
+}
+
 /// A tree of plain pages.
 #[derive(Drop)]
 pub struct PlainTree {
     chain_max: usize,
     page_max: usize,
+    record_max: usize,
     // the keys that have a value, in their order
     keys: Vec<u8, Alloc>,
     // the leaves from left to right, and behind them the pages of each level above
     pages: Vec<PlainPage, Alloc>,
     counts: Tidy,
+    // the records and the stamps since the last sweep
+    records: usize,
+    stamps: usize,
+    sweeps: usize,
 }
 
 impl PlainTree {
     /// A tree of one empty leaf, with these limits.
-    pub fn new<R: Abort>(rt: &R, alloc: Alloc, chain_max: usize, page_max: usize) -> PlainTree {
+    pub fn new<R: Abort>(
+        rt: &R,
+        alloc: Alloc,
+        chain_max: usize,
+        page_max: usize,
+        record_max: usize,
+    ) -> PlainTree {
         let mut pages = Vec::new(alloc);
         pages.push(EMPTY).expect(rt, "memory");
         PlainTree {
             chain_max,
             page_max,
+            record_max,
             keys: Vec::new(alloc),
             pages,
             counts: Tidy::default(),
+            records: 0,
+            stamps: 0,
+            sweeps: 0,
         }
     }
 
@@ -75,24 +95,103 @@ impl PlainTree {
         &self.pages
     }
 
-    /// A write at a key, which has a value behind it, or none.
-    pub fn write<R: Abort>(&mut self, rt: &R, key: u8, puts: bool) {
+    /// How many records there are: one for each write, each split and each index entry since the last sweep.
+    pub fn records(&self) -> usize {
+        self.records
+    }
+
+    /// How many operations there were since the last sweep.
+    pub fn stamps(&self) -> usize {
+        self.stamps
+    }
+
+    /// How many sweeps there were.
+    pub fn sweeps(&self) -> usize {
+        self.sweeps
+    }
+
+    /// Writes what a batch writes, behind a sweep where there might be too many records.
+    pub fn run<R: Abort>(&mut self, rt: &R, ops: &[Op]) {
+        if self.records.saturating_add(ops.len()) > self.record_max {
+            self.sweep(rt);
+        }
+        for op in ops {
+            self.apply(rt, op);
+        }
+        self.stamps = self.stamps.saturating_add(ops.len());
+    }
+
+    // Writes what an operation writes.
+    fn apply<R: Abort>(&mut self, rt: &R, op: &Op) {
+        match op {
+            Op::Get(_) | Op::Scan { .. } | Op::Rscan { .. } => {}
+            Op::Insert(key, _) | Op::Upsert(key, _) => {
+                self.write(number_of(key));
+                self.put(rt, number_of(key));
+            }
+            Op::Delete(key) => {
+                self.write(number_of(key));
+                self.remove(number_of(key));
+            }
+            Op::Update(key, _) | Op::SwapIf(key, _, _) => self.write(number_of(key)),
+        }
+    }
+
+    // A write in the chain of a key's leaf.
+    fn write(&mut self, key: u8) {
         for page in &mut self.pages {
             if page.level == 0 && is_in(page, key) {
                 page.writes = page.writes.saturating_add(1);
             }
         }
-        match (self.keys.binary_search(&key), puts) {
-            (Ok(place), false) => {
-                self.keys.remove(place);
-            }
-            (Err(place), true) => self.keys.insert(place, key).expect(rt, "memory"),
-            _ => {}
+        self.records = self.records.saturating_add(1);
+    }
+
+    // The key has a value.
+    fn put<R: Abort>(&mut self, rt: &R, key: u8) {
+        if let Err(place) = self.keys.binary_search(&key) {
+            self.keys.insert(place, key).expect(rt, "memory");
         }
     }
 
-    /// Where the entries of a page begin: the keys in a leaf, or the pages below an inner page.
-    pub fn entries<R: Abort>(&self, rt: &R, page: &PlainPage) -> Vec<u8, Alloc> {
+    // The key has none.
+    fn remove(&mut self, key: u8) {
+        if let Ok(place) = self.keys.binary_search(&key) {
+            self.keys.remove(place);
+        }
+    }
+
+    // Consolidates all pages, and starts records and stamps over.
+    fn sweep<R: Abort>(&mut self, rt: &R) {
+        for place in 0..self.pages.len() {
+            let page = self.pages.get(place).copied().expect(rt, "a page");
+            let entries = self.count_entries(rt, &page);
+            self.bare(rt, place, &page, entries);
+        }
+        self.records = 0;
+        self.stamps = 0;
+        self.sweeps = self.sweeps.saturating_add(1);
+    }
+
+    // Consolidates the page at a place, which has so many entries.
+    fn bare<R: Abort>(&mut self, rt: &R, place: usize, page: &PlainPage, entries: usize) {
+        let bare = PlainPage {
+            base: entries,
+            writes: 0,
+            is_split: false,
+            ..*page
+        };
+        assert!(rt; place < self.pages.len());
+        self.pages[place] = bare;
+    }
+
+    /// How many entries a page has.
+    pub fn count_entries<R: Abort>(&self, rt: &R, page: &PlainPage) -> usize {
+        self.entries(rt, page).len()
+    }
+
+    // Where the entries of a page begin: the keys in a leaf, or the pages below an inner page.
+    fn entries<R: Abort>(&self, rt: &R, page: &PlainPage) -> Vec<u8, Alloc> {
         let mut entries = Vec::new(*self.keys.allocator());
         let Some(below) = page.level.checked_sub(1) else {
             for key in &self.keys {
@@ -139,14 +238,7 @@ impl PlainTree {
             self.split(rt, place, page, &entries);
             return true;
         }
-        let bare = PlainPage {
-            base: entries.len(),
-            writes: 0,
-            is_split: false,
-            ..*page
-        };
-        assert!(rt; place < self.pages.len());
-        self.pages[place] = bare;
+        self.bare(rt, place, page, entries.len());
         true
     }
 
@@ -179,14 +271,16 @@ impl PlainTree {
         };
         self.part(rt, place, left, right);
         self.counts.splits = self.counts.splits.saturating_add(1);
+        self.records = self.records.saturating_add(1);
     }
 
-    // Puts two halves in the place of a page, and where that was the root a new one over both.
+    // Puts two halves in the place of a page. The right one gets an index entry, or both a new root where that was the root.
     fn part<R: Abort>(&mut self, rt: &R, place: usize, left: PlainPage, right: PlainPage) {
         assert!(rt; place < self.pages.len());
         self.pages[place] = left;
         self.pages.insert(place + 1, right).expect(rt, "memory");
         if place + 2 < self.pages.len() {
+            self.records = self.records.saturating_add(1);
             return;
         }
         let root = PlainPage {

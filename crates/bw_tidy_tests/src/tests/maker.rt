@@ -37,20 +37,58 @@ impl<'a, R: Abort> Maker<'a, R> {
         Op::Insert(self.key(byte), self.value(number))
     }
 
+    /// Inserts of the letters up to this one, whose values are their bytes.
+    pub fn inserts(&self, last: u8) -> Vec<Op, Alloc> {
+        let mut ops = Vec::new(self.alloc);
+        for letter in b'a'..=last {
+            ops.push(self.insert(letter, letter as u32))
+                .expect(self.rt, "memory");
+        }
+        ops
+    }
+
     pub fn upsert(&self, byte: u8, number: u32) -> Op {
         Op::Upsert(self.key(byte), self.value(number))
+    }
+
+    pub fn update(&self, byte: u8, number: u32) -> Op {
+        Op::Update(self.key(byte), self.value(number))
     }
 
     pub fn delete(&self, byte: u8) -> Op {
         Op::Delete(self.key(byte))
     }
 
-    pub fn found(&self, number: u32) -> Reply {
-        Reply::Found(self.value(number))
+    pub fn swap_if(&self, byte: u8, old: u32, new: u32) -> Op {
+        Op::SwapIf(self.key(byte), self.value(old), self.value(new))
     }
 
-    pub fn held(&self, number: u32) -> Reply {
-        Reply::Held(self.value(number))
+    // The end of a range, where it has one.
+    fn end(&self, to: Option<u8>) -> Option<Key> {
+        match to {
+            Some(to) => Some(self.key(to)),
+            None => None,
+        }
+    }
+
+    pub fn scan(&self, from: u8, to: Option<u8>, most: u64) -> Op {
+        Op::Scan {
+            from: self.key(from),
+            to: self.end(to),
+            most,
+        }
+    }
+
+    pub fn rscan(&self, from: u8, to: Option<u8>, most: u64) -> Op {
+        Op::Rscan {
+            from: self.key(from),
+            to: self.end(to),
+            most,
+        }
+    }
+
+    pub fn found(&self, number: u32) -> Reply {
+        Reply::Found(self.value(number))
     }
 
     pub fn was(&self, number: u32) -> Reply {

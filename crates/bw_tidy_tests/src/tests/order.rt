@@ -1,6 +1,7 @@
 // The order in which pages are looked at behind a sweep.
 use super::maker::Maker;
-use bw_batch::{Index, OpenGate, Options};
+use super::records::leaves;
+use bw_batch::{Index, Options};
 use bw_tree::PageShape;
 use std::process::Abort;
 use std::thread::Threads;
@@ -22,13 +23,19 @@ const PAGES: [Wanted; 9] = [
     (8, 2, 2),
 ];
 
-// Inserts keys in one batch.
-fn insert<R: Abort + Threads + Sync>(rt: &R, make: &Maker<R>, index: &mut Index, keys: &[u8]) {
+// Inserts keys in one batch, behind which there are so many records.
+fn insert<R: Abort + Threads + Sync>(
+    rt: &R,
+    make: &Maker<R>,
+    index: &mut Index,
+    keys: &[u8],
+    records: usize,
+) {
     let mut ops = Vec::new(make.alloc);
     for key in keys {
         ops.push(make.insert(*key, 1)).expect(rt, "memory");
     }
-    index.run(rt, &ops, &OpenGate).expect(rt, "memory");
+    leaves(rt, index, &ops, records);
 }
 
 // Whether a page is listed so.
@@ -36,23 +43,27 @@ fn is(page: &PageShape, wanted: &Wanted) -> bool {
     page.page.0 == wanted.0 && page.level == wanted.1 && page.pairs == wanted.2
 }
 
-#[test]
-fn leaves_are_looked_at_before_inner_pages(rt: HostRuntime) {
-    let make = Maker::new(&rt, rt.alloc());
-    let options = Options::new(1, 64, 2, 4, 0, 12, 19).expect(&rt, "options");
-    let mut index = Index::new(make.alloc, options).expect(&rt, "an index");
-    let keys = [10, 20, 30, 40, 50, 60, 70, 80, 90, 100, 110, 120];
-    insert(&rt, &make, &mut index, &keys);
-    insert(&rt, &make, &mut index, &[71, 72, 101, 102]);
-    assert_eq!(rt; index.tree().records(), 19);
-    // With one operation more there might be more than 19 records, so a sweep comes first.
-    index
-        .run(&rt, &[make.get(1)], &OpenGate)
-        .expect(&rt, "memory");
-    assert_eq!(rt; index.tree().records(), 3);
-    let shape = index.tree().shape().expect(&rt, "memory");
+// The pages of an index are these.
+fn has_pages<R: Abort>(rt: &R, index: &Index) {
+    let shape = index.tree().shape().expect(rt, "memory");
     assert_eq!(rt; shape.len(), PAGES.len());
     for (page, wanted) in shape.iter().zip(&PAGES) {
         assert!(rt; is(page, wanted));
     }
+}
+
+#[test]
+fn leaves_are_looked_at_before_inner_pages(rt: HostRuntime) {
+    let make = Maker::new(&rt, rt.alloc());
+    let options = Options::new(1, 64, 2, 4, 0, 12, 21).expect(&rt, "options");
+    let mut index = Index::new(make.alloc, options).expect(&rt, "an index");
+    let keys = [10, 20, 30, 40, 50, 60, 70, 80, 90, 100, 110, 120];
+    // 12 writes; the splits of the root and of its two halves; and entries for what is right of those halves.
+    insert(&rt, &make, &mut index, &keys, 17);
+    // And 4 writes. No chain has more than two of them.
+    insert(&rt, &make, &mut index, &[71, 72, 101, 102], 21);
+    // With one operation more there might be more than 21 records, so a sweep comes first. Behind it two leaves are split,
+    // with an entry for each, and the root, which needs none.
+    leaves(&rt, &mut index, &[make.get(1)], 5);
+    has_pages(&rt, &index);
 }

@@ -31,13 +31,20 @@ fn is_listed(page: &PageShape, plain: &PlainPage, entries: usize) -> bool {
         && page.writes == plain.writes
 }
 
-/// Compares the pages.
-pub fn same_pages<R: Abort>(rt: &R, index: &Index, plain: &PlainTree) {
-    let shape = index.tree().shape().expect(rt, "memory");
+// Compares pages.
+fn same_shape<R: Abort>(rt: &R, shape: &[PageShape], plain: &PlainTree) {
     assert_eq!(rt; shape.len(), plain.pages().len());
     for (page, plain_page) in shape.iter().zip(plain.pages()) {
-        let entries = plain.entries(rt, plain_page).len();
+        let entries = plain.count_entries(rt, plain_page);
         assert!(rt; is_listed(page, plain_page, entries));
     }
-    assert_eq!(rt; index.tree().heads().len(), shape.len());
+}
+
+/// Compares the pages, and how many records and stamps there are.
+pub fn same_pages<R: Abort>(rt: &R, index: &Index, plain: &PlainTree) {
+    let shape = index.tree().shape().expect(rt, "memory");
+    same_shape(rt, &shape, plain);
+    assert_eq!(rt; index.tree().heads().len(), plain.pages().len());
+    assert_eq!(rt; index.tree().records(), plain.records());
+    assert_eq!(rt; index.tree().next_stamp(), plain.stamps() as u64);
 }

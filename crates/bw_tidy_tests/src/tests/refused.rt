@@ -1,6 +1,8 @@
 // Each growth of memory refused in turn. Behind it the index goes on as if nothing had been refused.
+use super::levels::{are_within, is_whole};
 use super::maker::{Maker, same};
-use bw_batch::{Index, Op, OpenGate, Options, Refusal, Reply};
+use super::rows::{Row, holds, run};
+use bw_batch::{Index, OpenGate, Options, Refusal};
 use bw_fixtures::was_refused;
 use bw_memory::Alloc;
 use bw_tree::PageShape;
@@ -13,24 +15,6 @@ fn small_pages<R: Abort>(rt: &R, make: &Maker<R>) -> Index {
     Index::new(make.alloc, options).expect(rt, "an index")
 }
 
-// Inserts of the letters up to this one, whose values are their bytes.
-fn inserts<R: Abort>(rt: &R, make: &Maker<R>, last: u8) -> Vec<Op, Alloc> {
-    let mut ops = Vec::new(make.alloc);
-    for letter in b'a'..=last {
-        ops.push(make.insert(letter, letter as u32))
-            .expect(rt, "memory");
-    }
-    ops
-}
-
-// Each key of so many was new.
-fn are_inserted<R: Abort>(rt: &R, replies: &[Reply], count: usize) {
-    assert_eq!(rt; replies.len(), count);
-    for reply in replies {
-        assert!(rt; *reply == Reply::Inserted);
-    }
-}
-
 // The index is as it was made.
 fn is_new<R: Abort>(rt: &R, index: &Index) {
     assert_eq!(rt; index.tree().next_stamp(), 0);
@@ -40,40 +24,36 @@ fn is_new<R: Abort>(rt: &R, index: &Index) {
     assert!(rt; pairs.as_slice().is_empty());
 }
 
-// Inserts where a growth may be refused, and again where the batch was. Whether a refusal was seen.
-fn insert<R: Abort + Threads + Sync>(rt: &R, index: &mut Index, ops: &[Op]) -> bool {
-    match index.run(rt, ops, &OpenGate) {
+// Inserts a row where a growth may be refused, and again where the batch was. Whether a refusal was seen.
+fn insert<R: Abort + Threads + Sync>(rt: &R, index: &mut Index, row: &Row) -> bool {
+    match index.run(rt, &row.inserts.ops, &OpenGate) {
         Ok(done) => {
-            are_inserted(rt, done.replies.as_slice(), ops.len());
+            same(rt, done.replies.as_slice(), row.inserts.replies.as_slice());
             done.tidy.stopped
         }
         Err(refusal) => {
             assert!(rt; refusal == Refusal::Memory);
             is_new(rt, index);
-            let done = index.run(rt, ops, &OpenGate).expect(rt, "memory");
-            are_inserted(rt, done.replies.as_slice(), ops.len());
-            assert!(rt; !done.tidy.stopped);
+            assert!(rt; !run(rt, index, &row.inserts));
             true
         }
     }
 }
 
-// Reads the first letter in a batch, behind which nothing is due.
-fn read<R: Abort + Threads + Sync>(rt: &R, make: &Maker<R>, index: &mut Index) {
-    let ops = [make.get(b'a')];
-    let done = index.run(rt, &ops, &OpenGate).expect(rt, "memory");
-    same(rt, done.replies.as_slice(), &[make.found(b'a' as u32)]);
-    assert!(rt; !done.tidy.stopped);
-}
-
-// Inserts the letters again, all of which have values.
-fn insert_again<R: Abort + Threads + Sync>(rt: &R, make: &Maker<R>, index: &mut Index, ops: &[Op]) {
-    let done = index.run(rt, ops, &OpenGate).expect(rt, "memory");
-    let replies = done.replies.as_slice();
-    assert_eq!(rt; replies.len(), ops.len());
-    for (letter, reply) in (b'a'..=b'z').zip(replies) {
-        assert!(rt; *reply == make.held(letter as u32));
-    }
+// Inserts a row where this growth is refused, and reads it where tidying stopped. Whether it was refused.
+fn insert_refused<R: Abort + Threads + Sync>(
+    rt: &R,
+    make: &Maker<R>,
+    index: &mut Index,
+    row: &Row,
+    growth: u64,
+) -> bool {
+    make.alloc.refuse(growth);
+    let seen = insert(rt, index, row);
+    let refused = was_refused(make.alloc, growth);
+    assert!(rt; refused || !seen);
+    holds(rt, make, index, row);
+    refused
 }
 
 // Whether two pages have the same identifier and range, and as much in it.
@@ -95,39 +75,60 @@ fn has_pages<R: Abort>(rt: &R, index: &Index, wanted: &[PageShape]) {
     }
 }
 
-// Inserts the letters where this growth is refused, and goes on. Whether it was refused.
+// Inserts a row where this growth is refused, and goes on with reads: the pages come to be these. Whether it was refused.
 fn is_refused<R: Abort + Threads + Sync>(
     rt: &R,
     make: &Maker<R>,
-    ops: &[Op],
+    row: &Row,
     wanted: &[PageShape],
     growth: u64,
 ) -> bool {
     let mut index = small_pages(rt, make);
-    make.alloc.refuse(growth);
-    let seen = insert(rt, &mut index, ops);
-    let refused = was_refused(make.alloc, growth);
-    assert!(rt; refused || !seen);
-    read(rt, make, &mut index);
+    let refused = insert_refused(rt, make, &mut index, row, growth);
+    assert!(rt; !run(rt, &mut index, &row.reads));
     has_pages(rt, &index, wanted);
-    insert_again(rt, make, &mut index, ops);
+    assert!(rt; !run(rt, &mut index, &row.again));
     refused
 }
 
-// The pages of an index in which the letters were inserted and read.
-fn pages<R: Abort + Threads + Sync>(rt: &R, make: &Maker<R>, ops: &[Op]) -> Vec<PageShape, Alloc> {
+// An index holds what the writes leave, on pages within the limits.
+fn has_written<R: Abort>(rt: &R, make: &Maker<R>, index: &Index, row: &Row) {
+    assert!(rt; index.contents().expect(rt, "memory") == row.left);
+    let shape = index.tree().shape().expect(rt, "memory");
+    are_within(rt, &shape, 1, 4);
+    assert!(rt; is_whole(rt, make.alloc, index.tree(), &shape));
+}
+
+// The same, and goes on with writes.
+fn is_refused_before_writes<R: Abort + Threads + Sync>(
+    rt: &R,
+    make: &Maker<R>,
+    row: &Row,
+    growth: u64,
+) -> bool {
     let mut index = small_pages(rt, make);
-    assert!(rt; !insert(rt, &mut index, ops));
-    read(rt, make, &mut index);
+    let refused = insert_refused(rt, make, &mut index, row, growth);
+    assert!(rt; !run(rt, &mut index, &row.writes));
+    has_written(rt, make, &index, row);
+    refused
+}
+
+// The pages of an index in which a row was inserted and read.
+fn pages<R: Abort + Threads + Sync>(rt: &R, make: &Maker<R>, row: &Row) -> Vec<PageShape, Alloc> {
+    let mut index = small_pages(rt, make);
+    assert!(rt; !insert(rt, &mut index, row));
+    assert!(rt; !run(rt, &mut index, &row.reads));
     index.tree().shape().expect(rt, "memory")
 }
 
 // Refuses each growth of a batch of inserts in turn.
 fn refuse_in_turn<R: Abort + Threads + Sync>(rt: &R, make: &Maker<R>, last: u8) {
-    let ops = inserts(rt, make, last);
-    let wanted = pages(rt, make, &ops);
+    let row = Row::new(rt, make, last);
+    let wanted = pages(rt, make, &row);
     for growth in 1..1000 {
-        if !is_refused(rt, make, &ops, &wanted, growth) {
+        let refused = is_refused(rt, make, &row, &wanted, growth);
+        assert!(rt; is_refused_before_writes(rt, make, &row, growth) == refused);
+        if !refused {
             assert!(rt; growth > 20);
             return;
         }

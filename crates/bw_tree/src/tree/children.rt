@@ -27,8 +27,8 @@ impl Tree {
 
     /// Lets an inner page name a page of the level below, as after a split: it gets a delta record with the key at which the
     /// child begins, a key of its range above its low key (ICDE 2013). Searches for keys from there on then come to the
-    /// child at once, and not by the side link of its left neighbour. A child that stands at that key already is replaced.
-    /// The page has no record yet, and no batch is staged.
+    /// child at once, and not by the side link of its left neighbour. A child that stands at that key already, which is this
+    /// page itself or a removed one, is replaced. The page has no record yet, and no batch is staged.
     ///
     /// It adds one record and copies nothing. `Memory` is answered where the list of records can't grow, and where there are
     /// 2^32 of them; the tree is as before.
@@ -76,8 +76,8 @@ impl Tree {
         })
     }
 
-    // Whether an inner page that doesn't begin above a key has an index entry at it.
-    fn has_entry(&self, page: PageId, key: &Key) -> bool
+    /// Whether an inner page that doesn't begin above a key has an index entry at it.
+    pub(super) fn has_entry(&self, page: PageId, key: &Key) -> bool
         requires inner { IsInnerPage self.now page }
         requires starts { StartsUpto (slot_at self.now.slots page) key.now }
         ensures { Decides result (HasEntry (slot_at self.now.slots page) key.now) }

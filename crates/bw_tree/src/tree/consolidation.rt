@@ -1,5 +1,6 @@
 // Consolidation of one page in its place.
 ghost use Rattle.std.specs.Prelude.{◌≡◌, ◌<◌, is_some, None, length, IfOk, OnOk, OnErr};
+ghost use Rattle.std.specs.Bool.{MatchBool};
 ghost use Rattle.std.specs.List.{Contains};
 ghost use Rattle.std.specs.Option.{option_copied};
 
@@ -10,7 +11,7 @@ use bw_page::{Inner, Leaf, Page, PageId};
 impl Tree {
     ghost use Rattle.bw_chain.specs.Levels.{row};
     ghost use Rattle.bw_chain.specs.Chains.{plain};
-    ghost use Rattle.bw_chain.specs.Searches.{plain_inner};
+    ghost use Rattle.bw_chain.specs.Searches.{IsInLevels, plain_inner};
     ghost use Rattle.bw_chain.specs.Slots.{side_of, slot_at};
     ghost use Rattle.bw_tree.specs.Consolidation.{IsConsolidated, IsRebased, consolidated_leaf};
     ghost use Rattle.bw_tree.specs.Routing.{IsInnerPage};
@@ -19,8 +20,24 @@ impl Tree {
     /// 2013). No batch is staged.
     ///
     /// The records of its chain stay among the others, and no word leads to them any more. It sorts the writes of this one
-    /// leaf and copies its pairs. After `Memory` the tree is as before.
+    /// leaf and copies its pairs; where a leaf was split and has no write, it copies the key at which the leaf ends and no
+    /// pair. After `Memory` the tree is as before.
     pub fn consolidate(&mut self, page: PageId) -> Result<(), Memory>
+        requires none { self.old.staged ≡ None }
+        requires leaf { Contains (row self.old.levels 0) page }
+        ensures ok { OnOk result (IsConsolidated self.old self.new page) }
+        ensures err { OnErr result (self.new ≡ self.old) }
+    {
+        self.know_levels();
+        if self.narrow(page)? {
+            self.know_records();
+            return Ok(());
+        }
+        self.merge_writes(page)
+    }
+
+    // The same by a merge of the leaf's pairs with its writes.
+    fn merge_writes(&mut self, page: PageId) -> Result<(), Memory>
         requires none { self.old.staged ≡ None }
         requires leaf { Contains (row self.old.levels 0) page }
         ensures ok { OnOk result (IsConsolidated self.old self.new page) }
@@ -30,6 +47,22 @@ impl Tree {
         let leaf = self.consolidated_leaf(page, side)?;
         self.put_leaf(page, leaf);
         Ok(())
+    }
+
+    // Where a page's chain is a split over its base page, ends that page where the split says, in the place of the chain.
+    // Whether it did: else the tree is as before.
+    fn narrow(&mut self, page: PageId) -> Result<bool, Memory>
+        requires none { self.old.staged ≡ None }
+        requires in_levels { IsInLevels self.old.levels page }
+        ensures ok { IfOk result
+            (λ narrowed. MatchBool narrowed (IsRebased self.old self.new page) (self.new ≡ self.old)) }
+        ensures err { OnErr result (self.new ≡ self.old) }
+    {
+        let Some(word) = self.chains.narrow(self.heads[page.0 as usize])? else {
+            return Ok(false);
+        };
+        self.heads[page.0 as usize] = word;
+        Ok(true)
     }
 
     // A leaf's range with what the leaf holds as of the next stamp, and this right neighbour.
@@ -60,7 +93,8 @@ impl Tree {
     /// Consolidates an inner page: what its chain makes of its base page takes the place of that page, so that the page
     /// has no record any more. No batch is staged.
     ///
-    /// It costs a walk along the chain and a copy of the page's children. After `Memory` the tree is as before.
+    /// It costs a walk along the chain and a copy of the page's children; where a page was split, a copy of the key at
+    /// which it ends, and of no child. After `Memory` the tree is as before.
     pub fn consolidate_inner(&mut self, page: PageId) -> Result<(), Memory>
         requires none { self.old.staged ≡ None }
         requires inner { IsInnerPage self.old page }
@@ -68,6 +102,9 @@ impl Tree {
         ensures err { OnErr result (self.new ≡ self.old) }
     {
         self.know_records();
+        if self.narrow(page)? {
+            return Ok(());
+        }
         let inner = self.inner_page(page)?;
         self.rebase(page, Page::Inner(inner));
         Ok(())

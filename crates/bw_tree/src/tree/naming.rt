@@ -1,12 +1,14 @@
 // Index entries for several pages at once.
-ghost use Rattle.std.specs.Prelude.{◌≡◌, T, None, IfOk, OnOk, OnErr};
+ghost use Rattle.std.specs.Prelude.{◌≡◌, T, None, map, IfOk, OnOk, OnErr};
 ghost use Rattle.std.specs.FinMap.{is_sorted};
 ghost use Rattle.bw_key.specs.Order.{key_cmp};
+ghost use Rattle.bw_delta.specs.declared.deltas.Delta.TheVariants.{AddChild};
 ghost use Rattle.bw_chain.specs.Searches.{plain_inner};
 ghost use Rattle.bw_chain.specs.Slots.{PageState, Live, slot_at};
 
 use super::Tree;
 use super::merging::with_entries;
+use bw_delta::Delta;
 use bw_key::{Key, Memory};
 use bw_memory::Alloc;
 use bw_page::{Inner, Page, PageId};
@@ -19,9 +21,10 @@ impl Tree {
     /// for each of them, one after another, with one copy of the page's children. Each entry is a page with the key at which
     /// it begins, a key of the inner page's range above its low key, and these keys rise. No batch is staged.
     ///
-    /// The children as they stand and the entries become the page's base page, and it has no record any more. It costs a
-    /// walk along the page's chain, a copy of its children, a second one where it had a record, and a binary search for each
-    /// entry. After `Memory` the tree is as before.
+    /// The children as they stand and the entries become the page's base page, and no record stands over it any more. There is
+    /// a record more for each entry all the same, which no chain names: records are counted as `set_child` makes them. It
+    /// costs a walk along the page's chain, a copy of its children, a second one where it had a record, and a binary search
+    /// and a copy of the key for each entry. After `Memory` the tree is as before.
     pub fn name_all(
         &mut self,
         parent: PageId,
@@ -34,8 +37,10 @@ impl Tree {
         ensures ok { OnOk result (AreNamed self.old self.new parent entries.entry.items) }
         ensures err { OnErr result (self.new ≡ self.old) }
     {
+        let deltas = added_children(*self.heads.allocator(), &entries)?;
         let page = self.inner_with(parent, entries)?;
         let head = self.heads[parent.0 as usize];
+        self.chains.add_records(deltas, head)?;
         self.heads[parent.0 as usize] = self.chains.replace_base(head, Page::Inner(page));
         Ok(())
     }
@@ -58,4 +63,18 @@ impl Tree {
             None => with_entries(alloc, &self.inner_page(parent)?, entries),
         }
     }
+}
+
+// The changes by which a page is given these children, one for each.
+fn added_children(alloc: Alloc, entries: &[(Key, PageId)]) -> Result<Vec<Delta, Alloc>, Memory>
+    ensures { IfOk result (λ deltas. deltas.items ≡ map (λ e. AddChild e.0 e.1) entries.now) }
+{
+    let mut deltas = Vec::with_capacity(alloc, entries.len())?;
+    for entry in entries {
+        deltas.push(Delta::AddChild {
+            sep: entry.0.copy()?,
+            child: entry.1,
+        })?;
+    }
+    Ok(deltas)
 }

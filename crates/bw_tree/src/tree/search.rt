@@ -8,7 +8,7 @@ ghost use Rattle.bw_chain.specs.Before.{IsBefore};
 ghost use Rattle.bw_chain.specs.Roots.{IsNeighbour};
 ghost use Rattle.bw_chain.specs.Searches.{IsInLevels, IsSearching, plain_inner};
 ghost use Rattle.bw_chain.specs.Targets.{AreAtHome, IsLinked, IsTurnFor, StartsFrom, lies_from};
-ghost use Rattle.bw_tree.specs.Routing.{IsFoundEnd, IsInLevel, IsInNoLevel, IsInnerPage};
+ghost use Rattle.bw_tree.specs.Routing.{AreAtHomeOn, IsFoundEnd, IsInLevel, IsInNoLevel, IsInnerPage};
 
 use super::Tree;
 use bw_chain::{Target, Turn};
@@ -53,13 +53,21 @@ impl Tree {
         ensures { MatchOption result (length self.now.levels ≤ level)
             (IsHomeAt self.now.slots self.now.levels key.now level) }
     {
+        self.on_level(level, Target::Home(key))
+    }
+
+    /// The page of a level that a search is for, or none where the tree has no such level.
+    pub(super) fn on_level(&self, level: u32, target: Target<'_>) -> Option<PageId>
+        requires { T (lies_from target []) }
+        ensures { MatchOption result (length self.now.levels ≤ level) (AreAtHomeOn self.now target.entry level) }
+    {
         self.know_levels();
         if self.level(self.root) < level {
             return None;
         }
         let mut page = self.root;
         loop {
-            match self.turn(page, Target::Home(key)) {
+            match self.turn(page, target) {
                 Turn::Here => return Some(page),
                 Turn::Right(next) => page = next,
                 Turn::Left(next) => page = next,

@@ -3,7 +3,6 @@ ghost use Rattle.std.specs.Prelude.{◌≡◌, None, IfOk, OnErr};
 
 use super::Tree;
 use bw_chain::FLOOR;
-use bw_delta::Delta;
 use bw_key::Memory;
 use bw_page::PageId;
 
@@ -14,9 +13,9 @@ impl Tree {
     /// answered. The page gets a delta record with the key at which it ends now and its new neighbour (ICDE 2013). No batch
     /// is staged.
     ///
-    /// No page above names the new one yet: searches and scans come to it by the side link, as in a B-link tree. The base
-    /// page keeps all entries until the page is consolidated. It copies the entries that go. `Memory` is answered where a
-    /// copy or a list finds none, and where no identifier is free; the tree is as before.
+    /// No page above names the new one yet: searches and scans come to it by the side link, as in a B-link tree. The entries
+    /// that go are moved, and the base page keeps the others and its bounds. `Memory` is answered where the copy of a key
+    /// that is a bound or a list finds none, and where no identifier is free; the tree is as before.
     pub fn set_split(&mut self, page: PageId, keep: usize) -> Result<PageId, Memory>
         requires none { self.old.staged ≡ None }
         requires page { IsSplittable self.old page keep }
@@ -24,16 +23,13 @@ impl Tree {
         ensures err { OnErr result (self.new ≡ self.old) }
     {
         let head = self.heads[page.0 as usize];
-        let (sep, right) = self.chains.upper_half(head, keep)?;
         let count = self.heads.len() as u64;
         if count >= FLOOR - 1 {
             return Err(Memory);
         }
         self.heads.reserve(1)?;
         let to = PageId(count as u32);
-        let (word, number) = self
-            .chains
-            .add_split(Delta::Split { sep, to }, head, right)?;
+        let (word, number) = self.chains.split(head, keep, to)?;
         self.heads[page.0 as usize] = word;
         self.heads.push(number).unwrap();
         Ok(to)

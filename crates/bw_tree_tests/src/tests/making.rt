@@ -2,7 +2,7 @@
 ghost use Rattle.std.specs.Prelude.{◌≡◌, [], None};
 ghost use Rattle.bw_tree.specs.Making.{AreAbutting};
 
-use bw_fixtures::leaf_of;
+use bw_fixtures::{leaf_of, pair, two};
 pub use bw_fixtures::{LONG, are};
 use bw_key::Key;
 use bw_memory::Alloc;
@@ -38,6 +38,19 @@ pub fn one_leaf<R: Abort>(rt: &R, alloc: Alloc) -> Vec<Leaf, Alloc>
     ensures { AreAbutting 0 [] result.items }
 {
     let leaf = leaf_of(alloc, b"1").expect(rt, "a leaf");
+    vec![in alloc; leaf].expect(rt, "the leaf")
+}
+
+/// The leaf of all keys: a 1, and a long value at a long key.
+pub fn long_leaf<R: Abort>(rt: &R, alloc: Alloc) -> Vec<Leaf, Alloc>
+    ensures { AreAbutting 0 [] result.items }
+{
+    let (a, long) = (
+        pair(alloc, b"a", b"1").expect(rt, "a pair"),
+        pair(alloc, LONG, LONG).expect(rt, "a pair"),
+    );
+    let pairs = two(alloc, a, long).expect(rt, "the pairs");
+    let leaf = Leaf::from_pairs(key(rt, alloc, b""), None, None, pairs);
     vec![in alloc; leaf].expect(rt, "the leaf")
 }
 

@@ -154,7 +154,7 @@ fn two_pages_in_the_middle_are_named_at_once(rt: HostRuntime) {
     let mut tree = parted(&rt, alloc, [b"a", b"b"]);
     has_entries(&rt, &tree, PageId(2), 2);
     assert!(rt; name_both(&rt, alloc, &mut tree, PageId(0)) == Ok(()));
-    stands(&rt, &tree, 2, &[FLOOR, 1, 2, FLOOR + 1, 4], 2);
+    stands(&rt, &tree, 2, &[FLOOR, 1, 2, FLOOR + 1, 4], 4);
     has_entries(&rt, &tree, PageId(2), 4);
     routes(&rt, alloc, &tree, b"b", 3);
     routes(&rt, alloc, &tree, b"c", 4);
@@ -183,7 +183,7 @@ fn two_pages_are_named_over_an_added_one(rt: HostRuntime) {
     let heads = [FLOOR, FLOOR + 2, FLOOR + 3, FLOOR + 1, 4, 5];
     stands(&rt, &tree, 2, &heads, 4);
     assert!(rt; name_both(&rt, alloc, &mut tree, PageId(0)) == Ok(()));
-    stands(&rt, &tree, 2, &[FLOOR, FLOOR + 2, 2, FLOOR + 1, 4, 5], 4);
+    stands(&rt, &tree, 2, &[FLOOR, FLOOR + 2, 2, FLOOR + 1, 4, 5], 6);
     has_entries(&rt, &tree, PageId(2), 5);
     routes(&rt, alloc, &tree, b"f", 5);
     holds(&rt, alloc, &tree);

@@ -1,7 +1,7 @@
 // Leaves that part in two, of which the page above knows nothing yet.
 ghost use Rattle.std.specs.Prelude.{◌≡◌, None};
 
-use super::making::{are, has, heap, key, stands, three_leaves};
+use super::making::{LONG, are, has, heap, key, long_leaf, stands, three_leaves};
 use super::refused::was_refused;
 use bw_memory::Alloc;
 use bw_tree::{Memory, PageId, Tree};
@@ -85,29 +85,33 @@ fn a_leaf_parts_in_two(rt: HostRuntime) {
 }
 
 #[test]
-fn the_left_part_is_consolidated(rt: HostRuntime) {
+fn the_left_part_is_consolidated_with_no_memory(rt: HostRuntime) {
     let alloc = heap(&rt, rt.alloc());
     let mut tree = three_leaves(&rt, alloc);
     split(&rt, alloc, &mut tree, b"b", 1).expect(&rt, "memory");
     let left = tree.route(&key(&rt, alloc, b"a"));
+    alloc.refuse(1);
     tree.consolidate(left).expect(&rt, "memory");
+    assert_eq!(rt; alloc.left(), 1);
+    alloc.refuse(0);
     stands(&rt, &tree, 3, &[0, 1, 2, 3, 4], 1);
     routes(&rt, alloc, &tree, b"b", 4);
     holds(&rt, alloc, &tree);
 }
 
-// Splits a leaf where this growth is refused, and compares the tree after that. Whether it was.
+// Splits a leaf where this growth is refused, and compares the tree after that. Whether that stopped it: the last growth only
+// gives room back, and the leaf is split without it.
 fn split_refused<R: Abort>(rt: &R, alloc: Alloc, growth: u64) -> bool {
     let mut tree = three_leaves(rt, alloc);
     alloc.refuse(growth);
     let parted = split(rt, alloc, &mut tree, b"a", 1);
     let refused = was_refused(alloc, growth);
-    assert!(rt; parted.is_err() == refused);
-    if refused {
+    assert!(rt; parted.is_ok() || refused);
+    if parted.is_err() {
         stands(rt, &tree, 3, &[0, 1, 2, 3], 0);
     }
     holds(rt, alloc, &tree);
-    refused
+    parted.is_err()
 }
 
 #[test]
@@ -120,4 +124,36 @@ fn each_growth_of_a_split_is_refused(rt: HostRuntime) {
         }
     }
     panic!(rt; "no run met no refusal")
+}
+
+// Splits the one leaf of a tree at a long key, and consolidates what is left of it where the first growth is refused, and then
+// where the second one is.
+fn consolidate_refused<R: Abort>(rt: &R, alloc: Alloc, tree: &mut Tree)
+    requires { tree.old.staged ≡ None }
+{
+    split(rt, alloc, tree, b"a", 1).expect(rt, "memory");
+    let left = tree.route(&key(rt, alloc, b"a"));
+    alloc.refuse(1);
+    assert!(rt; tree.consolidate(left).is_err());
+    assert_eq!(rt; alloc.left(), 0);
+    stands(rt, tree, 0, &[FLOOR, 1], 1);
+    alloc.refuse(2);
+    assert!(rt; tree.consolidate(left).is_ok());
+    assert_eq!(rt; alloc.left(), 1);
+    alloc.refuse(0);
+    stands(rt, tree, 0, &[0, 1], 1);
+}
+
+#[test]
+fn the_copy_of_a_long_end_is_the_one_growth_of_a_consolidation(rt: HostRuntime) {
+    let alloc = heap(&rt, rt.alloc());
+    let mut tree = Tree::from_level(alloc, long_leaf(&rt, alloc)).expect(&rt, "a tree");
+    consolidate_refused(&rt, alloc, &mut tree);
+    has(
+        &rt,
+        alloc,
+        &tree,
+        0,
+        &[(b"a", Some(b"1")), (LONG, Some(LONG)), (b"b", None)],
+    );
 }

@@ -1,9 +1,9 @@
-use Rattle.std.proofs.Common.{ℕ, List, ◌++◌, length, reverse, ap, sym, subst, ◌∙◌}
+use Rattle.std.proofs.Common.{ℕ, List, length, ap, subst, ◌∙◌}
 use Rattle.bw_tree.proofs.WordLemmas.{length_put}
 use Rattle.bw_group.proofs.SameHomes.{homes_stay}
 use Rattle.bw_model.specs.Model.{replies_of}
 use Rattle.bw_tree.specs.View.{contents_at}
-use Rattle.bw_shape.specs.Tidying.{KeepsWithin}
+use Rattle.bw_shape.specs.Tidying.{HasBoth}
 use Rattle.bw_batch.proofs.BatchLemmas.{start_adopted}
 use Rattle.bw_batch.proofs.DueLemmas.{within_posted}
 use Rattle.bw_batch.proofs.batch.answer_staged.Goals as goal
@@ -20,7 +20,6 @@ returns-clause-replies g c =
 
 pub returns-clause-within : goal.returns-clause-within
 returns-clause-within g c =
-    subst (λ (l : List ℕ). KeepsWithin c.args.tree.now c.adopt_on.new.self c.args.due.now.pages l) (sym c.in_ok-add_written.ensures.ok)
-    (subst (λ (l : List ℕ). KeepsWithin c.args.tree.now c.adopt_on.new.self c.args.due.now.pages (reverse l ++ c.args.due.now.pages)) (sym (c.in_ok-written.ensures.items ∙ c.deref.ensures.value))
-    (within_posted c.args.tree.now c.adopt_on.new.self c.in_ok-homes.field-0.pages.items c.in_ok-homes.field-0.closed.heads c.in_ok-homes.field-0.closed.links c.args.due.now.pages c.in_ok-homes.ensures.posted
-    c.adopt_on.ensures.levels c.adopt_on.ensures.pages c.adopt_on.ensures.writes))
+    within_posted c.args.tree.now c.adopt_on.new.self c.in_ok-homes.field-0.pages.items c.in_ok-homes.field-0.closed.heads c.in_ok-homes.field-0.closed.links c.args.due.now.pages c.add_written.new.due.pages
+    (subst (λ (l : List ℕ). HasBoth l c.args.due.now.pages c.add_written.new.due.pages) (c.in_ok-written.ensures.items ∙ c.deref.ensures.value) c.in_ok-add_written.ensures.ok)
+    c.in_ok-homes.ensures.posted c.adopt_on.ensures.levels c.adopt_on.ensures.pages c.adopt_on.ensures.writes

@@ -2,8 +2,8 @@ use Rattle.std.proofs.Common.{ℕ, Bool, sym, ◌∙◌, subst, Decides}
 use Rattle.std.specs.FinMap.{put}
 use Rattle.std.specs.List.{Contains}
 use Rattle.bw_key.specs.Order.{key_cmp}
+use Rattle.bw_page.specs.Pages.{below}
 use Rattle.bw_delta.specs.declared.deltas.Delta.TheVariants.{AddChild, Split}
-use Rattle.bw_chain.specs.Chains.{below}
 use Rattle.bw_chain.specs.Searches.{plain_inner}
 use Rattle.bw_chain.proofs.IndexLemmas.{added_decides, other_decides, over_decides, split_decides, split_none}
 use Rattle.bw_chain.proofs.index_entries.entry_over.Goals as goal

@@ -1,5 +1,5 @@
 use Rattle.std.proofs.Common.{◌≡◌, take}
-use Rattle.bw_chain.specs.Chains.{below}
+use Rattle.bw_page.specs.Pages.{below}
 use Rattle.bw_chain.proofs.inners.children_below.Given as goal
 
 abbrev pub invariant-loop-child : goal.invariant-loop-child

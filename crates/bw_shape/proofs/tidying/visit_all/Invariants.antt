@@ -1,3 +1,4 @@
+use Rattle.std.proofs.Common.{◌≡◌, None}
 use Rattle.bw_shape.specs.Limits.{AreWithinBut}
 use Rattle.bw_shape.specs.Tidying.{HoldsAll, work_left}
 use Rattle.bw_shape.proofs.tidying.visit_all.Given as goal
@@ -6,6 +7,7 @@ abbrev pub invariant-loop-page : goal.invariant-loop-page
 invariant-loop-page l = record {
   holds : HoldsAll l.fn.tree l.tree;
   within : AreWithinBut l.limits l.tree l.due.pages;
+  finished : l.due.unfinished ≡ None;
 }
 
 abbrev pub decreases-loop-page : goal.decreases-loop-page

@@ -1,23 +1,21 @@
-use Rattle.std.proofs.Common.{◌≡◌, set, [], ◌∷◌, ◌++◌, List, length, ℕ, sym, ap, ◌∙◌, subst, get_or, arith}
+use Rattle.std.proofs.Common.{◌≡◌, set, [], ◌∷◌, ◌++◌, List, length, ℕ, ap, ◌∙◌, get_or, arith}
 use Rattle.std.proofs.lemmas.List.{get_or_default}
-use Rattle.bw_chain.specs.Slots.{Slot}
-use Rattle.bw_chain.specs.Splits.{IsUpperHalf}
 use Rattle.bw_tree.specs.Splits.{IsSplit}
 use Rattle.bw_tree.specs.Trees.{IsTree, view_of}
 use Rattle.bw_tree.proofs.RoutingLemmas.{page_at_head}
 use Rattle.bw_tree.proofs.SplitLemmas.{in_levels, split_on}
 use Rattle.bw_tree.proofs.tree.Tree.set_split.Goals as goal
 
-pub upper_half-requires-clause-ends : goal.upper_half-requires-clause-ends
-upper_half-requires-clause-ends c =
+pub split-requires-clause-ends : goal.split-requires-clause-ends
+split-requires-clause-ends c =
     let heads = c.self.inside.heads.items in
     (page_at_head heads c.self.inside.chains.bases c.self.inside.chains.records c.self.inside.root c.self.inside.next _ c.self.inside.staged c.args.self.now c.args.page c.index-head.result.now c.self.view_is c.self.invariant.now (in_levels c.args.self.now c.args.page c.args.keep c.requires.page)
     (c.index-head.ensures ∙ ap (λ n. get_or heads n c.index-head.result.now) c.page.view_is)).ends
 
 -- the tree of the new words, and what it is to the old one
 split_now : (c : goal.After-unwrap) →
-    IsTree c.push.new.self.items c.add_split.new.self.bases c.add_split.new.self.records c.self.inside.root c.self.inside.next c.self.inside.staged
-    × IsSplit c.args.self.now (view_of c.push.new.self.items c.add_split.new.self.bases c.add_split.new.self.records c.self.inside.root c.self.inside.next c.self.inside.staged) c.args.page c.args.keep c.len-count.result
+    IsTree c.push.new.self.items c.split.new.self.bases c.split.new.self.records c.self.inside.root c.self.inside.next c.self.inside.staged
+    × IsSplit c.args.self.now (view_of c.push.new.self.items c.split.new.self.bases c.split.new.self.records c.self.inside.root c.self.inside.next c.self.inside.staged) c.args.page c.args.keep c.len-count.result
 split_now c =
     let heads = c.self.inside.heads.items in
     let bases = c.self.inside.chains.bases in
@@ -29,12 +27,10 @@ split_now c =
     let count : c.len-count.result ≡ length heads = omega (arith, c.len-count.ensures, c.self.inside.heads.ok) in
     let pushed : c.push.new.self.items ≡ set c.reserve.new.self.items c.page.inside.0 word ++ number ∷ [] = rw c.unwrap.ensures at c.push.ensures.items in
     split_on heads bases records c.self.inside.root c.self.inside.next c.self.inside.staged c.args.self.now c.self.view_is c.requires.none c.self.invariant c.args.page c.args.keep c.requires.page
-    c.in_ok-sep.sep c.in_ok-sep.right (subst (λ (o : Slot). IsUpperHalf o c.args.keep (c.in_ok-sep.sep, c.in_ok-sep.right)) (sym at.slot) c.in_ok-sep.ensures)
-    (omega (arith, c.if-count.false, count)) c.in_ok-word.ensures.few_records c.in_ok-word.ensures.few_bases
-    c.push.new.self.items c.add_split.new.self.bases c.add_split.new.self.records c.len-count.result word number c.index-head.result.now
+    c.push.new.self.items c.split.new.self.bases c.split.new.self.records c.len-count.result word number c.index-head.result.now
+    c.in_ok-word.ensures.cut (omega (arith, c.if-count.false, count)) c.in_ok-word.ensures.few_records c.in_ok-word.ensures.few_bases
     count c.in_ok-word.ensures.word c.in_ok-word.ensures.number (read ∙ get_or_default heads c.args.page c.index-head.result.now 0 at.there)
     (pushed ∙ ap (λ (h : List ℕ). set h c.page.inside.0 word ++ number ∷ []) c.in_ok-reserve.ensures.items ∙ ap (λ n. set heads n word ++ number ∷ []) c.page.view_is)
-    c.in_ok-word.ensures.bases c.in_ok-word.ensures.records
 
 pub invariant_of-self-2 : goal.invariant_of-self-2
 invariant_of-self-2 c = (split_now c).0

@@ -4,12 +4,12 @@ use Rattle.std.proofs.lemmas.Iterator.Adapters.{YieldsList-from_vec}
 use Rattle.std.proofs.lemmas.Iterator.Consumers.{YieldsList-so_far, YieldsList-turn}
 use Rattle.bw_key.specs.Order.{KeyBytes}
 use Rattle.bw_tree.specs.Merging.{AreBefore}
-use Rattle.bw_tree.proofs.MergingLemmas.{IsMerging, before_there, merging_more, merging_none}
+use Rattle.bw_tree.proofs.MergingLemmas.{HasMerged, before_there, merging_more, merging_none}
 use Rattle.bw_tree.proofs.tree.merging.merged.Goals as goal
 
 pub loop-entry-init : goal.loop-entry-init
 loop-entry-init c =
-    subst (λ (l : List (KeyBytes × ℕ)). IsMerging [] l c.args.children.now 0) (sym c.in_ok-all.ensures.items) (merging_none c.args.children.now)
+    subst (λ (l : List (KeyBytes × ℕ)). HasMerged [] l c.args.children.now 0) (sym c.in_ok-all.ensures.items) (merging_none c.args.children.now)
 
 pub loop-entry-preserved : goal.loop-entry-preserved
 loop-entry-preserved c =

@@ -1,0 +1,47 @@
+use Rattle.std.proofs.Common.{◌∙◌, set, [], Option, Some, ap, get_or, length, subst, sym, arith}
+use Rattle.bw_key.specs.Order.{KeyBytes}
+use Rattle.bw_page.specs.declared.pages.Page.{Page}
+use Rattle.bw_delta.specs.declared.deltas.Delta.{Delta}
+use Rattle.bw_delta.specs.declared.deltas.Delta.TheVariants.{Split}
+use Rattle.bw_chain.specs.Chains.{ChainsView, based, change, plain}
+use Rattle.bw_chain.specs.Slots.{IsSound}
+use Rattle.bw_chain.proofs.InPlaceLemmas.{split_at, split_within}
+use Rattle.bw_chain.proofs.chains.Chains.narrow.Goals as goal
+
+pub index_mut-requires : goal.index_mut-requires
+index_mut-requires c =
+    let s = c.in-Some-Split-default in
+    let within = split_within c.args.self.now c.args.head s.number s.sep s.to c.requires.ends (sym s.ensures ∙ ap (λ (d : Delta). Some (d, s.number)) s.field-0-0-is) in
+    omega (arith, within, ap (λ (v : ChainsView). length v.bases) c.self.view_is, c.self.inside.bases.ok)
+
+pub unreachable-requires : goal.unreachable-requires
+unreachable-requires c =
+    let s = c.in-Some-Split-default in
+    let at = split_at c.args.self.now c.args.head s.number s.sep s.to c.index_mut.result.now c.requires.ends (sym s.ensures ∙ ap (λ (d : Delta). Some (d, s.number)) s.field-0-0-is) c.requires.sound
+    (c.index_mut.ensures.value ∙ ap (λ (v : ChainsView). get_or v.bases s.number c.index_mut.result.now) c.self.view_is) in
+    subst (λ (o : Option Page). IsSound (change [] (Split s.sep s.to) (based (Some o)))) c.in_default-index_mut.is at.sound
+
+pub narrow-requires : goal.narrow-requires
+narrow-requires c = λ bases.
+    let s = c.in-Some-Split-default in
+    let at = split_at c.args.self.now c.args.head s.number s.sep s.to c.index_mut.result.now c.requires.ends (sym s.ensures ∙ ap (λ (d : Delta). Some (d, s.number)) s.field-0-0-is) c.requires.sound
+    (c.index_mut.ensures.value ∙ ap (λ (v : ChainsView). get_or v.bases s.number c.index_mut.result.now) c.self.view_is) in
+    subst (λ (k : KeyBytes). IsSound (change [] (Split k s.to) (plain c.in-Some.base))) (sym c.in_ok-high.ensures.ok)
+    (subst (λ (o : Option Page). IsSound (change [] (Split s.sep s.to) (based (Some o)))) c.in-Some.is at.sound)
+
+pub returns-clause-ok : goal.returns-clause-ok
+returns-clause-ok c =
+    let s = c.in-Some-Split-default in
+    let at = split_at c.args.self.now c.args.head s.number s.sep s.to c.index_mut.result.now c.requires.ends (sym s.ensures ∙ ap (λ (d : Delta). Some (d, s.number)) s.field-0-0-is) c.requires.sound
+    (c.index_mut.ensures.value ∙ ap (λ (v : ChainsView). get_or v.bases s.number c.index_mut.result.now) c.self.view_is) in
+    record {
+      page = c.narrow.new.base;
+      same =
+          c.narrow.ensures []
+          ∙ ap (λ (k : KeyBytes). change [] (Split k s.to) (plain c.in-Some.base)) c.in_ok-high.ensures.ok
+          ∙ ap (λ (o : Option Page). change [] (Split s.sep s.to) (based (Some o))) (sym c.in-Some.is)
+          ∙ sym at.state;
+      under = at.under;
+      bases = ap (λ (v : ChainsView). set v.bases s.number (Some c.narrow.new.base)) c.self.view_is;
+      records = ap (λ (v : ChainsView). v.records) c.self.view_is;
+    }

@@ -1,0 +1,106 @@
+// Base pages that part in two, and that end where a split says.
+ghost use Rattle.std.specs.Prelude.{◌≡◌, ◌+◌, ◌-◌, ◌<◌, ◌^◌, is_some, length, Some, IfOk, OnOk, OnErr, MatchOption};
+ghost use Rattle.bw_chain.specs.Chains.{Bases, IsChain, change, floor_word, page_at, plain, record_at};
+ghost use Rattle.bw_chain.specs.Slots.{IsSound};
+ghost use Rattle.bw_chain.specs.Splits.{IsCut, IsNarrowed, is_split, slot_entries, slot_left, slot_right, slot_separator};
+ghost use Rattle.bw_delta.specs.declared.deltas.Delta.TheVariants.{Split};
+
+use crate::chains::{Chains, FLOOR};
+use crate::records::make_room;
+use bw_delta::Delta;
+use bw_key::{Key, Memory};
+use bw_page::{Page, PageId};
+
+impl Chains {
+    /// Parts a page without a record: its base page keeps the entries before place `keep` and its bounds, a new one has the
+    /// others, and a record says where the page ends now, with the right neighbour `to`. Answers the words that name the
+    /// record and the new base page.
+    ///
+    /// The entries that go are moved. `Memory` is answered where their list finds none, the copy of a key that is a bound,
+    /// or a place in the lists of records and of base pages, and where there are 2^32 records or 2^32 - 1 base pages; all
+    /// is as before.
+    pub fn split(&mut self, word: u64, keep: usize, to: PageId) -> Result<(u64, u64), Memory>
+        requires ends { IsChain self.old word }
+        requires plain { word < floor_word }
+        requires some { 0 < keep }
+        requires fewer { keep < slot_entries (page_at self.old word) }
+        ensures cut { OnOk result (IsCut self.old self.new word keep to) }
+        ensures word { IfOk result (λ words. words.0 ≡ 2 ^ 32 + length self.old.records) }
+        ensures number { IfOk result (λ words. words.1 ≡ length self.old.bases) }
+        ensures few_records { OnOk result (length self.old.records < 2 ^ 32) }
+        ensures few_bases { OnOk result (length self.old.bases < 2 ^ 32 - 1) }
+        ensures err { OnErr result (self.new ≡ self.old) }
+    {
+        let number = self.bases.len() as u64;
+        if number >= FLOOR - 1 {
+            return Err(Memory);
+        }
+        self.bases.reserve(1)?;
+        make_room(&mut self.arena)?;
+        let Some(base) = &mut self.bases[word as usize] else {
+            unreachable!();
+        };
+        let (sep, right) = cut(base, keep)?;
+        let record = FLOOR + self.arena.len() as u64;
+        self.arena.append(Delta::Split { sep, to }, word);
+        self.bases.push(Some(right)).unwrap();
+        Ok((record, number))
+    }
+
+    /// Where a chain is a split over its base page, ends that page where the split says, so that it takes the place of
+    /// the chain, and answers its number, which as a mapping word names it.
+    ///
+    /// It copies one key and no entry. `Memory` is answered where that copy finds none; all is as before.
+    pub fn narrow(&mut self, head: u64) -> Result<Option<u64>, Memory>
+        requires ends { IsChain self.old head }
+        requires sound { IsSound (page_at self.old head) }
+        ensures some { IfOk result (λ number. is_some number ≡ is_split (record_at self.old.records head)) }
+        ensures ok { IfOk result
+            (λ number. MatchOption number (self.new ≡ self.old) (IsNarrowed self.old self.new head)) }
+        ensures err { OnErr result (self.new ≡ self.old) }
+    {
+        let Some((Delta::Split { sep, to }, number)) = self.record(head) else {
+            return Ok(None);
+        };
+        let (high, side) = (sep.copy()?, *to);
+        let Some(base) = &mut self.bases[number as usize] else {
+            unreachable!();
+        };
+        narrow(base, high, side);
+        Ok(Some(number))
+    }
+}
+
+// Cuts a base page, which keeps its first entries, and answers the key at which the others begin and a page of them.
+fn cut(base: &mut Page, keep: usize) -> Result<(Key, Page), Memory>
+    requires some { 0 < keep }
+    requires fewer { keep < slot_entries (plain base.old) }
+    ensures separator { IfOk result (λ half. half.0 ≡ slot_separator keep (plain base.old)) }
+    ensures right { IfOk result (λ half. plain half.1 ≡ slot_right keep (plain base.old)) }
+    ensures left { OnOk result (plain base.new ≡ slot_left keep (plain base.old)) }
+    ensures err { OnErr result (base.new ≡ base.old) }
+{
+    match base {
+        Page::Leaf(leaf) => {
+            let sep = leaf.pairs()[keep].0.copy()?;
+            Ok((sep, Page::Leaf(leaf.cut(keep)?)))
+        }
+        Page::Inner(inner) => {
+            let sep = inner.children()[keep].0.copy()?;
+            Ok((sep, Page::Inner(inner.cut(keep)?)))
+        }
+        Page::Gone(_) => unreachable!(),
+    }
+}
+
+// Ends a base page at this key, before this right neighbour.
+fn narrow(base: &mut Page, high: Key, side: PageId)
+    requires { (bases : Bases) → IsSound (change bases (Split high side) (plain base.old)) }
+    ensures { (bases : Bases) → plain base.new ≡ change bases (Split high side) (plain base.old) }
+{
+    match base {
+        Page::Leaf(leaf) => leaf.narrow(high, side),
+        Page::Inner(inner) => inner.narrow(high, side),
+        Page::Gone(_) => unreachable!(),
+    }
+}

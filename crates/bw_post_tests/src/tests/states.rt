@@ -1,0 +1,61 @@
+// States of leaves with the writes of an adopted batch over them.
+use super::rows::adopted;
+use bw_fixtures::{are, heap, was_refused};
+use bw_memory::Alloc;
+use bw_page::{Page, PageId};
+use bw_post::Tree;
+use std::process::Abort;
+
+// Whether a state is that of a leaf with these pairs.
+fn is_leaf(state: Option<&Page>, pairs: &[(&'static [u8], &'static [u8])]) -> bool {
+    match state {
+        Some(Page::Leaf(leaf)) => are(leaf.pairs(), pairs),
+        _ => false,
+    }
+}
+
+// Compares the pairs of a leaf as of a stamp.
+fn has_leaf<R: Abort>(
+    rt: &R,
+    tree: &Tree,
+    page: u32,
+    stamp: u64,
+    pairs: &[(&'static [u8], &'static [u8])],
+) {
+    let state = tree.state(PageId(page), stamp).expect(rt, "memory");
+    assert!(rt; is_leaf(state.as_ref(), pairs));
+}
+
+#[test]
+fn a_leaf_has_its_state_as_of_each_stamp(rt: HostRuntime) {
+    let alloc = heap(rt.alloc()).expect(&rt, "memory");
+    let tree = adopted(&rt, alloc);
+    has_leaf(&rt, &tree, 1, 0, &[(b"c", b"3")]);
+    has_leaf(&rt, &tree, 1, 1, &[(b"c", b"9")]);
+    has_leaf(&rt, &tree, 2, 1, &[(b"e", b"5")]);
+    has_leaf(&rt, &tree, 2, 2, &[]);
+    assert!(rt; tree.is_plain(PageId(0)));
+    assert!(rt; !tree.is_plain(PageId(1)));
+}
+
+// Asks for the state of a leaf with a write where this growth is refused. Whether it was.
+fn state_refused<R: Abort>(rt: &R, alloc: Alloc, tree: &Tree, growth: u64) -> bool {
+    alloc.refuse(growth);
+    let state = tree.state(PageId(1), 3);
+    let refused = was_refused(alloc, growth);
+    assert!(rt; state.is_err() == refused);
+    refused
+}
+
+#[test]
+fn each_growth_of_a_state_is_refused(rt: HostRuntime) {
+    let alloc = heap(rt.alloc()).expect(&rt, "memory");
+    let tree = adopted(&rt, alloc);
+    for growth in 1..100 {
+        if !state_refused(&rt, alloc, &tree, growth) {
+            assert!(rt; growth > 2);
+            return;
+        }
+    }
+    panic!(rt; "no run met no refusal")
+}
