@@ -63,21 +63,31 @@ fn a_leaf_is_cut_where_its_upper_half_begins(rt: HostRuntime) {
     is_leaf(&rt, &leaf, b"", b"c", 1, &[(b"a", b"1")]);
 }
 
+// Cuts the leaf of three pairs where this growth is refused, and compares it after that.
+fn leaf_refused<R: Abort>(rt: &R, alloc: Alloc, leaf: &mut Leaf, growth: u64) {
+    assert!(rt; leaf.pairs().len() == 3);
+    alloc.refuse(growth);
+    assert!(rt; leaf.cut(1).is_err());
+    assert_eq!(rt; alloc.left(), 0);
+    is_whole(rt, leaf);
+}
+
+// Cuts it where only the room that the pairs leave isn't given back.
+fn leaf_keeps_room<R: Abort>(rt: &R, alloc: Alloc, leaf: &mut Leaf) {
+    assert!(rt; leaf.pairs().len() == 3);
+    alloc.refuse(3);
+    assert!(rt; leaf.cut(1).is_ok());
+    assert_eq!(rt; alloc.left(), 0);
+    is_leaf(rt, leaf, b"", b"c", 1, &[(b"a", b"1")]);
+}
+
 #[test]
 fn a_leaf_is_whole_after_each_growth_of_a_cut_that_is_refused(rt: HostRuntime) {
     let alloc = heap(rt.alloc()).expect(&rt, "memory");
     let mut leaf = three(&rt, alloc);
-    for growth in 1..=2 {
-        alloc.refuse(growth);
-        assert!(rt; leaf.cut(1).is_err());
-        assert_eq!(rt; alloc.left(), 0);
-        is_whole(&rt, &leaf);
-    }
-    // Where the room that is left isn't given back, the leaf keeps it.
-    alloc.refuse(3);
-    assert!(rt; leaf.cut(1).is_ok());
-    assert_eq!(rt; alloc.left(), 0);
-    is_leaf(&rt, &leaf, b"", b"c", 1, &[(b"a", b"1")]);
+    leaf_refused(&rt, alloc, &mut leaf, 1);
+    leaf_refused(&rt, alloc, &mut leaf, 2);
+    leaf_keeps_room(&rt, alloc, &mut leaf);
 }
 
 #[test]
@@ -121,17 +131,21 @@ fn an_inner_page_is_cut_where_its_upper_half_begins(rt: HostRuntime) {
     assert!(rt; half.high().is_none() && inner.high().is_none());
 }
 
+// Cuts the page of three children where this growth is refused, and compares it after that.
+fn inner_refused<R: Abort>(rt: &R, alloc: Alloc, inner: &mut Inner, growth: u64) {
+    assert!(rt; inner.children().len() == 3);
+    alloc.refuse(growth);
+    assert!(rt; inner.cut(1).is_err());
+    assert_eq!(rt; alloc.left(), 0);
+    has_children(rt, inner, &[(b"", 0), (LONG, 5), (b"c", 1)]);
+}
+
 #[test]
 fn an_inner_page_is_whole_after_each_growth_of_a_cut_that_is_refused(rt: HostRuntime) {
     let alloc = heap(rt.alloc()).expect(&rt, "memory");
     let mut inner = three_children(&rt, alloc);
-    for growth in 1..=2 {
-        assert!(rt; inner.children().len() == 3);
-        alloc.refuse(growth);
-        assert!(rt; inner.cut(1).is_err());
-        assert_eq!(rt; alloc.left(), 0);
-        has_children(&rt, &inner, &[(b"", 0), (LONG, 5), (b"c", 1)]);
-    }
+    inner_refused(&rt, alloc, &mut inner, 1);
+    inner_refused(&rt, alloc, &mut inner, 2);
 }
 
 #[test]
