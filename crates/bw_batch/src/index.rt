@@ -111,7 +111,8 @@ impl Index {
     }
 
     /// The index over a tree, with what it holds. The tree has no staged batch. All its pages are due, so the next batch that
-    /// is accepted has them looked at; this costs the list of all pages. After `Memory` the tree is gone.
+    /// is accepted has them looked at; this costs the list of all pages. A split of the tree that isn't finished stays so, and
+    /// is read by its side link: finish them first (`bw_shape::tidy`). After `Memory` the tree is gone.
     ///
     /// The tree, its keys and its values should be made on `alloc` too: they stay where they were made, and so do their
     /// copies.
