@@ -9,7 +9,7 @@ use Rattle.bw_group.specs.Points.{Entry, entries_of, places_of}
 use Rattle.bw_answer.specs.Replies.{ReaderView, answer_to, answers_to}
 use Rattle.bw_answer.specs.declared.parts.Part.{Part}
 use Rattle.bw_answer.specs.declared.parts.Span.{Span}
-use Rattle.bw_group.specs.declared.grouping.Point.{Point}
+use Rattle.bw_group.specs.declared.points.Point.{Point}
 use Rattle.bw_answer.specs.declared.batch_reader.Answer.{Answer}
 use Rattle.bw_group.proofs.Lists.{seen_rest}
 

@@ -16,7 +16,7 @@ use Rattle.bw_tree.specs.Reading.{base_of, value_in, writes_over}
 use Rattle.bw_tree.specs.Slots.{Slot, slot_at}
 use Rattle.bw_tree.specs.View.{TreeView, contents_at}
 use Rattle.bw_group.specs.Points.{Entry, HasKey, entries_of}
-use Rattle.bw_group.specs.declared.grouping.Point.{Point}
+use Rattle.bw_group.specs.declared.points.Point.{Point}
 use Rattle.bw_group.proofs.RunLemmas.{all_both}
 use Rattle.bw_answer.specs.Replies.{IsReadBy}
 

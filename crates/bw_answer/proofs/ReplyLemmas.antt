@@ -16,7 +16,7 @@ use Rattle.bw_delta.proofs.Readings.{all_left, resumed, left_later}
 use Rattle.bw_tree.specs.View.{contents_at}
 use Rattle.bw_group.specs.Points.{Entry, entries_of, places_of, HasRisingPlaces}
 use Rattle.bw_model.specs.Model.{key_of}
-use Rattle.bw_group.specs.declared.grouping.Point.{Point}
+use Rattle.bw_group.specs.declared.points.Point.{Point}
 use Rattle.bw_answer.specs.declared.batch_reader.Answer.{Answer}
 use Rattle.bw_answer.specs.Replies.{ReaderView, IsReadInTurn, contents_before, replies_to, answer_to, answers_to, IsReadBy}
 use Rattle.bw_model.specs.Model.{IsReplyAt}

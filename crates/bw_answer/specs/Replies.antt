@@ -1,5 +1,5 @@
 -- A batch whose writes stand in a tree, and the replies to it.
-use Rattle.std.specs.Prelude.{◌≡◌, ℕ, ◌+◌, ◌≤◌, ◌^◌, List, [], ◌∷◌, length, map, take, Option, Some, slice_index_or}
+use Rattle.std.specs.Prelude.{◌≡◌, ℕ, ◌+◌, ◌≤◌, ◌^◌, List, [], ◌∷◌, length, map, take, Option, slice_index_or}
 use Rattle.std.specs.List.{AllByRecursion, slice_set}
 use Rattle.std.specs.List.Sorted.{IsSortedBy}
 use Rattle.std.specs.Ordering.{is_lt}
@@ -7,7 +7,7 @@ use Rattle.std.specs.FinMap.{get}
 use Rattle.bw_key.specs.Order.{KeyBytes, key_cmp}
 use Rattle.bw_model.specs.Contents.{Contents}
 use Rattle.bw_model.specs.Values.{ValueBytes}
-use Rattle.bw_model.specs.Model.{contents_after, replies_of, reply_of}
+use Rattle.bw_model.specs.Model.{contents_after, replies_of}
 use Rattle.bw_model.specs.declared.operations.Op.{Op}
 use Rattle.bw_model.specs.declared.operations.Reply.{Reply}
 use Rattle.bw_model.specs.declared.operations.Reply.TheVariants.{Absent}
@@ -16,8 +16,7 @@ use Rattle.bw_delta.specs.History.{history, action_at}
 use Rattle.bw_tree.specs.View.{TreeView, contents_at}
 use Rattle.bw_group.specs.Homes.{AreHomes, HomesView}
 use Rattle.bw_group.specs.Points.{Entry, entries_at, entries_of, places_of, HasRisingPlaces, IsEntryOf}
-use Rattle.bw_model.specs.Model.{key_of}
-use Rattle.bw_group.specs.declared.grouping.Point.{Point}
+use Rattle.bw_group.specs.declared.points.Point.{Point}
 use Rattle.bw_answer.specs.declared.batch_reader.Answer.{Answer}
 
 -- As of each stamp the tree has the map that the operations before it left.

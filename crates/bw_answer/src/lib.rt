@@ -7,6 +7,7 @@
 
 mod batch_reader;
 mod batch_replies;
+mod leaf_values;
 mod parts;
 mod write_groups;
 

@@ -16,7 +16,7 @@ impl Chains {
         ensures records { self.new.records ≡ self.old.records }
     {
         let number = self.base_number(head);
-        self.bases[number as usize] = Some(page);
+        self.bases.set(number as usize, Some(page));
         number
     }
 

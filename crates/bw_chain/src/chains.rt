@@ -13,6 +13,7 @@ use bw_key::Memory;
 use bw_memory::Alloc;
 use bw_model::Op;
 use bw_page::Page;
+use bw_segment::Segmented;
 use std::marker::Model;
 
 /// Mapping words from here on name records.
@@ -21,7 +22,7 @@ pub const FLOOR: u64 = 1 << 32;
 /// What mapping words name: base pages by their numbers, and records. A vacant number has no page.
 #[derive(Debug, Drop)]
 pub struct Chains {
-    pub(crate) bases: Vec<Option<Page>, Alloc>,
+    pub(crate) bases: Segmented<Option<Page>>,
     pub(crate) arena: Arena,
 }
 
@@ -35,8 +36,8 @@ impl Model for Chains {
 
 impl Chains {
     /// These base pages, and no record yet. It takes no memory.
-    pub fn new(alloc: Alloc, bases: Vec<Option<Page>, Alloc>) -> Chains
-        ensures { result ≡ chains_over bases.entry.items }
+    pub fn new(alloc: Alloc, bases: Segmented<Option<Page>>) -> Chains
+        ensures { result ≡ chains_over bases.items }
     {
         Chains {
             bases,
@@ -52,8 +53,7 @@ impl Chains {
     }
 
     /// Appends the writes of a batch, each with its stamp and with no link yet: that of the operation at place i is
-    /// `base + i`. Room for their records is made at once, and each key and value that is written is copied, with the
-    /// allocator of the base pages.
+    /// `base + i`. Each key and value that is written is copied, with the allocator of the base pages.
     ///
     /// `Memory` is answered where one finds none, and where there would be more than 2^32 records; all is as before.
     pub fn append_writes(&mut self, ops: &[Op], base: u64) -> Result<(), Memory>
@@ -64,7 +64,7 @@ impl Chains {
         ensures err { OnErr result (self.new.records ≡ self.old.records) }
         ensures few { length self.new.records ≤ 2 ^ 32 }
     {
-        append_writes(*self.bases.allocator(), &mut self.arena, ops, base)
+        append_writes(self.bases.allocator(), &mut self.arena, ops, base)
     }
 
     /// Gives the records from place `start` on these link words. It takes no memory.
@@ -122,7 +122,7 @@ impl Chains {
         if word < FLOOR {
             return None;
         }
-        self.arena.links().get((word - FLOOR) as usize).copied()
+        self.arena.link((word - FLOOR) as usize)
     }
 
     // The word of a chain's lowest record, or of its base page where there is no record. It reads links alone.

@@ -1,5 +1,5 @@
 // Records that no chain names.
-ghost use Rattle.std.specs.Prelude.{◌≡◌, ◌≤◌, ◌^◌, ◌++◌, length, OnOk, OnErr};
+ghost use Rattle.std.specs.Prelude.{◌≡◌, ◌≤◌, ◌^◌, ◌++◌, length, take, OnOk, OnErr};
 ghost use Rattle.bw_chain.specs.Records.{with_link};
 
 use crate::chains::{Chains, FLOOR};
@@ -17,22 +17,27 @@ impl Chains {
         ensures few { OnOk result (length self.new.records ≤ 2 ^ 32) }
         ensures err { OnErr result (self.new.records ≡ self.old.records) }
     {
-        let count = self.arena.len() as u64;
+        let before = self.arena.len();
+        let count = before as u64;
         if count > FLOOR || deltas.len() as u64 > FLOOR - count {
             return Err(Memory);
         }
-        self.arena.reserve(deltas.len())?;
-        append_each(&mut self.arena, deltas, link);
-        Ok(())
+        let appended = append_each(&mut self.arena, deltas, link);
+        if appended.is_err() {
+            self.arena.truncate(before);
+        }
+        appended
     }
 }
 
-// Appends changes, for which there is room.
-fn append_each(arena: &mut Arena, deltas: Vec<Delta, Alloc>, link: u64)
-    requires { length deltas.items ≤ arena.old.room }
-    ensures { arena.new.records ≡ arena.old.records ++ with_link link deltas.entry.items }
+// Appends changes, or some of them.
+fn append_each(arena: &mut Arena, deltas: Vec<Delta, Alloc>, link: u64) -> Result<(), Memory>
+    ensures ok { OnOk result (arena.new.records ≡ arena.old.records ++ with_link link deltas.entry.items) }
+    ensures others { take (length arena.old.records) arena.new.records ≡ arena.old.records }
 {
     for delta in deltas {
+        arena.make_room()?;
         arena.append(delta, link);
     }
+    Ok(())
 }

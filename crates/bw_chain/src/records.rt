@@ -23,7 +23,7 @@ pub(crate) fn put_write(delta: &Delta) -> &Write
 }
 
 /// Appends the writes of a batch, each with its stamp and with no link yet, and with `alloc` for the memory of its key and
-/// value. Room for their records is made at once. After `Memory` the records are as before.
+/// value. After `Memory` the records are as before.
 pub(crate) fn append_writes(
     alloc: Alloc,
     arena: &mut Arena,
@@ -36,7 +36,6 @@ pub(crate) fn append_writes(
     ensures err { OnErr result (arena.new.records ≡ arena.old.records) }
     ensures few { length arena.new.records ≤ 2 ^ 32 }
 {
-    arena.reserve(count_writes(ops))?;
     let before = arena.len();
     let appended = append_all(alloc, arena, ops, base);
     if appended.is_err() {
@@ -81,32 +80,5 @@ pub(crate) fn make_room(arena: &mut Arena) -> Result<(), Memory>
     if arena.len() as u64 >= FLOOR {
         return Err(Memory);
     }
-    arena.reserve(1)
-}
-
-// How many of the operations write.
-fn count_writes(ops: &[Op]) -> usize
-    ensures { result ≡ length (writes_of 0 ops.now) }
-{
-    let mut count = 0;
-    for op in ops {
-        if is_write(op) {
-            count += 1;
-        }
-    }
-    count
-}
-
-// Whether an operation writes.
-fn is_write(op: &Op) -> bool
-    ensures { result ≡ is_some (write_of op.now) }
-{
-    match op {
-        Op::Get(_) | Op::Scan { .. } | Op::Rscan { .. } => false,
-        Op::Insert(_, _)
-        | Op::Upsert(_, _)
-        | Op::Update(_, _)
-        | Op::Delete(_)
-        | Op::SwapIf(_, _, _) => true,
-    }
+    arena.make_room()
 }

@@ -35,15 +35,17 @@ impl Chains {
         if number >= FLOOR - 1 {
             return Err(Memory);
         }
-        self.bases.reserve(1)?;
+        self.bases.make_room()?;
         make_room(&mut self.arena)?;
-        let Some(base) = &mut self.bases[word as usize] else {
+        let Some(mut base) = self.bases.replace(word as usize, None) else {
             unreachable!();
         };
-        let (sep, right) = cut(base, keep)?;
+        let cut = cut(&mut base, keep);
+        self.bases.set(word as usize, Some(base));
+        let (sep, right) = cut?;
         let record = FLOOR + self.arena.len() as u64;
         self.arena.append(Delta::Split { sep, to }, word);
-        self.bases.push(Some(right)).unwrap();
+        self.bases.push_reserved(Some(right));
         Ok((record, number))
     }
 
@@ -63,10 +65,11 @@ impl Chains {
             return Ok(None);
         };
         let (high, side) = (sep.copy()?, *to);
-        let Some(base) = &mut self.bases[number as usize] else {
+        let Some(mut base) = self.bases.replace(number as usize, None) else {
             unreachable!();
         };
-        narrow(base, high, side);
+        narrow(&mut base, high, side);
+        self.bases.set(number as usize, Some(base));
         Ok(Some(number))
     }
 }

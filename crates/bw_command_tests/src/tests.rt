@@ -14,5 +14,6 @@ mod options;
 mod pictures;
 mod ports;
 mod shapes;
+mod stops;
 mod traces;
 mod words;

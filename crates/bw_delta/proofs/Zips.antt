@@ -2,6 +2,7 @@
 use Rattle.std.proofs.Common.{◌≡◌, ℕ, zero, suc, ◌+◌, ◌<◌, ◌≤◌, List, [], ◌∷◌, ◌++◌, length, take, drop, Some, None, get_or, slice_get, refl, ap, ◌∙◌, arith, length-append, length-take, length-drop}
 use Rattle.std.specs.List.{zip}
 use Rattle.std.proofs.Math.Seq.{take-append_seam}
+use Rattle.std.proofs.lemmas.Option.{none-some}
 use Rattle.std.proofs.lemmas.Slice.Zip.{length-zip}
 
 -- a list whose middle was written over, as long as it was
@@ -47,3 +48,16 @@ module _ {X Y : Type 0} where
   zip_past i (a ∷ xs) [] le = refl
   zip_past zero (a ∷ xs) (b ∷ ys) le = absurd (omega arith)
   zip_past (suc i) (a ∷ xs) (b ∷ ys) le = zip_past i xs ys (omega arith)
+
+  -- where one list has nothing, neither have both
+  pub zip_none : (i : ℕ) (xs : List X) (ys : List Y) → None ≡ slice_get xs i → None ≡ slice_get (zip xs ys) i
+  zip_none i [] ys is = refl
+  zip_none i (a ∷ xs) [] is = refl
+  zip_none zero (a ∷ xs) (b ∷ ys) is = absurd (none-some a is)
+  zip_none (suc i) (a ∷ xs) (b ∷ ys) is = zip_none i xs ys is
+
+  pub zip_none_too : (i : ℕ) (xs : List X) (ys : List Y) → None ≡ slice_get ys i → None ≡ slice_get (zip xs ys) i
+  zip_none_too i [] ys is = refl
+  zip_none_too i (a ∷ xs) [] is = refl
+  zip_none_too zero (a ∷ xs) (b ∷ ys) is = absurd (none-some b is)
+  zip_none_too (suc i) (a ∷ xs) (b ∷ ys) is = zip_none_too i xs ys is

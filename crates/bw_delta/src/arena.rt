@@ -1,20 +1,22 @@
 // Delta records in the order in which they were made.
-ghost use Rattle.std.specs.Prelude.{◌≡◌, ℕ, ◌+◌, ◌<◌, ◌≤◌, List, [], ◌∷◌, ◌++◌, length, take, drop, slice_get, OnOk, OnErr};
+ghost use Rattle.std.specs.Prelude.{◌≡◌, ℕ, ◌+◌, ◌<◌, ◌≤◌, List, [], ◌∷◌, ◌++◌, length, take, drop, slice_get, OnOk};
 ghost use Rattle.std.specs.Option.{option_map};
 ghost use Rattle.bw_delta.specs.Arenas.{deltas_of, links_of};
 
 use crate::deltas::Delta;
 use bw_key::Memory;
 use bw_memory::Alloc;
+use bw_segment::Segmented;
 use std::marker::Model;
 
 /// An append-only list of delta records, each with one link word: the word of what stands under it in its chain.
 ///
-/// The links lie in a list of their own, so that a walk along a chain touches 8 bytes a record.
+/// The links lie in a list of their own, so that a walk along a chain touches 8 bytes a record. Both lists grow by segments,
+/// so that no record that stands is moved for one that is added.
 #[derive(Debug)]
 pub struct Arena {
-    deltas: Vec<Delta, Alloc>,
-    links: Vec<u64, Alloc>,
+    deltas: Segmented<Delta>,
+    links: Segmented<u64>,
 }
 
 // Not derived: whoever drops one calls this, and its proof is spared the parts.
@@ -28,16 +30,13 @@ impl Drop for Arena {
 }
 
 impl Model for Arena {
-    ghost use Rattle.std.specs.Prelude.{◌≡◌, ◌-◌, length, vec_capacity, min};
+    ghost use Rattle.std.specs.Prelude.{◌≡◌, length, min};
     ghost use Rattle.std.specs.List.{zip};
     ghost use Rattle.bw_delta.specs.Arenas.{ArenaView};
 
     ghost Value = { ArenaView };
 
-    ghost view = { λ a. record {
-      records = zip a.deltas.items a.links.items;
-      room = min (vec_capacity a.deltas) (vec_capacity a.links) - length a.deltas.items;
-    } };
+    ghost view = { λ a. record { records = zip a.deltas.items a.links.items; room = min a.deltas.room a.links.room } };
 
     ghost invariant = { λ a. length a.links.items ≡ length a.deltas.items };
 }
@@ -48,8 +47,8 @@ impl Arena {
         ensures { result.records ≡ [] }
     {
         Arena {
-            deltas: Vec::new(alloc),
-            links: Vec::new(alloc),
+            deltas: Segmented::new(alloc),
+            links: Segmented::new(alloc),
         }
     }
 
@@ -60,26 +59,24 @@ impl Arena {
         self.deltas.len()
     }
 
-    /// Makes room for `additional` more records. After `Memory` the records are as before.
-    pub fn reserve(&mut self, additional: usize) -> Result<(), Memory>
+    /// Makes room for one more record. After `Memory` the records are as before.
+    pub fn make_room(&mut self) -> Result<(), Memory>
         ensures records { self.new.records ≡ self.old.records }
-        ensures ok { OnOk result (additional ≤ self.new.room) }
-        ensures err { OnErr result (self.old.room < additional) }
-        ensures room { self.old.room ≤ self.new.room }
+        ensures ok { OnOk result (0 < self.new.room) }
     {
-        self.deltas.reserve(additional)?;
-        self.links.reserve(additional)?;
+        self.deltas.make_room()?;
+        self.links.make_room()?;
         Ok(())
     }
 
-    /// Adds a record with its link word behind the others. It takes no memory: room was reserved.
+    /// Adds a record with its link word behind the others. It takes no memory: room was made.
     pub fn append(&mut self, delta: Delta, link: u64)
         requires { 0 < self.old.room }
         ensures records { self.new.records ≡ self.old.records ++ (delta, link) ∷ [] }
-        ensures room { self.old.room ≤ self.new.room + 1 }
+        ensures room { self.old.room ≡ self.new.room + 1 }
     {
-        self.deltas.push(delta).unwrap();
-        self.links.push(link).unwrap();
+        self.deltas.push_reserved(delta);
+        self.links.push_reserved(link);
     }
 
     /// Gives the records from place `start` on these link words. It takes no memory.
@@ -90,50 +87,38 @@ impl Arena {
             links_of self.new.records ≡ take start old ++ links.now ++ drop (start + length links.now) old }
         ensures room { self.new.room ≡ self.old.room }
     {
-        put_over(&mut self.links, start, links);
+        self.links.overwrite(start, links);
     }
 
-    /// Leaves the first `len` records, or all where there are no more. It takes no memory.
+    /// Leaves the first `len` records, or all where there are no more, and gives back the segments behind them, but for one of
+    /// each list at most.
     pub fn truncate(&mut self, len: usize)
-        ensures records { self.new.records ≡ take len self.old.records }
-        ensures room { self.old.room ≤ self.new.room }
+        ensures { self.new.records ≡ take len self.old.records }
     {
         self.deltas.truncate(len);
         self.links.truncate(len);
     }
 
-    /// Leaves no record. It takes no memory.
+    /// Leaves no record, and of each list no more than one segment.
     pub fn clear(&mut self)
-        ensures records { self.new.records ≡ [] }
-        ensures room { self.old.room ≤ self.new.room }
+        ensures { self.new.records ≡ [] }
     {
-        self.deltas.clear();
-        self.links.clear();
+        self.truncate(0);
     }
 
     /// The record at a place, with its link word.
     pub fn get(&self, at: usize) -> Option<(&Delta, u64)>
         ensures { option_map (λ entry. (entry.0.now, entry.1)) result ≡ slice_get self.now.records at }
     {
-        if at < self.deltas.len() {
-            Some((&self.deltas[at], self.links[at]))
-        } else {
-            None
-        }
+        let delta = self.deltas.get(at)?;
+        let link = self.links.get(at)?;
+        Some((delta, *link))
     }
 
-    /// The link words alone, by the places of the records.
-    pub fn links(&self) -> &[u64]
-        ensures { result.now ≡ links_of self.now.records }
+    /// The link word of the record at a place.
+    pub fn link(&self, at: usize) -> Option<u64>
+        ensures { result ≡ slice_get (links_of self.now.records) at }
     {
-        &self.links
+        self.links.get(at).copied()
     }
-}
-
-// Writes words over those from a place on.
-fn put_over(words: &mut [u64], start: usize, given: &[u64])
-    requires { start + length given.now ≤ length words.old }
-    ensures { words.new ≡ take start words.old ++ given.now ++ drop (start + length given.now) words.old }
-{
-    words[start..start + given.len()].copy_from_slice(given);
 }

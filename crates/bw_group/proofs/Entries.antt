@@ -11,7 +11,7 @@ use Rattle.bw_key.specs.Order.{KeyBytes, key_cmp, key_eq, key_eq_equiv}
 use Rattle.bw_model.specs.declared.operations.Op.{Op}
 use Rattle.bw_group.specs.Points.{Entry, entry_at, scan_place, scans_from, entries_from, entries_of, entries_at, places_of, HasKey, HasRisingPlaces, IsEntryOf, IsScanOf}
 use Rattle.bw_model.specs.Model.{key_of}
-use Rattle.bw_group.specs.declared.grouping.Point.{Point}
+use Rattle.bw_group.specs.declared.points.Point.{Point}
 use Rattle.bw_group.proofs.Lists.{part_more, all_append, all_at, all_same, in_rest, seen_rest}
 
 -- the points of one operation more
@@ -224,24 +224,23 @@ group_one ps n d lt =
 
 -- what a comparison of two points' keys said
 pub still_of_key : (ps : List Point) (n m : ℕ) (p s d : Point) (r : Bool) → n < length ps → p ≡ get_or ps m p →
-    r ≡ not (key_eq (get_or ps m p).key.now (get_or ps n s).key.now) → r ≡ false → key_eq (get_or ps n d).key.now p.key.now ≡ true
-still_of_key ps n m p s d r lt is answers taken =
+    s ≡ get_or ps n s → r ≡ not (key_eq p.key.now s.key.now) → r ≡ false → key_eq (get_or ps n d).key.now p.key.now ≡ true
+still_of_key ps n m p s d r lt is first answers taken =
     key_eq_equiv.symm (get_or ps n d).key.now p.key.now
-    ∙ ap (λ (q : Point). key_eq p.key.now q.key.now) (get_or_default ps n d s lt)
-    ∙ ap (λ (q : Point). key_eq q.key.now (get_or ps n s).key.now) is
-    ∙ equal (key_eq (get_or ps m p).key.now (get_or ps n s).key.now) (sym answers ∙ taken)
+    ∙ ap (λ (q : Point). key_eq p.key.now q.key.now) (get_or_default ps n d s lt ∙ sym first)
+    ∙ equal (key_eq p.key.now s.key.now) (sym answers ∙ taken)
   where
     equal : (b : Bool) → not b ≡ false → b ≡ true
     equal true e = refl
     equal false e = sym e
 
 pub of_other_key : (ps : List Point) (n m : ℕ) (p s d : Point) (r : Bool) → n < length ps → m < length ps →
-    r ≡ not (key_eq (get_or ps m p).key.now (get_or ps n s).key.now) → r ≡ true → key_eq (get_or ps n d).key.now (get_or ps m d).key.now ≡ false
-of_other_key ps n m p s d r lt lt' answers taken =
+    p ≡ get_or ps m p → s ≡ get_or ps n s → r ≡ not (key_eq p.key.now s.key.now) → r ≡ true → key_eq (get_or ps n d).key.now (get_or ps m d).key.now ≡ false
+of_other_key ps n m p s d r lt lt' is first answers taken =
     key_eq_equiv.symm (get_or ps n d).key.now (get_or ps m d).key.now
-    ∙ ap (λ (q : Point). key_eq q.key.now (get_or ps n d).key.now) (get_or_default ps m d p lt')
-    ∙ ap (λ (q : Point). key_eq (get_or ps m p).key.now q.key.now) (get_or_default ps n d s lt)
-    ∙ differs (key_eq (get_or ps m p).key.now (get_or ps n s).key.now) (sym answers ∙ taken)
+    ∙ ap (λ (q : Point). key_eq q.key.now (get_or ps n d).key.now) (get_or_default ps m d p lt' ∙ sym is)
+    ∙ ap (λ (q : Point). key_eq p.key.now q.key.now) (get_or_default ps n d s lt ∙ sym first)
+    ∙ differs (key_eq p.key.now s.key.now) (sym answers ∙ taken)
   where
     differs : (b : Bool) → not b ≡ true → b ≡ false
     differs true e = sym e

@@ -16,7 +16,7 @@ use Rattle.bw_tree.specs.Words.{ArePages}
 use Rattle.bw_group.specs.Points.{Entry, entries_at, entries_from, entries_of, key_at, IsEntryOf}
 use Rattle.bw_model.specs.Model.{key_of}
 use Rattle.bw_group.specs.Homes.{AreHomes, AreInKeyOrder, HasHome, HomesView, IsTouched, with_number}
-use Rattle.bw_group.specs.declared.grouping.Point.{Point}
+use Rattle.bw_group.specs.declared.points.Point.{Point}
 use Rattle.bw_group.proofs.Entries.{place_within}
 use Rattle.bw_group.proofs.Lists.{all_append, all_same, get_other, get_set, take_to}
 use Rattle.bw_group.proofs.PassedPages.{IsPassed, order_more, pages_more, passed_more}

@@ -6,7 +6,7 @@ use Rattle.std.proofs.lemmas.List.{get_or_default}
 use Rattle.std.proofs.lemmas.Option.{get_or_from_slice_get, slice_get_within}
 use Rattle.bw_group.specs.Homes.{HasPageAt, HomesView, IsPageAt, number_of}
 use Rattle.bw_group.specs.Points.{Entry, entries_of, place_at}
-use Rattle.bw_group.specs.declared.grouping.Point.{Point}
+use Rattle.bw_group.specs.declared.points.Point.{Point}
 use Rattle.bw_group.proofs.Entries.{entry_holds}
 use Rattle.bw_group.proofs.Lists.{all_same}
 use Rattle.bw_group.proofs.RunLemmas.{all_both}

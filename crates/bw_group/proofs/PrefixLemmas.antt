@@ -1,19 +1,12 @@
 -- Keys are in the order of their prefixes, and of themselves where these are alike.
-use Rattle.std.proofs.Common.{◌≡◌, ℕ, zero, suc, ◌+◌, ◌*◌, ◌^◌, ◌<◌, ◌≤◌, Bool, true, false, ◌&&◌, nat_eq, List, [], ◌∷◌, length, get_or, refl, sym, ap, ◌∙◌, arith, Ordering}
-use Rattle.std.specs.Prelude.{filter}
-use Rattle.std.specs.List.{AllByRecursion}
-use Rattle.std.specs.List.Sorted.{IsSortedBy, IsStableBy}
-use Rattle.std.specs.Ordering.{is_lt, nat_cmp, ordering_then, MatchOrdering}
-use Rattle.std.specs.Cmp.{ranks, nat_cmp_is, unsigned_Decides}
+use Rattle.std.proofs.Common.{◌≡◌, ℕ, zero, suc, ◌+◌, ◌*◌, ◌^◌, ◌<◌, ◌≤◌, ◌⊎◌, inl, inr, List, [], ◌∷◌, length, take, get_or, refl, sym, ap, subst, ◌∙◌, arith, Ordering}
+use Rattle.std.specs.Ordering.{nat_cmp, ordering_then, MatchOrdering}
+use Rattle.std.specs.Cmp.{ranks, nat_cmp_is}
 use Rattle.std.proofs.lemmas.Nat.{pow-add}
 use Rattle.std.proofs.Math.Pow.{pow_mono}
 use Rattle.std.specs.declared.cmp.Ordering.TheVariants.{Less, Equal, Greater}
-use Rattle.bw_key.specs.Order.{KeyBytes, key_cmp, key_eq}
-use Rattle.bw_group.specs.declared.grouping.Point.{Point}
-use Rattle.bw_group.specs.Prefixes.{continued_by, key_prefix, rank_of, HasPrefix, IsBytes}
-use Rattle.bw_group.proofs.Groups.{is_below, same_of_key}
-use Rattle.bw_group.proofs.Lists.{all_at}
-use Rattle.bw_page.proofs.Search.{same_keys}
+use Rattle.bw_key.specs.Order.{key_cmp}
+use Rattle.bw_group.specs.Prefixes.{continued_by, key_prefix, IsBytes}
 
 below : {x y : ℕ} → x < y → nat_cmp x y ≡ Less
 below {x} {y} lt = sym (nat_cmp_is x y Less lt)
@@ -90,47 +83,55 @@ one_more zero x (b ∷ bytes) = refl
 one_more (suc n) x [] = one_more n (x * 256) []
 one_more (suc n) x (b ∷ bytes) = one_more n (x * 256 + b) bytes
 
--- points stand by their ranks as by their keys
-ranked_as_keys : (p q : Point) → HasPrefix p → HasPrefix q → key_cmp (rank_of p) (rank_of q) ≡ key_cmp p.key.now q.key.now
-ranked_as_keys p q hp hq =
-    ap (λ z. ordering_then (nat_cmp z q.prefix) (key_cmp p.key.now q.key.now)) hp.is
-    ∙ ap (λ z. ordering_then (nat_cmp (key_prefix p.key.now) z) (key_cmp p.key.now q.key.now)) hq.is
-    ∙ prefix_first 8 0 p.key.now q.key.now hp.bytes hq.bytes
+-- keys stand as the first of their prefixes and of themselves that differs
+pub by_prefix : (bs cs : List ℕ) (r : Ordering) → IsBytes bs → IsBytes cs → nat_cmp (key_prefix bs) (key_prefix cs) ≡ r → (r ≡ Equal → ⊥) → r ≡ key_cmp bs cs
+by_prefix bs cs Less ib ic is other = ap (λ o. ordering_then o (key_cmp bs cs)) (sym is) ∙ prefix_first 8 0 bs cs ib ic
+by_prefix bs cs Equal ib ic is other = absurd (other refl)
+by_prefix bs cs Greater ib ic is other = ap (λ o. ordering_then o (key_cmp bs cs)) (sym is) ∙ prefix_first 8 0 bs cs ib ic
 
--- points that are sorted by their ranks are sorted by their keys
-pub sorted_by_keys : (ps : List Point) → AllByRecursion HasPrefix ps → IsSortedBy (is_below rank_of) ps → IsSortedBy (is_below (λ (p : Point). p.key.now)) ps
-sorted_by_keys ps all sorted k d low up =
-    let at = λ (i : ℕ) (lt : i < length ps). all_at HasPrefix ps i (get_or ps i d) lt (same_at ps i d (get_or ps i d) lt) all in
-    ap is_lt (sym (ranked_as_keys (get_or ps (k + 1) d) (get_or ps k d) (at (k + 1) (omega (arith, up))) (at k (omega (arith, up))))) ∙ sorted k d low up
+-- numbers that are continued to the same one are the same
+same_number : (n x y : ℕ) (bs cs : List ℕ) → IsBytes bs → IsBytes cs → continued_by n x bs ≡ continued_by n y cs → x ≡ y
+same_number n x y bs cs ib ic same = by (ranks x y)
   where
-    same_at : (xs : List Point) (i : ℕ) (d e : Point) → i < length xs → get_or xs i d ≡ get_or xs i e
-    same_at [] i d e lt = absurd (omega arith)
-    same_at (x ∷ xs) zero d e lt = refl
-    same_at (x ∷ xs) (suc i) d e lt = same_at xs i d e (omega arith)
+    by : MatchOrdering (nat_cmp x y) (x < y) (x ≡ y) (y < x) → x ≡ y
+    by h = pick (nat_cmp x y) h
+      where
+        pick : (r : Ordering) → MatchOrdering r (x < y) (x ≡ y) (y < x) → x ≡ y
+        pick Less lt = absurd (let below : continued_by n x bs < continued_by n y cs = rises n x y bs cs ib lt in omega (arith, below, same))
+        pick Equal e = e
+        pick Greater lt = absurd (let below : continued_by n y cs < continued_by n x bs = rises n y x cs bs ic lt in omega (arith, below, same))
 
--- a point has a key where it has the key's rank
-of_rank : (key : KeyBytes) (p : Point) → HasPrefix p → key_eq key p.key.now ≡ key_eq (key_prefix key ∷ key) (rank_of p)
-of_rank key p has = by (key_eq key p.key.now) refl
+-- how lengths stand
+abbrev IsByLength : List ℕ → List ℕ → Ordering → Type 0
+IsByLength bs cs r = MatchOrdering r (length bs < length cs) (length bs ≡ length cs) (length cs < length bs)
+
+longer : (b c : ℕ) (bs cs : List ℕ) (r : Ordering) → IsByLength bs cs r → IsByLength (b ∷ bs) (c ∷ cs) r
+longer b c bs cs Less lt = let l : length bs < length cs = lt in omega arith
+longer b c bs cs Equal e = ap suc e
+longer b c bs cs Greater lt = let l : length cs < length bs = lt in omega arith
+
+-- keys of one prefix, of which one ends within it, stand as their lengths
+pub by_length : (n x : ℕ) (bs cs : List ℕ) → IsBytes bs → IsBytes cs → continued_by n x bs ≡ continued_by n x cs → (length bs ≤ n) ⊎ (length cs ≤ n) → IsByLength bs cs (key_cmp bs cs)
+by_length n x [] [] ib ic same short = refl
+by_length n x [] (c ∷ cs) ib ic same short = omega arith
+by_length n x (b ∷ bs) [] ib ic same short = omega arith
+by_length zero x (b ∷ bs) (c ∷ cs) ib ic same (inl le) = absurd (omega (arith, le))
+by_length zero x (b ∷ bs) (c ∷ cs) ib ic same (inr le) = absurd (omega (arith, le))
+by_length (suc n) x (b ∷ bs) (c ∷ cs) ib ic same short =
+    let number = same_number n (x * 256 + b) (x * 256 + c) bs cs (rest_is b bs ib) (rest_is c cs ic) same in
+    let first : b ≡ c = omega (arith, number) in
+    let behind = by_length n (x * 256 + b) bs cs (rest_is b bs ib) (rest_is c cs ic) (same ∙ ap (λ (z : ℕ). continued_by n z cs) (sym number)) (shorter short) in
+    subst (IsByLength (b ∷ bs) (c ∷ cs)) (sym (ap (λ (z : ℕ). ordering_then (nat_cmp b z) (key_cmp bs cs)) (sym first) ∙ ap (λ o. ordering_then o (key_cmp bs cs)) (alike b))) (longer b c bs cs (key_cmp bs cs) behind)
   where
-    no_both : (b : Bool) → b && false ≡ false
-    no_both true = refl
-    no_both false = refl
+    shorter : (length (b ∷ bs) ≤ suc n) ⊎ (length (c ∷ cs) ≤ suc n) → (length bs ≤ n) ⊎ (length cs ≤ n)
+    shorter (inl le) = inl (omega (arith, le))
+    shorter (inr le) = inr (omega (arith, le))
 
-    by : (b : Bool) → key_eq key p.key.now ≡ b → key_eq key p.key.now ≡ (nat_eq (key_prefix key) p.prefix && key_eq key p.key.now)
-    by false is = is ∙ sym (ap (λ c. nat_eq (key_prefix key) p.prefix && c) is ∙ no_both (nat_eq (key_prefix key) p.prefix))
-    by true is =
-        let same : key_prefix key ≡ p.prefix = ap key_prefix (same_keys key p.key.now is) ∙ sym has.is in
-        sym (ap (λ z. nat_eq (key_prefix key) z && key_eq key p.key.now) (sym same) ∙ ap (λ b. b && key_eq key p.key.now) (((unsigned_Decides (key_prefix key) (key_prefix key)).1 refl)))
+pub lengths_stand : (bs cs : List ℕ) → IsBytes bs → IsBytes cs → key_prefix bs ≡ key_prefix cs → (length bs ≤ 8) ⊎ (length cs ≤ 8) → nat_cmp (length bs) (length cs) ≡ key_cmp bs cs
+lengths_stand bs cs ib ic same short = sym (nat_cmp_is (length bs) (length cs) (key_cmp bs cs) (by_length 8 0 bs cs ib ic same short))
 
-filter_all : {X : Type 0} (P : X → Type 0) (f g : X → Bool) → ((x : X) → P x → f x ≡ g x) → (xs : List X) → AllByRecursion P xs → filter f xs ≡ filter g xs
-filter_all P f g same [] all = refl
-filter_all P f g same (x ∷ xs) all = rw (same x all.0, filter_all P f g same xs all.1) refl
-
--- a sort by ranks leaves the points of one key in their order
-pub same_of_keys : (old new : List Point) → AllByRecursion HasPrefix old → AllByRecursion HasPrefix new → IsStableBy (is_below rank_of) old new → (key : KeyBytes)
-    → filter (λ (p : Point). key_eq key p.key.now) new ≡ filter (λ (p : Point). key_eq key p.key.now) old
-same_of_keys old new was is stable key =
-    let at : Point = record { key = record { ref_ptr = (0, 0); now = key }; place = 0; prefix = key_prefix key } in
-    filter_all HasPrefix (λ (p : Point). key_eq key p.key.now) (λ (p : Point). key_eq (rank_of at) (rank_of p)) (of_rank key) new is
-    ∙ same_of_key rank_of old new stable at
-    ∙ sym (filter_all HasPrefix (λ (p : Point). key_eq key p.key.now) (λ (p : Point). key_eq (rank_of at) (rank_of p)) (of_rank key) old was)
+-- a prefix is that of the first bytes
+pub of_first : (n x : ℕ) (bytes : List ℕ) → continued_by n x (take n bytes) ≡ continued_by n x bytes
+of_first zero x bytes = refl
+of_first (suc n) x [] = refl
+of_first (suc n) x (b ∷ bytes) = of_first n (x * 256 + b) bytes

@@ -13,7 +13,7 @@ use Rattle.bw_tree.specs.Levels.{IsHome, IsOneHome}
 use Rattle.bw_tree.specs.Scans.{high_of}
 use Rattle.bw_tree.specs.Slots.{Slot, slot_at}
 use Rattle.bw_group.specs.Points.{Entry, entries_of}
-use Rattle.bw_group.specs.declared.grouping.Point.{Point}
+use Rattle.bw_group.specs.declared.points.Point.{Point}
 use Rattle.bw_group.proofs.Entries.{part_holds, seen_length}
 use Rattle.bw_group.proofs.Groups.{ranks}
 use Rattle.bw_group.proofs.Lists.{all_append, in_rest, part_more, seen_rest}

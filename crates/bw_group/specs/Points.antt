@@ -6,7 +6,7 @@ use Rattle.std.specs.List.Sorted.{IsSortedBy}
 use Rattle.bw_key.specs.Order.{KeyBytes, key_cmp, key_eq}
 use Rattle.bw_model.specs.declared.operations.Op.{Op}
 use Rattle.bw_model.specs.Model.{key_of}
-use Rattle.bw_group.specs.declared.grouping.Point.{Point}
+use Rattle.bw_group.specs.declared.points.Point.{Point}
 
 -- a key, and the place of an operation on it
 abbrev pub Entry : Type 0

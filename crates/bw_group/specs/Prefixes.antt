@@ -1,7 +1,6 @@
 -- The first bytes of a key as one number: most keys are compared by it alone.
-use Rattle.std.specs.Prelude.{◌≡◌, ℕ, ◌+◌, ◌*◌, ◌<◌, zero, suc, List, [], ◌∷◌, slice_index_or}
+use Rattle.std.specs.Prelude.{ℕ, ◌+◌, ◌*◌, ◌<◌, zero, suc, List, [], ◌∷◌, slice_index_or}
 use Rattle.bw_key.specs.Order.{KeyBytes}
-use Rattle.bw_group.specs.declared.grouping.Point.{Point}
 
 -- a number to the base 256 that is continued by the first n bytes of a key, with zeros behind a shorter one
 abbrev pub continued_by : ℕ → ℕ → KeyBytes → ℕ
@@ -16,12 +15,3 @@ key_prefix = continued_by 8 0
 -- each of them is a byte
 abbrev pub IsBytes : List ℕ → Type 0
 IsBytes bytes = (k : ℕ) → slice_index_or bytes k 0 < 256
-
--- the point knows the prefix of its key
-pub record HasPrefix (point : Point) : Type 0 where
-  pub is : point.prefix ≡ key_prefix point.key.now
-  pub bytes : IsBytes point.key.now
-
--- what points are compared by: the prefix, and behind it the key
-abbrev pub rank_of : Point → List ℕ
-rank_of point = point.prefix ∷ point.key.now

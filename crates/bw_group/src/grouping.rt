@@ -7,23 +7,31 @@ ghost use Rattle.std.specs.Option.{option_copied};
 ghost use Rattle.bw_key.specs.Order.{key_cmp, key_eq};
 ghost use Rattle.bw_group.specs.Points.{AreGrouped, HasKey, HaveSameOfKeys};
 ghost use Rattle.bw_group.specs.Points.{entries_from, entries_in, entries_of, key_at, scans_from};
-ghost use Rattle.bw_group.specs.Prefixes.{HasPrefix, rank_of};
 ghost use Rattle.bw_model.specs.Model.{key_of};
-ghost use Rattle.bw_group.specs.declared.grouping.Point.{Point};
+ghost use Rattle.bw_group.specs.declared.points.Point.{Point};
 
-use crate::prefixes::prefix_of;
-use bw_key::{Key, Memory};
+use crate::points::Point;
+use bw_key::Memory;
 use bw_memory::Alloc;
 use bw_model::Op;
-use std::cmp::Ordering;
 use std::marker::Model;
 
 /// The operations of a batch, those on one key each grouped by key, and the scans.
-#[derive(Drop)]
 pub struct Grouping<'a> {
     pub(crate) ops: &'a [Op],
     pub(crate) points: Vec<Point<'a>, Alloc>,
     pub(crate) scans: Vec<usize, Alloc>,
+}
+
+// Not derived: whoever drops one calls this, and its proof is spared the parts.
+impl Drop for Grouping<'_> {
+    fn drop(self) {
+        let Grouping {
+            ops: _ops,
+            points: _points,
+            scans: _scans,
+        } = self;
+    }
 }
 
 impl<'a> Model for Grouping<'a> {
@@ -72,41 +80,9 @@ impl<'a> Grouping<'a> {
     }
 }
 
-/// An operation's key, and its place in the batch.
-#[derive(Drop)]
-pub struct Point<'a> {
-    pub key: &'a Key,
-    pub place: usize,
-    // The first bytes of the key, so that a sort reads few keys.
-    pub(crate) prefix: u64,
-}
-
-impl<'a> Point<'a> {
-    // The point of a key.
-    fn new(key: &'a Key, place: usize) -> Point<'a>
-        ensures key { result.key.now ≡ key.now }
-        ensures place { result.place ≡ place }
-        ensures prefix { HasPrefix result }
-    {
-        let prefix = prefix_of(key);
-        Point { key, place, prefix }
-    }
-
-    // How two points stand by their keys: most are told apart by their prefixes.
-    fn by_key(&self, other: &Point<'_>) -> Ordering
-        ensures { result ≡ key_cmp (rank_of self.now) (rank_of other.now) }
-    {
-        match self.prefix.cmp(&other.prefix) {
-            Ordering::Equal => self.key.cmp(other.key),
-            order => order,
-        }
-    }
-}
-
 // The points of a batch, in its order.
 fn points_of<'a>(alloc: Alloc, ops: &'a [Op]) -> Result<Vec<Point<'a>, Alloc>, Memory>
-    ensures points { IfOk result (λ points. entries_of points.items ≡ entries_from 0 ops.now) }
-    ensures prefixes { IfOk result (λ points. AllByRecursion HasPrefix points.items) }
+    ensures { IfOk result (λ points. entries_of points.items ≡ entries_from 0 ops.now) }
 {
     let mut points = Vec::with_capacity(alloc, ops.len())?;
     for (place, op) in ops.iter().enumerate() {
@@ -134,7 +110,6 @@ fn scans_of(alloc: Alloc, ops: &[Op]) -> Result<Vec<usize, Alloc>, Memory>
 
 // Groups points by key, in the order of the keys. Those of one key keep their order.
 fn group(points: &mut Vec<Point<'_>, Alloc>) -> Result<(), Memory>
-    requires prefixes { AllByRecursion HasPrefix points.old.items }
     ensures grouped { OnOk result (IsSortedBy (λ d e. is_lt (key_cmp d.0 e.0)) (entries_of points.new.items)) }
     ensures same { OnOk result (HaveSameOfKeys (entries_of points.new.items) (entries_of points.old.items)) }
 {
@@ -143,7 +118,7 @@ fn group(points: &mut Vec<Point<'_>, Alloc>) -> Result<(), Memory>
 }
 
 /// Where the group of points that begins at `start` ends: at the first point behind it with another key. It costs a
-/// comparison of keys for each point of the group.
+/// comparison for each point of the group, of numbers and the lengths of keys where these have eight bytes or fewer.
 pub fn group_end(points: &[Point<'_>], start: usize) -> usize
     requires { start < length points.now }
     ensures more { start < result }
@@ -153,9 +128,9 @@ pub fn group_end(points: &[Point<'_>], start: usize) -> usize
     ensures whole { result < length points.now →
         (d : Point) → key_eq (key_at points.now start d) (key_at points.now result d) ≡ false }
 {
-    let key = points[start].key;
+    let first = &points[start];
     for end in start + 1..points.len() {
-        if *points[end].key != *key {
+        if points[end].differs(first) {
             return end;
         }
     }

@@ -11,22 +11,32 @@ ghost use Rattle.bw_tree.specs.Slots.{slot_at};
 ghost use Rattle.bw_tree.specs.Scans.{high_of};
 ghost use Rattle.bw_group.specs.Points.{entries_in, entries_of, key_at, place_at};
 ghost use Rattle.bw_group.specs.Homes.{AreHomes, HasPageAt, IsPageAt, number_of, with_number};
-ghost use Rattle.bw_group.specs.declared.grouping.Point.{Point};
+ghost use Rattle.bw_group.specs.declared.points.Point.{Point};
 
-use crate::grouping::{Grouping, Point};
+use crate::grouping::Grouping;
+use crate::points::Point;
+use crate::prefixes::prefix_of_end;
 use bw_key::{Key, Memory};
 use bw_memory::Alloc;
-use bw_model::is_below;
 use bw_tree::{PageId, Routes, Tree};
 use std::marker::Model;
 
 /// The homes of a batch: the pages of its keys, in the order of the keys and none twice, and for each operation that has a
 /// key the number of its page among them. So whoever works on the pages of a batch has lists as long as the batch, and none
 /// as long as the index.
-#[derive(Drop)]
 pub struct Homes {
     pages: Vec<PageId, Alloc>,
     numbers: Vec<usize, Alloc>,
+}
+
+// Not derived: whoever drops one calls this, and its proof is spared the parts.
+impl Drop for Homes {
+    fn drop(self) {
+        let Homes {
+            pages: _pages,
+            numbers: _numbers,
+        } = self;
+    }
 }
 
 impl Model for Homes {
@@ -134,7 +144,7 @@ fn set_numbers(numbers: &mut [usize], points: &[Point<'_>], number: usize)
 }
 
 // The run of points that begins at `start`: their page, on which they all are at home, and where the run ends. It costs a
-// search for the page, and for each point of the run a comparison of its key with the page's end.
+// search for the page, and for each point of the run a comparison of its key with the page's end, mostly of numbers.
 fn find_run(
     tree: &Tree,
     routes: &mut Routes<'_>,
@@ -170,8 +180,9 @@ fn run_end(points: &[Point<'_>], start: usize, end: Option<&Key>) -> usize
     ensures whole { result < length points.now →
         (d : Point) → is_below_end (option_copied end.entry) (key_at points.now result d) ≡ false }
 {
+    let prefix = prefix_of_end(end);
     for place in start + 1..points.len() {
-        if !is_below(points[place].key, end) {
+        if !points[place].is_below(end, prefix) {
             return place;
         }
     }

@@ -30,8 +30,8 @@ pub(crate) fn inner_pages(alloc: Alloc, tree: &Tree) -> Result<Vec<PageId, Alloc
     Ok(pages)
 }
 
-/// The pages that have records, in the order of the keys at which they begin. It costs a look at each mapping word, and some
-/// n log2 n comparisons of keys for n such pages.
+/// The pages that have records, in the order of the keys at which they begin. It costs a look at each mapping word, and for n
+/// such pages some n log2 n comparisons of keys, each of which walks the two pages' chains.
 pub(crate) fn recorded_pages(alloc: Alloc, tree: &Tree) -> Result<Vec<PageId, Alloc>, Memory>
     ensures { IfOk result (λ pages. HasAllRecorded tree.now pages.items) }
 {
@@ -56,7 +56,8 @@ fn add_recorded(pages: &mut Vec<PageId, Alloc>, page: PageId, head: u64) -> Resu
     Ok(())
 }
 
-/// Sorts pages by the keys at which they begin. It takes no memory.
+/// Sorts pages by the keys at which they begin, and those that begin at one key, of several levels, by their identifiers: so a
+/// page that stands there twice stands side by side. It takes no memory.
 pub(crate) fn sort_by_low_key(tree: &Tree, pages: &mut Vec<PageId, Alloc>)
     ensures kept { (p : ℕ) → Contains pages.old.items p → Contains pages.new.items p }
     ensures only { (p : ℕ) → Contains pages.new.items p → Contains pages.old.items p }
@@ -64,7 +65,8 @@ pub(crate) fn sort_by_low_key(tree: &Tree, pages: &mut Vec<PageId, Alloc>)
     pages.sort_unstable_by(|a, b| by_low_key(tree, *a, *b));
 }
 
-// How two pages stand by the keys at which they begin.
+// How two pages stand by the keys at which they begin, and where these are equal by their identifiers.
 fn by_low_key(tree: &Tree, a: PageId, b: PageId) -> Ordering {
-    tree.low_key(a).cmp(&tree.low_key(b))
+    let order = tree.low_key(a).cmp(&tree.low_key(b));
+    order.then(a.0.cmp(&b.0))
 }

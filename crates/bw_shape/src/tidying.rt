@@ -23,7 +23,7 @@ use bw_tree::Tree;
 ///
 /// At the first `Memory` it stops, and what it didn't look at stays due. Where it doesn't stop, no leaf is over a limit,
 /// if none was that wasn't due. It costs a walk along the chain of each page that is due, and for each page that is over a
-/// limit some searches, a copy of its entries and the sorting of its writes. Each split copies the half that goes. The new
+/// limit some searches, a copy of its entries and the sorting of its writes. Each split moves the half that goes. The new
 /// pages that came of one get their index entries at once, for a search each and a copy of the children of the page above.
 pub fn tidy_due(tree: &mut Tree, limits: &Limits, due: &mut Due) -> Tidy
     requires none { tree.old.staged ≡ None }

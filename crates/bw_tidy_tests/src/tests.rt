@@ -9,6 +9,7 @@ mod pages;
 mod records;
 mod refused;
 mod refused_sweeps;
+mod repeated_sweeps;
 mod rows;
 mod stopped_sweeps;
 mod stopping;

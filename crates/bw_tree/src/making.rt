@@ -6,6 +6,7 @@ ghost use Rattle.bw_tree.specs.Making.{HasRules, base_of_leaf, count_from, terms
 use bw_key::{Key, Memory};
 use bw_memory::Alloc;
 use bw_page::{Leaf, Page, PageId};
+use bw_segment::Segmented;
 
 /// The separators of a root over leaves: their low keys, each with the place of its leaf.
 pub(crate) fn separators(alloc: Alloc, leaves: &[Leaf]) -> Result<Vec<(Key, PageId), Alloc>, Memory>
@@ -24,10 +25,10 @@ pub(crate) fn separators(alloc: Alloc, leaves: &[Leaf]) -> Result<Vec<(Key, Page
 pub(crate) fn base_pages(
     alloc: Alloc,
     leaves: Vec<Leaf, Alloc>,
-) -> Result<Vec<Option<Page>, Alloc>, Memory>
+) -> Result<Segmented<Option<Page>>, Memory>
     ensures { IfOk result (λ bases. bases.items ≡ map base_of_leaf leaves.entry.items) }
 {
-    let mut bases = Vec::with_capacity(alloc, leaves.len())?;
+    let mut bases = Segmented::new(alloc);
     for leaf in leaves {
         bases.push(Some(Page::Leaf(leaf)))?;
     }

@@ -12,6 +12,7 @@ use bw_chain::{Chains, FLOOR};
 use bw_key::{Key, Memory};
 use bw_memory::Alloc;
 use bw_page::{Inner, Leaf, Page, PageId};
+use bw_segment::Segmented;
 use std::marker::Model;
 
 mod batch;
@@ -115,9 +116,9 @@ impl Tree {
     }
 
     // The tree whose pages are base pages, each named by its place. The last one is the root.
-    fn over(alloc: Alloc, bases: Vec<Option<Page>, Alloc>) -> Result<Tree, Memory>
+    fn over(alloc: Alloc, bases: Segmented<Option<Page>>) -> Result<Tree, Memory>
         requires { IsTree (count_from 0 (length bases.items)) bases.items [] (length bases.items - 1) 0 None }
-        ensures { IfOk result (λ tree. tree ≡ tree_over bases.entry.items) }
+        ensures { IfOk result (λ tree. tree ≡ tree_over bases.items) }
     {
         let count = bases.len();
         Ok(Tree {

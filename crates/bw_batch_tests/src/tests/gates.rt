@@ -1,7 +1,13 @@
 // Workers that wait for one another at a gate.
-use super::maker::{Maker, same};
-use bw_batch::{Gate, Index, Reply};
+use super::running::{Row, answers, ops_of, working};
+use bw_batch::{Done, Gate, Index};
+use bw_fixtures::TextOp::Upsert;
+use bw_fixtures::TextReply::{New, Was};
+use bw_fixtures::heap;
+use bw_memory::Alloc;
+use std::process::Abort;
 use std::sync::atomic::{AtomicU64, Ordering};
+use std::thread::Threads;
 
 // How often a worker that waits looks whether the others have come.
 const TURNS: u64 = 200_000_000;
@@ -50,30 +56,45 @@ impl Gate for Turn {
     }
 }
 
+// Runs a batch by so many workers, in pieces of so many records.
+fn run_gated<R: Abort + Threads + Sync, G: Gate>(
+    rt: &R,
+    alloc: Alloc,
+    (workers, piece): (u64, u64),
+    batch: &[Row],
+    gate: &G,
+) -> Done {
+    let ops = ops_of(rt, alloc, batch);
+    let mut index = Index::new(alloc, working(rt, workers, piece)).expect(rt, "an index");
+    index.run(rt, &ops, gate).expect(rt, "memory")
+}
+
+const TWO: &[Row] = &[(Upsert("a", "1"), New), (Upsert("a", "2"), Was("1"))];
+
+// Has one of two workers wait for the other one.
+fn run_late<R: Abort + Threads + Sync>(rt: &R, alloc: Alloc, late: u64) {
+    let turn = Turn::new(late, TURNS);
+    let done = run_gated(rt, alloc, (2, 1), TWO, &turn);
+    assert!(rt; turn.gave_up.load(Ordering::SeqCst) == 0);
+    assert!(rt; turn.calls.load(Ordering::SeqCst) == 4);
+    answers(rt, &done, TWO);
+}
+
 #[test]
 fn replies_dont_depend_on_who_posts_first(rt: HostRuntime) {
-    let make = Maker::new(&rt, rt.alloc());
-    let ops = [make.upsert("a", "1"), make.upsert("a", "2")];
-    for late in 0..2u64 {
-        let turn = Turn::new(late, TURNS);
-        let mut index = Index::new(make.alloc, make.working(2, 1)).expect(&rt, "an index");
-        let done = index.run(&rt, &ops, &turn).expect(&rt, "memory");
-        assert!(rt; turn.gave_up.load(Ordering::SeqCst) == 0);
-        assert!(rt; turn.calls.load(Ordering::SeqCst) == 4);
-        same(&rt, done.replies.as_slice(), &[Reply::New, make.was("1")]);
-    }
+    let alloc = heap(rt.alloc()).expect(&rt, "a heap");
+    run_late(&rt, alloc, 0);
+    run_late(&rt, alloc, 1);
 }
 
 // The first of them waits for the second in vain.
 #[test]
 fn a_piece_is_posted_by_one_worker(rt: HostRuntime) {
-    let make = Maker::new(&rt, rt.alloc());
-    let ops = [make.upsert("a", "1"), make.upsert("a", "2")];
+    let alloc = heap(rt.alloc()).expect(&rt, "a heap");
     let turn = Turn::new(0, TURNS / 10);
-    let mut index = Index::new(make.alloc, make.working(2, 2)).expect(&rt, "an index");
-    let done = index.run(&rt, &ops, &turn).expect(&rt, "memory");
+    let done = run_gated(&rt, alloc, (2, 2), TWO, &turn);
     assert!(rt; turn.gave_up.load(Ordering::SeqCst) == 1);
-    same(&rt, done.replies.as_slice(), &[Reply::New, make.was("1")]);
+    answers(&rt, &done, TWO);
 }
 
 // Each write waits until so many have come.
@@ -98,21 +119,22 @@ impl Gate for Meeting {
     fn after(&self, _r: u64) {}
 }
 
+const FOUR: &[Row] = &[
+    (Upsert("a", "1"), New),
+    (Upsert("b", "2"), New),
+    (Upsert("c", "3"), New),
+    (Upsert("d", "4"), New),
+];
+
 #[test]
 fn four_workers_post_at_once(rt: HostRuntime) {
-    let make = Maker::new(&rt, rt.alloc());
-    let ops = [
-        make.upsert("a", "1"),
-        make.upsert("b", "2"),
-        make.upsert("c", "3"),
-        make.upsert("d", "4"),
-    ];
+    let alloc = heap(rt.alloc()).expect(&rt, "a heap");
     let meeting = Meeting {
         wanted: 4,
         came: AtomicU64::new(0),
         gave_up: AtomicU64::new(0),
     };
-    let mut index = Index::new(make.alloc, make.working(4, 1)).expect(&rt, "an index");
-    index.run(&rt, &ops, &meeting).expect(&rt, "memory");
+    let done = run_gated(&rt, alloc, (4, 1), FOUR, &meeting);
     assert!(rt; meeting.gave_up.load(Ordering::SeqCst) == 0);
+    answers(&rt, &done, FOUR);
 }

@@ -1,6 +1,7 @@
 // Many writes of one key, posted by many workers.
-use super::maker::{Maker, WORKERS};
-use bw_batch::{Index, Op, OpenGate, Options, Reply};
+use super::running::{WORKERS, holds};
+use bw_batch::{Index, Op, OpenGate, Options, Reply, Value};
+use bw_fixtures::{heap, key, value};
 use bw_memory::Alloc;
 use std::process::Abort;
 use std::thread::Threads;
@@ -8,47 +9,64 @@ use std::thread::Threads;
 // How many writes there are.
 const WRITES: u64 = 2000;
 
-// The value of so many.
-fn value<R: Abort>(rt: &R, make: &Maker<R>, number: u64) -> bw_batch::Value {
-    let text = format!(in make.alloc; "{number}").expect(rt, "memory");
-    make.value(text.as_str())
+// The value of a number: its decimal text.
+fn value_of<R: Abort>(rt: &R, alloc: Alloc, number: u64) -> Value {
+    let text = format!(in alloc; "{number}").expect(rt, "memory");
+    value(alloc, text.as_bytes()).expect(rt, "a value")
+}
+
+// Puts the value of a number at the one key.
+fn upsert<R: Abort>(rt: &R, alloc: Alloc, number: u64) -> Op {
+    Op::Upsert(
+        key(alloc, b"a").expect(rt, "a key"),
+        value_of(rt, alloc, number),
+    )
 }
 
 // A batch that puts 0, 1, 2 and so on at one key.
-fn batch<R: Abort>(rt: &R, make: &Maker<R>) -> Vec<Op, Alloc> {
-    let mut ops = Vec::new(make.alloc);
+fn batch<R: Abort>(rt: &R, alloc: Alloc) -> Vec<Op, Alloc> {
+    let mut ops = Vec::new(alloc);
     for number in 0..WRITES {
-        let op = Op::Upsert(make.key("a"), value(rt, make, number));
-        ops.push(op).expect(rt, "memory");
+        ops.push(upsert(rt, alloc, number)).expect(rt, "memory");
     }
     ops
 }
 
-// Runs the batch with these options: each write but the first finds the one before it.
-fn storm<R: Abort + Threads + Sync>(rt: &R, make: &Maker<R>, ops: &[Op], workers: u64, piece: u64) {
-    let options = Options::new(workers, piece, 1, 64, 16, 65536, 1048576).expect(rt, "options");
-    let mut index = Index::new(make.alloc, options).expect(rt, "an index");
-    let done = index.run(rt, ops, &OpenGate).expect(rt, "memory");
-    assert!(rt; workers > 1 || done.lost == 0);
-    let replies = done.replies.as_slice();
+// Whether a reply is that a number was there.
+fn is_was<R: Abort>(rt: &R, alloc: Alloc, reply: &Reply, number: u64) -> bool {
+    match reply {
+        Reply::Was(value) => *value == value_of(rt, alloc, number),
+        _ => false,
+    }
+}
+
+// The first write finds nothing, and each other one what the one before it put.
+fn find_one_another<R: Abort>(rt: &R, alloc: Alloc, replies: &[Reply]) {
     assert_eq!(rt; replies.len(), WRITES as usize);
     for (number, reply) in replies.iter().enumerate() {
         match number as u64 {
             0 => assert!(rt; *reply == Reply::New),
-            number => assert!(rt; *reply == Reply::Was(value(rt, make, number - 1))),
+            number => assert!(rt; is_was(rt, alloc, reply, number - 1)),
         }
     }
-    let contents = index.contents().expect(rt, "memory");
-    assert!(rt; contents == make.pairs(&[("a", "1999")]));
+}
+
+// Runs the batch with these options.
+fn storm<R: Abort + Threads + Sync>(rt: &R, alloc: Alloc, ops: &[Op], workers: u64, piece: u64) {
+    let options = Options::new(workers, piece, 1, 64, 16, 65536, 1048576).expect(rt, "options");
+    let mut index = Index::new(alloc, options).expect(rt, "an index");
+    let done = index.run(rt, ops, &OpenGate).expect(rt, "memory");
+    assert!(rt; workers > 1 || done.lost == 0);
+    find_one_another(rt, alloc, done.replies.as_slice());
+    holds(rt, &index, &[("a", "1999")]);
 }
 
 #[test]
 fn writes_of_one_key_are_answered_in_their_order(rt: HostRuntime) {
-    let make = Maker::new(&rt, rt.alloc());
-    let ops = batch(&rt, &make);
+    let alloc = heap(rt.alloc()).expect(&rt, "a heap");
+    let ops = batch(&rt, alloc);
     for workers in WORKERS {
-        for piece in [1u64, 64] {
-            storm(&rt, &make, &ops, workers, piece);
-        }
+        storm(&rt, alloc, &ops, workers, 1);
+        storm(&rt, alloc, &ops, workers, 64);
     }
 }

@@ -4,13 +4,16 @@ use super::ports::Runner;
 const ONE_LEAF: &str = "leaf % * 0 0\n";
 
 // One batch of so many keys.
-const FIVE: &str = "insert a 1\ninsert b 2\ninsert c 3\ninsert d 4\ninsert e 5\n";
+pub const FIVE: &str = "insert a 1\ninsert b 2\ninsert c 3\ninsert d 4\ninsert e 5\n";
 
 const SEVENTEEN: &str =
     "insert a 1\ninsert b 2\ninsert c 3\ninsert d 4\ninsert e 5\ninsert f 6\ninsert g 7\ninsert h 8\ninsert i 9
 insert j 10\ninsert k 11\ninsert l 12\ninsert m 13\ninsert n 14\ninsert o 15\ninsert p 16\ninsert q 17\n";
 
-const SMALL_PAGES: [&str; 7] = [
+// The pages that five of them lie on, where a page has four pairs.
+pub const FIVE_SPLIT: &str = "leaf % c 2 0\nleaf c * 3 0\ninner 1 % * 2\n";
+
+pub const SMALL_PAGES: [&str; 7] = [
     "shape",
     "--page-max",
     "4",
@@ -60,8 +63,7 @@ fn a_sweep_leaves_the_writes_of_the_last_batch(rt: HostRuntime) {
 #[test]
 fn five_pairs_split_a_leaf_of_four(rt: HostRuntime) {
     let runner = Runner::new(&rt, rt.alloc());
-    let output = "leaf % c 2 0\nleaf c * 3 0\ninner 1 % * 2\n";
-    runner.expect_words(&SMALL_PAGES, FIVE, output, "", 0);
+    runner.expect_words(&SMALL_PAGES, FIVE, FIVE_SPLIT, "", 0);
 }
 
 #[test]

@@ -1,7 +1,7 @@
 // An arena, record by record.
 use super::making::delete;
 use bw_delta::{Arena, Delta, Memory};
-use bw_fixtures::heap;
+use bw_fixtures::{heap, was_refused};
 use bw_memory::Alloc;
 use std::process::Abort;
 
@@ -10,14 +10,24 @@ fn put<R: Abort>(rt: &R, alloc: Alloc, stamp: u64) -> Delta {
     Delta::Put(delete(rt, alloc, stamp))
 }
 
+// Adds the records from one stamp up to another. The link of each is 10 more than its stamp.
+fn add<R: Abort>(rt: &R, alloc: Alloc, arena: &mut Arena, from: u64, to: u64) {
+    for stamp in from..to {
+        arena.make_room().expect(rt, "memory");
+        arena.append(put(rt, alloc, stamp), stamp.saturating_add(10));
+    }
+}
+
+// The records of the stamps below one.
+fn records<R: Abort>(rt: &R, alloc: Alloc, count: u64) -> Arena {
+    let mut arena = Arena::new(alloc);
+    add(rt, alloc, &mut arena, 0, count);
+    arena
+}
+
 // Three records, whose links are 10, 11 and 12.
 fn three<R: Abort>(rt: &R, alloc: Alloc) -> Arena {
-    let mut arena = Arena::new(alloc);
-    for stamp in 0..3u64 {
-        arena.reserve(1).expect(rt, "memory");
-        arena.append(put(rt, alloc, stamp), stamp + 10);
-    }
-    arena
+    records(rt, alloc, 3)
 }
 
 // Whether a record is this one, and has this link.
@@ -30,12 +40,13 @@ fn has(arena: &Arena, at: usize, wanted: &Delta, link: u64) -> bool {
 
 // Compares the records, whose stamps are their places, with these links.
 fn same<R: Abort>(rt: &R, alloc: Alloc, arena: &Arena, links: &[u64]) {
-    assert!(rt; arena.len() == links.len() && arena.links() == links);
+    assert!(rt; arena.len() == links.len());
     for (at, link) in links.iter().enumerate() {
         let wanted = put(rt, alloc, at as u64);
         assert!(rt; has(arena, at, &wanted, *link));
+        assert!(rt; arena.link(at) == Some(*link));
     }
-    assert!(rt; arena.get(links.len()).is_none());
+    assert!(rt; arena.get(links.len()).is_none() && arena.link(links.len()).is_none());
 }
 
 #[test]
@@ -74,7 +85,7 @@ fn records_behind_a_place_are_left_out(rt: HostRuntime) {
 fn a_reserved_record_takes_no_memory(rt: HostRuntime) {
     let alloc = heap(rt.alloc()).expect(&rt, "memory");
     let mut arena = three(&rt, alloc);
-    arena.reserve(1).expect(&rt, "memory");
+    arena.make_room().expect(&rt, "memory");
     let delta = put(&rt, alloc, 3);
     alloc.refuse(1);
     arena.append(delta, 13);
@@ -83,15 +94,91 @@ fn a_reserved_record_takes_no_memory(rt: HostRuntime) {
     same(&rt, alloc, &arena, &[10, 11, 12, 13]);
 }
 
+// An arena whose two lists are full doesn't grow where this growth is refused.
+fn growth_is_refused<R: Abort>(rt: &R, alloc: Alloc, growth: u64) {
+    let mut arena = Arena::new(alloc);
+    alloc.refuse(growth);
+    assert!(rt; arena.make_room() == Err(Memory));
+    assert_eq!(rt; alloc.left(), 0);
+    alloc.refuse(0);
+    same(rt, alloc, &arena, &[]);
+}
+
 #[test]
-fn a_refused_reserve_leaves_the_records(rt: HostRuntime) {
+fn refused_room_leaves_the_records(rt: HostRuntime) {
     let alloc = heap(rt.alloc()).expect(&rt, "memory");
-    let mut arena = three(&rt, alloc);
-    for growth in 1..3 {
-        alloc.refuse(growth);
-        assert!(rt; arena.reserve(1000 * growth as usize) == Err(Memory));
-        assert_eq!(rt; alloc.left(), 0);
-        alloc.refuse(0);
-        same(&rt, alloc, &arena, &[10, 11, 12]);
+    growth_is_refused(&rt, alloc, 1);
+    growth_is_refused(&rt, alloc, 2);
+}
+
+// Compares the records from one place up to another, whose stamps are their places, and whose links are so much more.
+fn stand<R: Abort>(rt: &R, alloc: Alloc, arena: &Arena, (from, to): (u64, u64), more: u64) {
+    for place in from..to {
+        let wanted = put(rt, alloc, place);
+        assert!(rt; has(arena, place as usize, &wanted, place.saturating_add(more)));
+    }
+}
+
+// Compares an arena with the records of the stamps below one.
+fn are_records<R: Abort>(rt: &R, alloc: Alloc, arena: &Arena, count: u64) {
+    assert!(rt; arena.len() as u64 == count);
+    stand(rt, alloc, arena, (0, count), 10);
+    assert!(rt; arena.get(count as usize).is_none() && arena.link(count as usize).is_none());
+}
+
+// An arena whose lists each have a full segment of 1,024 records, and no room. Whether the next room was refused where
+// this growth was; then the records stand, and the next one finds room.
+fn segment_is_refused<R: Abort>(rt: &R, alloc: Alloc, growth: u64) -> bool {
+    let mut arena = records(rt, alloc, 1024);
+    alloc.refuse(growth);
+    let refused = arena.make_room() == Err(Memory);
+    assert!(rt; was_refused(alloc, growth) == refused);
+    are_records(rt, alloc, &arena, 1024);
+    add(rt, alloc, &mut arena, 1024, 1025);
+    are_records(rt, alloc, &arena, 1025);
+    refused
+}
+
+// Each of the two lists asks for a segment, so there are two growths at least.
+#[test]
+fn a_refused_segment_leaves_the_records(rt: HostRuntime) {
+    let alloc = heap(rt.alloc()).expect(&rt, "memory");
+    for growth in 1..10u64 {
+        if !segment_is_refused(&rt, alloc, growth) {
+            assert!(rt; growth > 2);
+            return;
+        }
+    }
+    panic!(rt; "no room met no refusal");
+}
+
+#[test]
+fn links_are_set_across_segments(rt: HostRuntime) {
+    let alloc = heap(rt.alloc()).expect(&rt, "memory");
+    let mut arena = records(&rt, alloc, 1030);
+    if arena.len() != 1030 {
+        panic!(rt; "so many records");
+    }
+    arena.set_links(1022, &[1122, 1123, 1124, 1125]);
+    assert!(rt; arena.len() == 1030);
+    stand(&rt, alloc, &arena, (0, 1022), 10);
+    stand(&rt, alloc, &arena, (1022, 1026), 100);
+    stand(&rt, alloc, &arena, (1026, 1030), 10);
+}
+
+// Cuts an arena of 1,030 records to so many, and adds the others again.
+fn is_cut<R: Abort>(rt: &R, alloc: Alloc, len: u64) {
+    let mut arena = records(rt, alloc, 1030);
+    arena.truncate(len as usize);
+    are_records(rt, alloc, &arena, len);
+    add(rt, alloc, &mut arena, len, 1030);
+    are_records(rt, alloc, &arena, 1030);
+}
+
+#[test]
+fn records_are_left_out_across_segments(rt: HostRuntime) {
+    let alloc = heap(rt.alloc()).expect(&rt, "memory");
+    for len in [1025, 1024, 1023, 0] {
+        is_cut(&rt, alloc, len);
     }
 }

@@ -9,7 +9,7 @@ use std::test::Fail;
 // Makes an arena with a record whose value takes memory, and drops it.
 fn drop_arena<R: Abort>(rt: &R, alloc: Alloc) {
     let mut arena = Arena::new(alloc);
-    arena.reserve(1).expect(rt, "memory");
+    arena.make_room().expect(rt, "memory");
     arena.append(Delta::Put(insert(rt, alloc, 0, b"a", LONG)), 7);
     assert!(rt; alloc.used() > 0);
     drop(arena);

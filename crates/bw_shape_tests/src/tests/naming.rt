@@ -135,6 +135,22 @@ fn a_leaf_of_2000_pairs_is_what_steps_make_of_it(rt: HostRuntime) {
     reads_numbers(&rt, alloc, &tree, FROM, TO);
 }
 
+// What tidying the leaf may take. There are 677 splits, with two growths each: the entries that go, and room that what stays
+// gives back. Of the new pages 672 get an index entry. To name them one by one copies the children of the page above for each,
+// a growth more: 2,026 together. At once all of them take some 100.
+const MOST: u64 = 1600;
+
+#[test]
+fn new_pages_of_2000_pairs_are_named_at_once(rt: HostRuntime) {
+    let alloc = heap(rt.alloc()).expect(&rt, "memory");
+    let mut tree = tree_of(&rt, alloc, FROM, &[TO]);
+    alloc.refuse(0);
+    tidy_whole(&rt, alloc, &mut tree, &[PageId(0)]);
+    let growths = alloc.left().wrapping_neg();
+    assert!(rt; growths > 677);
+    assert!(rt; growths <= MOST);
+}
+
 // The leaf in the middle becomes eight.
 const MIDDLE: [u16; 3] = [4098, 4118, 4120];
 

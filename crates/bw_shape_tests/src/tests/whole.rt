@@ -2,7 +2,9 @@
 ghost use Rattle.std.specs.Prelude.{◌≡◌, None};
 
 use super::leaves::{reads_numbers, tree_of};
-use super::making::{five, reads_all, split_does};
+use super::making::{
+    FLOOR, consolidate_does, finish_does, five, grow_does, reads_all, split_does, stands,
+};
 use super::shapes::{Wanted, are_alike, has_pages};
 use super::tidying::{A, BEHIND_Q, FIVE, SEVENTEEN, did, four_pairs};
 use bw_fixtures::{heap, was_refused};
@@ -20,6 +22,47 @@ const PARTED: [Wanted; 8] = [
     (3, 1, b"", Some(b"i"), 2, 0),
     (6, 1, b"i", None, 3, 0),
     (7, 2, b"", None, 2, 0),
+];
+
+// Where the leaves of nine letters end.
+const NINE: [u16; 9] = [
+    A + 1,
+    A + 2,
+    A + 3,
+    A + 4,
+    A + 5,
+    A + 6,
+    A + 7,
+    A + 8,
+    A + 9,
+];
+
+// What nine leaves of one pair under one root become: the root parts into four and five, and the five into two and three.
+const UNDER_THREE: [Wanted; 13] = [
+    (0, 0, b"", Some(b"b"), 1, 0),
+    (1, 0, b"b", Some(b"c"), 1, 0),
+    (2, 0, b"c", Some(b"d"), 1, 0),
+    (3, 0, b"d", Some(b"e"), 1, 0),
+    (4, 0, b"e", Some(b"f"), 1, 0),
+    (5, 0, b"f", Some(b"g"), 1, 0),
+    (6, 0, b"g", Some(b"h"), 1, 0),
+    (7, 0, b"h", Some(b"i"), 1, 0),
+    (8, 0, b"i", None, 1, 0),
+    (9, 1, b"", Some(b"e"), 4, 0),
+    (10, 1, b"e", Some(b"g"), 2, 0),
+    (12, 1, b"g", None, 3, 0),
+    (11, 2, b"", None, 3, 0),
+];
+
+// What five pairs become where the first leaf and the page above it were split, and that page once more.
+const NAMED: [Wanted; 7] = [
+    (0, 0, b"", Some(b"b"), 1, 0),
+    (5, 0, b"b", Some(b"c"), 1, 0),
+    (1, 0, b"c", None, 3, 0),
+    (2, 1, b"", Some(b"b"), 1, 0),
+    (6, 1, b"b", Some(b"c"), 1, 0),
+    (3, 1, b"c", None, 1, 0),
+    (4, 2, b"", None, 3, 0),
 ];
 
 // Tidies a whole tree, and compares what that did.
@@ -69,6 +112,45 @@ fn each_split_that_was_left_is_finished(rt: HostRuntime) {
     tidy_does(&rt, &mut tree, did(1, 3));
     has_pages(&rt, &tree, &PARTED);
     reads_numbers(&rt, alloc, &tree, A, BEHIND_Q);
+}
+
+#[test]
+fn a_root_over_nine_leaves_parts(rt: HostRuntime) {
+    let alloc = heap(rt.alloc()).expect(&rt, "memory");
+    let mut tree = tree_of(&rt, alloc, A, &NINE);
+    tidy_does(&rt, &mut tree, did(0, 2));
+    has_pages(&rt, &tree, &UNDER_THREE);
+    reads_numbers(&rt, alloc, &tree, A, A + 9);
+}
+
+// The tree of five pairs whose first inner page was split, and isn't the root: the new page, 6, has no index entry.
+fn unnamed<R: Abort>(rt: &R, alloc: Alloc) -> Tree
+    ensures { result.staged ≡ None }
+{
+    let mut tree = five(rt, alloc);
+    split_does(rt, &mut tree, 0, 2, Did::Done);
+    grow_does(rt, &mut tree, Did::Done);
+    split_does(rt, &mut tree, 2, 1, Did::Done);
+    grow_does(rt, &mut tree, Did::Done);
+    consolidate_does(rt, &mut tree, 0, Did::Done);
+    split_does(rt, &mut tree, 0, 1, Did::Done);
+    finish_does(rt, &mut tree, 0, Did::Done);
+    consolidate_does(rt, &mut tree, 2, Did::Done);
+    split_does(rt, &mut tree, 2, 1, Did::Done);
+    tree
+}
+
+#[test]
+fn a_split_inner_page_that_was_left_is_named(rt: HostRuntime) {
+    let alloc = heap(rt.alloc()).expect(&rt, "memory");
+    let mut tree = unnamed(&rt, alloc);
+    let before = [FLOOR + 2, 1, FLOOR + 4, 3, 4, 5, 6];
+    stands(&rt, alloc, &tree, 4, &before);
+    tidy_does(&rt, &mut tree, did(0, 0));
+    let behind = [FLOOR + 2, 1, FLOOR + 4, 3, FLOOR + 5, 5, 6];
+    stands(&rt, alloc, &tree, 4, &behind);
+    has_pages(&rt, &tree, &NAMED);
+    finish_does(&rt, &mut tree, 2, Did::NotNeeded);
 }
 
 // Tidies a tree of 17 pairs where this growth is refused, and where it was, once more. The pages come out as they do without

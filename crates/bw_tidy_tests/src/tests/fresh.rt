@@ -1,7 +1,7 @@
 // A batch of 65,536 keys that are all new.
 use super::levels::{are_within, count_pages, is_whole};
 use super::maker::Maker;
-use bw_batch::{Index, Key, Op, OpenGate, Options, Reply, Value};
+use bw_batch::{Index, Key, Op, OpenGate, Options, Reply, Tidy, Value};
 use bw_memory::Alloc;
 use bw_tree::PageShape;
 use std::process::Abort;
@@ -38,15 +38,48 @@ fn gets<R: Abort>(rt: &R, make: &Maker<R>) -> Vec<Op, Alloc> {
     ops
 }
 
-// Runs the upserts, each of a new key.
-fn put_all<R: Abort + Threads + Sync>(rt: &R, index: &mut Index, ops: &[Op]) {
+// How many pages leaves of 64 make, from the leaves up.
+const OF_64: [usize; 3] = [1024, 16, 1];
+
+// How many pages leaves of four make.
+const OF_FOUR: [usize; 8] = [16384, 4096, 1024, 256, 64, 16, 4, 1];
+
+// How many splits make so many pages, from the leaves up: each page but the first of its level came of one.
+fn count_splits(levels: &[usize]) -> u64 {
+    let mut splits = 0u64;
+    for pages in levels {
+        splits = splits.saturating_add(pages.saturating_sub(1) as u64);
+    }
+    splits
+}
+
+// How often a leaf is consolidated where so many pages are made. The first one has all writes, and each has the record of its
+// last split. So each split but a new leaf's first one finds something to consolidate. Leaves part into equal halves until all
+// have parted as often: before the last time there were half as many, each of which but the first one was new once.
+fn count_consolidated(levels: &[usize]) -> u64 {
+    let leaves = levels.first().copied().unwrap_or(0) as u64;
+    let splits = leaves.saturating_sub(1);
+    let first_splits = (leaves / 2).saturating_sub(1);
+    splits.saturating_sub(first_splits)
+}
+
+// What tidying did that made so many pages.
+fn has_made<R: Abort>(rt: &R, did: &Tidy, levels: &[usize]) {
+    assert!(rt; !did.stopped);
+    assert_eq!(rt; did.splits, count_splits(levels));
+    assert_eq!(rt; did.consolidated, count_consolidated(levels));
+    assert_eq!(rt; did.merges, 0);
+}
+
+// Runs the upserts, each of a new key, behind which tidying makes so many pages.
+fn put_all<R: Abort + Threads + Sync>(rt: &R, index: &mut Index, ops: &[Op], levels: &[usize]) {
     let done = index.run(rt, ops, &OpenGate).expect(rt, "memory");
     let replies = done.replies.as_slice();
     assert_eq!(rt; replies.len(), ops.len());
     for reply in replies {
         assert!(rt; *reply == Reply::New);
     }
-    assert!(rt; !done.tidy.stopped);
+    has_made(rt, &done.tidy, levels);
 }
 
 // Whether a reply is that a number was found.
@@ -118,17 +151,22 @@ fn has_pages<R: Abort>(rt: &R, make: &Maker<R>, index: &Index, page_max: u64, le
     assert!(rt; is_whole(rt, make.alloc, tree, &shape));
 }
 
-// An index into which all keys were put at once.
-fn full<R: Abort + Threads + Sync>(rt: &R, make: &Maker<R>, page_max: u64) -> Index {
+// An index into which all keys were put at once, which makes so many pages.
+fn full<R: Abort + Threads + Sync>(
+    rt: &R,
+    make: &Maker<R>,
+    page_max: u64,
+    levels: &[usize],
+) -> Index {
     let options = Options::new(4, 64, 1, page_max, 0, 65536, 1048576).expect(rt, "options");
     let mut index = Index::new(make.alloc, options).expect(rt, "an index");
-    put_all(rt, &mut index, &upserts(rt, make));
+    put_all(rt, &mut index, &upserts(rt, make), levels);
     index
 }
 
 // Puts all keys at once: behind them each level has so many pages, and the pairs are these.
 fn compare<R: Abort + Threads + Sync>(rt: &R, make: &Maker<R>, page_max: u64, levels: &[usize]) {
-    let index = full(rt, make, page_max);
+    let index = full(rt, make, page_max, levels);
     has_pages(rt, make, &index, page_max, levels);
     are_all(rt, &index);
 }
@@ -136,18 +174,18 @@ fn compare<R: Abort + Threads + Sync>(rt: &R, make: &Maker<R>, page_max: u64, le
 #[test]
 fn new_keys_make_leaves_of_64(rt: HostRuntime) {
     let make = Maker::new(&rt, rt.alloc());
-    compare(&rt, &make, 64, &[1024, 16, 1]);
+    compare(&rt, &make, 64, &OF_64);
 }
 
 #[test]
 fn new_keys_make_leaves_of_four(rt: HostRuntime) {
     let make = Maker::new(&rt, rt.alloc());
-    compare(&rt, &make, 4, &[16384, 4096, 1024, 256, 64, 16, 4, 1]);
+    compare(&rt, &make, 4, &OF_FOUR);
 }
 
 #[test]
 fn new_keys_are_found_on_leaves_of_four(rt: HostRuntime) {
     let make = Maker::new(&rt, rt.alloc());
-    let mut index = full(&rt, &make, 4);
+    let mut index = full(&rt, &make, 4, &OF_FOUR);
     find_all(&rt, &mut index, &gets(&rt, &make));
 }

@@ -2,7 +2,7 @@
 use super::levels::{are_within, is_whole};
 use super::maker::{Maker, same};
 use super::rows::{Row, holds, run};
-use bw_batch::{Index, OpenGate, Options, Refusal};
+use bw_batch::{Index, OpenGate, Options, Refusal, Tidy};
 use bw_fixtures::was_refused;
 use bw_memory::Alloc;
 use bw_tree::PageShape;
@@ -24,18 +24,32 @@ fn is_new<R: Abort>(rt: &R, index: &Index) {
     assert!(rt; pairs.as_slice().is_empty());
 }
 
+// What became of the inserts of a row.
+#[derive(Clone, Copy)]
+struct Inserted {
+    // whether a growth was refused
+    refused: bool,
+    // what tidying behind them did
+    tidy: Tidy,
+}
+
 // Inserts a row where a growth may be refused, and again where the batch was. Whether a refusal was seen.
-fn insert<R: Abort + Threads + Sync>(rt: &R, index: &mut Index, row: &Row) -> bool {
+fn insert<R: Abort + Threads + Sync>(rt: &R, index: &mut Index, row: &Row) -> Inserted {
     match index.run(rt, &row.inserts.ops, &OpenGate) {
         Ok(done) => {
             same(rt, done.replies.as_slice(), row.inserts.replies.as_slice());
-            done.tidy.stopped
+            Inserted {
+                refused: done.tidy.stopped,
+                tidy: done.tidy,
+            }
         }
         Err(refusal) => {
             assert!(rt; refusal == Refusal::Memory);
             is_new(rt, index);
-            assert!(rt; !run(rt, index, &row.inserts));
-            true
+            Inserted {
+                refused: true,
+                tidy: run(rt, index, &row.inserts),
+            }
         }
     }
 }
@@ -47,13 +61,26 @@ fn insert_refused<R: Abort + Threads + Sync>(
     index: &mut Index,
     row: &Row,
     growth: u64,
-) -> bool {
+) -> Inserted {
     make.alloc.refuse(growth);
-    let seen = insert(rt, index, row);
+    let inserted = insert(rt, index, row);
     let refused = was_refused(make.alloc, growth);
-    assert!(rt; refused || !seen);
+    assert!(rt; refused || !inserted.refused);
     holds(rt, make, index, row);
-    refused
+    Inserted {
+        refused,
+        ..inserted
+    }
+}
+
+// What tidying did up to a stop, and behind it.
+fn both(before: Tidy, behind: Tidy) -> Tidy {
+    Tidy {
+        consolidated: before.consolidated.saturating_add(behind.consolidated),
+        splits: before.splits.saturating_add(behind.splits),
+        merges: before.merges.saturating_add(behind.merges),
+        stopped: behind.stopped,
+    }
 }
 
 // Whether two pages have the same identifier and range, and as much in it.
@@ -75,20 +102,23 @@ fn has_pages<R: Abort>(rt: &R, index: &Index, wanted: &[PageShape]) {
     }
 }
 
-// Inserts a row where this growth is refused, and goes on with reads: the pages come to be these. Whether it was refused.
+// Inserts a row where this growth is refused, and goes on with reads: the pages come to be these, and tidying did this in all.
+// Whether it was refused.
 fn is_refused<R: Abort + Threads + Sync>(
     rt: &R,
     make: &Maker<R>,
     row: &Row,
     wanted: &[PageShape],
+    did: Tidy,
     growth: u64,
 ) -> bool {
     let mut index = small_pages(rt, make);
-    let refused = insert_refused(rt, make, &mut index, row, growth);
-    assert!(rt; !run(rt, &mut index, &row.reads));
+    let inserted = insert_refused(rt, make, &mut index, row, growth);
+    let behind = run(rt, &mut index, &row.reads);
+    assert!(rt; both(inserted.tidy, behind) == did);
     has_pages(rt, &index, wanted);
-    assert!(rt; !run(rt, &mut index, &row.again));
-    refused
+    run(rt, &mut index, &row.again);
+    inserted.refused
 }
 
 // An index holds what the writes leave, on pages within the limits.
@@ -107,26 +137,34 @@ fn is_refused_before_writes<R: Abort + Threads + Sync>(
     growth: u64,
 ) -> bool {
     let mut index = small_pages(rt, make);
-    let refused = insert_refused(rt, make, &mut index, row, growth);
-    assert!(rt; !run(rt, &mut index, &row.writes));
+    let inserted = insert_refused(rt, make, &mut index, row, growth);
+    run(rt, &mut index, &row.writes);
     has_written(rt, make, &index, row);
-    refused
+    inserted.refused
 }
 
-// The pages of an index in which a row was inserted and read.
-fn pages<R: Abort + Threads + Sync>(rt: &R, make: &Maker<R>, row: &Row) -> Vec<PageShape, Alloc> {
+// The pages of an index in which a row was inserted and read. Tidying did this behind the inserts, and nothing more behind the
+// reads.
+fn pages<R: Abort + Threads + Sync>(
+    rt: &R,
+    make: &Maker<R>,
+    row: &Row,
+    did: Tidy,
+) -> Vec<PageShape, Alloc> {
     let mut index = small_pages(rt, make);
-    assert!(rt; !insert(rt, &mut index, row));
-    assert!(rt; !run(rt, &mut index, &row.reads));
+    let inserted = insert(rt, &mut index, row);
+    assert!(rt; !inserted.refused);
+    assert!(rt; inserted.tidy == did);
+    assert!(rt; run(rt, &mut index, &row.reads) == Tidy::default());
     index.tree().shape().expect(rt, "memory")
 }
 
-// Refuses each growth of a batch of inserts in turn.
-fn refuse_in_turn<R: Abort + Threads + Sync>(rt: &R, make: &Maker<R>, last: u8) {
+// Refuses each growth of a batch of inserts in turn, behind which tidying does this.
+fn refuse_in_turn<R: Abort + Threads + Sync>(rt: &R, make: &Maker<R>, last: u8, did: Tidy) {
     let row = Row::new(rt, make, last);
-    let wanted = pages(rt, make, &row);
+    let wanted = pages(rt, make, &row, did);
     for growth in 1..1000 {
-        let refused = is_refused(rt, make, &row, &wanted, growth);
+        let refused = is_refused(rt, make, &row, &wanted, did, growth);
         assert!(rt; is_refused_before_writes(rt, make, &row, growth) == refused);
         if !refused {
             assert!(rt; growth > 20);
@@ -136,14 +174,32 @@ fn refuse_in_turn<R: Abort + Threads + Sync>(rt: &R, make: &Maker<R>, last: u8) 
     panic!(rt; "no batch met no refusal");
 }
 
+// What tidying does behind five letters: their leaf is consolidated and split.
+const FIVE: Tidy = Tidy {
+    consolidated: 1,
+    splits: 1,
+    merges: 0,
+    stopped: false,
+};
+
+// Behind seventeen: their leaf is consolidated, and parts into eight and nine. The eight, which have the record of that split,
+// are consolidated and part into four and four, the nine into four and five, and the five into two and three. Then the root
+// parts, whose children are these five leaves.
+const SEVENTEEN: Tidy = Tidy {
+    consolidated: 2,
+    splits: 5,
+    merges: 0,
+    stopped: false,
+};
+
 #[test]
 fn pages_of_five_letters_come_to_be_the_same(rt: HostRuntime) {
     let make = Maker::new(&rt, rt.alloc());
-    refuse_in_turn(&rt, &make, b'e');
+    refuse_in_turn(&rt, &make, b'e', FIVE);
 }
 
 #[test]
 fn pages_of_seventeen_letters_come_to_be_the_same(rt: HostRuntime) {
     let make = Maker::new(&rt, rt.alloc());
-    refuse_in_turn(&rt, &make, b'q');
+    refuse_in_turn(&rt, &make, b'q', SEVENTEEN);
 }

@@ -1,6 +1,6 @@
 // Rows of letters, with what the plain program answers.
 use super::maker::{Maker, same};
-use bw_batch::{Index, Key, Op, OpenGate, Pairs, Replies, Tree, Value};
+use bw_batch::{Index, Key, Op, OpenGate, Pairs, Replies, Tidy, Tree, Value};
 use bw_memory::Alloc;
 use bw_model::ReferenceMap;
 use std::process::Abort;
@@ -108,11 +108,12 @@ impl Row {
     }
 }
 
-/// Runs a batch, and compares the replies. Whether tidying stopped.
-pub fn run<R: Abort + Threads + Sync>(rt: &R, index: &mut Index, batch: &Answered) -> bool {
+/// Runs a batch, and compares the replies. What tidying did, which didn't stop.
+pub fn run<R: Abort + Threads + Sync>(rt: &R, index: &mut Index, batch: &Answered) -> Tidy {
     let done = index.run(rt, &batch.ops, &OpenGate).expect(rt, "memory");
     same(rt, done.replies.as_slice(), batch.replies.as_slice());
-    done.tidy.stopped
+    assert!(rt; !done.tidy.stopped);
+    done.tidy
 }
 
 // A tree has a pair.

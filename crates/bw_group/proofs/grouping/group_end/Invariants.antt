@@ -1,5 +1,5 @@
 use Rattle.std.proofs.Common.{◌-◌, take, drop, get_or}
-use Rattle.bw_group.specs.declared.grouping.Point.{Point}
+use Rattle.bw_group.specs.declared.points.Point.{Point}
 use Rattle.bw_group.proofs.Entries.{IsOfKey}
 use Rattle.bw_group.proofs.grouping.group_end.Given as goal
 

@@ -1,8 +1,6 @@
 use Rattle.std.proofs.Common.{◌≡◌, take}
-use Rattle.std.specs.List.{AllByRecursion}
 use Rattle.bw_group.specs.Points.{entries_from, entries_of}
-use Rattle.bw_group.specs.Prefixes.{HasPrefix}
 use Rattle.bw_group.proofs.grouping.points_of.Given as goal
 
 abbrev pub invariant-loop-place : goal.invariant-loop-place
-invariant-loop-place l = (entries_of l.points.items ≡ entries_from 0 (take l.place l.ops)) × AllByRecursion HasPrefix l.points.items
+invariant-loop-place l = entries_of l.points.items ≡ entries_from 0 (take l.place l.ops)

@@ -1,4 +1,4 @@
-use Rattle.std.proofs.Common.{◌≡◌, false, ◌-◌, ◌<◌, ◌++◌, ℕ, List, [], take, drop, length, ap, sym, subst, ◌∙◌, arith}
+use Rattle.std.proofs.Common.{◌≡◌, false, ◌-◌, ◌<◌, ◌++◌, ℕ, List, [], take, drop, length, refl, ap, sym, subst, ◌∙◌, arith}
 use Rattle.std.specs.List.{AllByRecursion}
 use Rattle.bw_model.specs.declared.operations.Op.{Op}
 use Rattle.bw_delta.proofs.Zips.{whole}
@@ -8,7 +8,7 @@ use Rattle.bw_tree.specs.Scans.{high_of}
 use Rattle.bw_tree.specs.Slots.{slot_at}
 use Rattle.bw_group.specs.Homes.{with_number}
 use Rattle.bw_group.specs.Points.{GroupingView, IsEntryOf, entries_at, entries_from, entries_of, key_at}
-use Rattle.bw_group.specs.declared.grouping.Point.{Point}
+use Rattle.bw_group.specs.declared.points.Point.{Point}
 use Rattle.bw_group.proofs.Entries.{part_holds, places_within}
 use Rattle.bw_group.proofs.RunLemmas.{later_above}
 use Rattle.bw_group.proofs.Wholes.{batch_entries}
@@ -41,7 +41,7 @@ loop-start-preserved c =
     let numbers' = c.set_numbers.new.numbers in
     let number = length c.loop-start.pages.items in
     let count : c.len-in-loop-start.result ≡ number = omega (arith, c.len-in-loop-start.ensures, c.loop-start.pages.ok) in
-    let any : Point = record { key = record { ref_ptr = (0, 0); now = [] }; place = 0; prefix = 0 } in
+    let any : Point = record { key = record { ref_ptr = (0, 0); now = [] }; place = 0; prefix = 0; alike = refl } in
     let part = λ (l : List Point). entries_of (take (m - n) (drop n l)) in
     let here = c.deref-in-loop-start.ensures.value in
     let listed : numbers' ≡ with_number numbers (part points) number =

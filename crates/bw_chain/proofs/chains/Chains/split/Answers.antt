@@ -1,44 +1,76 @@
-use Rattle.std.proofs.Common.{◌≡◌, ◌∙◌, ◌++◌, ◌∷◌, [], set, Option, Some, ap, get_or, length, sym, arith}
+use Rattle.std.proofs.Common.{◌≡◌, ◌<◌, ◌∙◌, ◌++◌, ℕ, ◌∷◌, [], set, slice_get, Option, Some, None, Result, Ok, Err, OnErr, ap, get_or, length, sym, arith}
+use Rattle.std.proofs.lemmas.List.{length-set, set-get_or, set-set}
+use Rattle.std.proofs.lemmas.Option.{get_or_from_slice_get}
 use Rattle.bw_key.specs.Order.{KeyBytes}
 use Rattle.bw_page.specs.declared.pages.Page.{Page}
 use Rattle.bw_delta.specs.declared.deltas.Delta.TheVariants.{Split}
-use Rattle.bw_chain.specs.Chains.{Bases, ChainsView, Records, based}
+use Rattle.bw_chain.specs.Chains.{Bases, ChainsView, IsChain, Records, based, floor_word, page_at}
 use Rattle.bw_chain.specs.Splits.{slot_entries, slot_left, slot_right, slot_separator}
 use Rattle.bw_chain.proofs.InPlaceLemmas.{plain_at, plain_within}
 use Rattle.bw_chain.proofs.chains.Chains.split.Goals as goal
 
-pub index_mut-requires : goal.index_mut-requires
-index_mut-requires c =
+refused : {T E P : Type 0} (r : Result T E) → P → OnErr r P
+refused (Ok x) p = tt
+refused (Err e) p = p
+
+abbrev view_of : Bases → Records → ChainsView
+view_of bases records = record { bases = bases; records = records }
+
+-- the page that was taken out is the chain's
+taken : (chains : ChainsView) (items : Bases) (word : ℕ) (page : Option Page) → IsChain chains word → word < floor_word → items ≡ chains.bases →
+    slice_get items word ≡ Some page → page_at chains word ≡ based (Some page)
+taken chains items word page ends plain same is =
+    plain_at chains word page ends plain (sym (get_or_from_slice_get items word page page is) ∙ ap (λ (bs : Bases). get_or bs word page) same)
+
+pub replace-requires : goal.replace-requires
+replace-requires c =
     let within = plain_within c.args.self.now c.args.word c.requires.ends c.requires.plain in
-    omega (arith, within, ap (λ (v : ChainsView). length v.bases) c.self.view_is, c.self.inside.bases.ok, c.in_ok-reserve.ensures.len)
+    omega (arith, within, ap (λ (v : ChainsView). length v.bases) c.self.view_is, ap length c.in_ok-make_room.ensures.items)
 
 pub unreachable-requires : goal.unreachable-requires
-unreachable-requires c =
-    let read = c.index_mut.ensures.value ∙ ap (λ (bs : Bases). get_or bs c.args.word c.index_mut.result.now) (c.in_ok-reserve.ensures.items ∙ ap (λ (v : ChainsView). v.bases) c.self.view_is) in
-    let is = plain_at c.args.self.now c.args.word c.index_mut.result.now c.requires.ends c.requires.plain read in
-    omega (arith, c.requires.fewer, ap slot_entries (is ∙ ap (λ (o : Option Page). based (Some o)) c.in_default.is))
+unreachable-requires c = omega (arith, c.requires.fewer, ap slot_entries (taken c.args.self.now c.make_room.new.self.items c.args.word c.replace.result c.requires.ends c.requires.plain (c.in_ok-make_room.ensures.items ∙ ap (λ (v : ChainsView). v.bases) c.self.view_is) c.replace.ensures.old ∙ ap (λ (o : Option Page). based (Some o)) c.in_default.is))
 
-pub cut-requires-clause-fewer : goal.cut-requires-clause-fewer
-cut-requires-clause-fewer c =
-    let read = c.index_mut.ensures.value ∙ ap (λ (bs : Bases). get_or bs c.args.word c.index_mut.result.now) (c.in_ok-reserve.ensures.items ∙ ap (λ (v : ChainsView). v.bases) c.self.view_is) in
-    let is = plain_at c.args.self.now c.args.word c.index_mut.result.now c.requires.ends c.requires.plain read in
-    omega (arith, c.requires.fewer, ap slot_entries (is ∙ ap (λ (o : Option Page). based (Some o)) c.in-Some.is))
+pub cut-cut-requires-clause-fewer : goal.cut-cut-requires-clause-fewer
+cut-cut-requires-clause-fewer c = omega (arith, c.requires.fewer, ap slot_entries (taken c.args.self.now c.make_room.new.self.items c.args.word c.replace.result c.requires.ends c.requires.plain (c.in_ok-make_room.ensures.items ∙ ap (λ (v : ChainsView). v.bases) c.self.view_is) c.replace.ensures.old ∙ ap (λ (o : Option Page). based (Some o)) c.in-Some.is))
+
+pub set-requires : goal.set-requires
+set-requires c =
+    let within = plain_within c.args.self.now c.args.word c.requires.ends c.requires.plain in
+    omega (arith, within, ap (λ (v : ChainsView). length v.bases) c.self.view_is, ap length c.in_ok-make_room.ensures.items, ap length c.replace.ensures.items, length-set c.make_room.new.self.items c.args.word None)
+
+pub returns-in_err-sep-clause-err : goal.returns-in_err-sep-clause-err
+returns-in_err-sep-clause-err c =
+    let word = c.args.word in
+    let items = c.make_room.new.self.items in
+    let page = c.cut-cut.new.base in
+    let back : c.set.new.self.items ≡ c.self.inside.bases.items =
+    c.set.ensures.items ∙ ap (λ (bs : Bases). set bs word (Some page)) c.replace.ensures.items ∙ set-set items word None (Some page)
+    ∙ ap (λ (p : Page). set items word (Some p)) c.in_err-sep.ensures.err
+    ∙ ap (λ (o : Option Page). set items word o) (sym c.in-Some.is ∙ sym (get_or_from_slice_get items word c.replace.result c.replace.result c.replace.ensures.old))
+    ∙ set-get_or items word c.replace.result ∙ c.in_ok-make_room.ensures.items in
+    refused c.from_residual-in_err-sep.result
+    (ap (λ (bs : Bases). view_of bs c.make_room-2.new.arena.records) back
+    ∙ ap (view_of c.self.inside.bases.items) c.in_ok-make_room-2.ensures.records ∙ c.self.view_is)
 
 pub returns-clause-cut : goal.returns-clause-cut
 returns-clause-cut c =
     let keep = c.args.keep in
-    let old : c.reserve.new.self.items ≡ c.args.self.now.bases = c.in_ok-reserve.ensures.items ∙ ap (λ (v : ChainsView). v.bases) c.self.view_is in
-    let read = c.index_mut.ensures.value ∙ ap (λ (bs : Bases). get_or bs c.args.word c.index_mut.result.now) old in
-    let is = plain_at c.args.self.now c.args.word c.index_mut.result.now c.requires.ends c.requires.plain read ∙ ap (λ (o : Option Page). based (Some o)) c.in-Some.is in
-    let pushed : c.push.new.self.items ≡ set c.reserve.new.self.items c.args.word (Some c.cut.new.base) ++ Some c.in_ok-sep.right ∷ [] = rw c.unwrap.ensures at c.push.ensures.items in
+    let word = c.args.word in
+    let items = c.make_room.new.self.items in
+    let page = c.cut-cut.new.base in
+    let right = c.in_ok-sep.right in
+    let is = taken c.args.self.now c.make_room.new.self.items c.args.word c.replace.result c.requires.ends c.requires.plain (c.in_ok-make_room.ensures.items ∙ ap (λ (v : ChainsView). v.bases) c.self.view_is) c.replace.ensures.old ∙ ap (λ (o : Option Page). based (Some o)) c.in-Some.is in
     record {
-      left = c.cut.new.base;
-      right = c.in_ok-sep.right;
+      left = page;
+      right = right;
       first = c.in_ok-sep.ensures.left ∙ ap (slot_left keep) (sym is);
       others = c.in_ok-sep.ensures.right ∙ ap (slot_right keep) (sym is);
-      bases = pushed ∙ ap (λ (bs : Bases). set bs c.args.word (Some c.cut.new.base) ++ Some c.in_ok-sep.right ∷ []) old;
+      bases =
+          c.push_reserved.ensures.items
+          ∙ ap (λ (bs : Bases). bs ++ Some right ∷ []) (c.set.ensures.items ∙ ap (λ (bs : Bases). set bs word (Some page)) c.replace.ensures.items ∙ set-set items word None (Some page))
+          ∙ ap (λ (bs : Bases). set bs word (Some page) ++ Some right ∷ []) (c.in_ok-make_room.ensures.items ∙ ap (λ (v : ChainsView). v.bases) c.self.view_is);
       records =
           c.append.ensures.records
-          ∙ ap (λ (rs : Records). rs ++ (Split c.in_ok-sep.sep c.args.to, c.args.word) ∷ []) (c.in_ok-make_room.ensures.records ∙ ap (λ (v : ChainsView). v.records) c.self.view_is)
-          ∙ ap (λ (k : KeyBytes). c.args.self.now.records ++ (Split k c.args.to, c.args.word) ∷ []) (c.in_ok-sep.ensures.separator ∙ ap (slot_separator keep) (sym is));
+          ∙ ap (λ (rs : Records). rs ++ (Split c.in_ok-sep.sep c.args.to, word) ∷ []) (c.in_ok-make_room-2.ensures.records ∙ ap (λ (v : ChainsView). v.records) c.self.view_is)
+          ∙ ap (λ (k : KeyBytes). c.args.self.now.records ++ (Split k c.args.to, word) ∷ []) (c.in_ok-sep.ensures.separator ∙ ap (slot_separator keep) (sym is));
     }

@@ -1,4 +1,4 @@
-use Rattle.std.proofs.Common.{◌≡◌, [], ◌∷◌, ◌++◌, ap, ◌∙◌}
+use Rattle.std.proofs.Common.{[], ◌∷◌, ◌++◌, ap, ◌∙◌}
 use Rattle.std.specs.List.{zip}
 use Rattle.bw_delta.specs.Arenas.{ArenaView}
 use Rattle.bw_delta.proofs.Zips.{zip_more}
@@ -8,7 +8,5 @@ pub returns-clause-records : goal.returns-clause-records
 returns-clause-records c =
     let deltas = c.self.inside.deltas.items in
     let links = c.self.inside.links.items in
-    let delta_is : c.push.new.self.items ≡ deltas ++ c.args.delta ∷ [] = rw c.unwrap.ensures at c.push.ensures.items in
-    let link_is : c.push-2.new.self.items ≡ links ++ c.args.link ∷ [] = rw c.unwrap-2.ensures at c.push-2.ensures.items in
-    ap (λ l. zip l c.push-2.new.self.items) delta_is ∙ ap (zip (deltas ++ c.args.delta ∷ [])) link_is
+    ap (λ l. zip l c.push_reserved-2.new.self.items) c.push_reserved.ensures.items ∙ ap (zip (deltas ++ c.args.delta ∷ [])) c.push_reserved-2.ensures.items
     ∙ zip_more deltas links c.args.delta c.args.link c.self.invariant ∙ ap (λ (a : ArenaView). a.records ++ (c.args.delta, c.args.link) ∷ []) c.self.view_is

@@ -5,8 +5,6 @@ use Rattle.bw_delta.proofs.arena.Arena.len.Goals as goal
 
 pub returns : goal.returns
 returns c =
-    let deltas = c.self.inside.deltas in
-    let links = c.self.inside.links in
-    let both = length_zipped deltas.items links.items c.self.invariant in
+    let both = length_zipped c.self.inside.deltas.items c.self.inside.links.items c.self.invariant in
     let seen = ap (λ (a : ArenaView). length a.records) c.self.view_is in
-    omega (arith, both, seen, c.len.ensures, deltas.ok)
+    omega (arith, both, seen, c.len.ensures)

@@ -21,32 +21,32 @@ pub over-requires : goal.over-requires
 over-requires c =
     (more_over c.in_ok-bases.bases.items c.push.new.self.items c.args.leaves.items c.from_children-root.result c.requires
     (subst (λ (ls : List (LeafView ValueBytes)). AllByRecursion HasRules ls) c.deref.ensures.value c.in_ok-children.ensures.rules)
-    c.in_ok-bases.ensures (omega (arith, c.if-len-gt1.true, c.len-2.ensures, c.in_ok-bases.bases.ok)) (omega (arith, c.if-len-ge-FLOOR.false, c.len.ensures, c.args.leaves.ok))
+    c.in_ok-bases.ensures (omega (arith, c.if-len-gt1.true, c.len-2.ensures)) (omega (arith, c.if-len-ge-FLOOR.false, c.len.ensures, c.args.leaves.ok))
     c.from_children-root.ensures.level (c.from_children-root.ensures.low ∙ search rules) c.from_children-root.ensures.high c.from_children-root.ensures.side
     (c.from_children-root.ensures.children ∙ c.in_ok-children.ensures.items ∙ ap (terms_from 0) c.deref.ensures.value)
-    c.in_ok-push.ensures.items).tree
+    c.in_ok-push.ensures.ok).tree
 
 pub returns-then-len-gt1 : goal.returns-then-len-gt1
 returns-then-len-gt1 c =
     over_ok c.over.result c.push.new.self.items c.args.leaves.items
     (more_over c.in_ok-bases.bases.items c.push.new.self.items c.args.leaves.items c.from_children-root.result c.requires
     (subst (λ (ls : List (LeafView ValueBytes)). AllByRecursion HasRules ls) c.deref.ensures.value c.in_ok-children.ensures.rules)
-    c.in_ok-bases.ensures (omega (arith, c.if-len-gt1.true, c.len-2.ensures, c.in_ok-bases.bases.ok)) (omega (arith, c.if-len-ge-FLOOR.false, c.len.ensures, c.args.leaves.ok))
+    c.in_ok-bases.ensures (omega (arith, c.if-len-gt1.true, c.len-2.ensures)) (omega (arith, c.if-len-ge-FLOOR.false, c.len.ensures, c.args.leaves.ok))
     c.from_children-root.ensures.level (c.from_children-root.ensures.low ∙ search rules) c.from_children-root.ensures.high c.from_children-root.ensures.side
     (c.from_children-root.ensures.children ∙ c.in_ok-children.ensures.items ∙ ap (terms_from 0) c.deref.ensures.value)
-    c.in_ok-push.ensures.items)
+    c.in_ok-push.ensures.ok)
     c.over.ensures
 
 pub over-requires-2 : goal.over-requires-2
 over-requires-2 c =
     (one_over c.in_ok-bases.bases.items c.args.leaves.items c.requires
     (subst (λ (ls : List (LeafView ValueBytes)). AllByRecursion HasRules ls) c.deref.ensures.value c.in_ok-children.ensures.rules)
-    c.in_ok-bases.ensures (omega (arith, c.if-len-gt1.false, c.len-2.ensures, c.in_ok-bases.bases.ok))).tree
+    c.in_ok-bases.ensures (omega (arith, c.if-len-gt1.false, c.len-2.ensures))).tree
 
 pub returns : goal.returns
 returns c =
     over_ok c.over-2.result c.in_ok-bases.bases.items c.args.leaves.items
     (one_over c.in_ok-bases.bases.items c.args.leaves.items c.requires
     (subst (λ (ls : List (LeafView ValueBytes)). AllByRecursion HasRules ls) c.deref.ensures.value c.in_ok-children.ensures.rules)
-    c.in_ok-bases.ensures (omega (arith, c.if-len-gt1.false, c.len-2.ensures, c.in_ok-bases.bases.ok)))
+    c.in_ok-bases.ensures (omega (arith, c.if-len-gt1.false, c.len-2.ensures)))
     c.over-2.ensures

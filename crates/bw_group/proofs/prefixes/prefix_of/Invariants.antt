@@ -1,6 +1,0 @@
-use Rattle.std.proofs.Common.{◌≡◌, ◌*◌, ◌<◌, ◌^◌}
-use Rattle.bw_group.specs.Prefixes.{continued_by}
-use Rattle.bw_group.proofs.prefixes.prefix_of.Given as goal
-
-abbrev pub invariant-loop-place : goal.invariant-loop-place
-invariant-loop-place l = (l.prefix ≡ continued_by l.place 0 l.bytes) × (l.prefix < 2 ^ (8 * l.place))

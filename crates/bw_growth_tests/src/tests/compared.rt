@@ -1,0 +1,77 @@
+// An index beside the plain program.
+use bw_batch::{Done, Index, Op, OpenGate, Pairs, Refusal, Reply};
+use bw_model::ReferenceMap;
+use std::process::Abort;
+use std::thread::Threads;
+
+/// An index, and the plain program's map of the same pairs.
+pub struct Compared {
+    pub index: Index,
+    pub map: ReferenceMap,
+}
+
+// Not derived: whoever drops one calls this, and its proof is spared the parts.
+impl Drop for Compared {
+    fn drop(self) {
+        let Compared {
+            index: _index,
+            map: _map,
+        } = self;
+    }
+}
+
+// Compares replies.
+fn same<R: Abort>(rt: &R, left: &[Reply], right: &[Reply]) {
+    assert_eq!(rt; left.len(), right.len());
+    for (left, right) in left.iter().zip(right) {
+        assert!(rt; *left == *right);
+    }
+}
+
+// Compares the replies to a batch with those of the plain program, which runs it too.
+fn answers<R: Abort>(rt: &R, map: &mut ReferenceMap, ops: &[Op], replies: &[Reply]) {
+    let expected = map.run(ops).expect(rt, "memory");
+    same(rt, replies, expected.as_slice());
+}
+
+/// Has the plain program run a batch that was accepted, and compares the replies. Whether it was tidied, or why it was
+/// refused.
+pub fn follow<R: Abort>(
+    rt: &R,
+    map: &mut ReferenceMap,
+    ops: &[Op],
+    outcome: &Result<Done, Refusal>,
+) -> Result<bool, Refusal> {
+    match outcome {
+        Ok(done) => {
+            answers(rt, map, ops, done.replies.as_slice());
+            Ok(!done.tidy.stopped)
+        }
+        Err(refusal) => Err(*refusal),
+    }
+}
+
+/// Compares pairs with those of the plain program.
+pub fn has_pairs<R: Abort>(rt: &R, map: &ReferenceMap, pairs: &Pairs) {
+    let expected = map.entries().expect(rt, "memory");
+    assert!(rt; *pairs == expected);
+}
+
+// Compares the pairs of both.
+fn are_same<R: Abort>(rt: &R, both: &Compared) {
+    let pairs = both.index.contents().expect(rt, "memory");
+    has_pairs(rt, &both.map, &pairs);
+}
+
+/// Runs a batch by both, and compares the replies and the pairs after it. Why it was refused, if it was: then the plain
+/// program doesn't run it.
+pub fn run_both<R: Abort + Threads + Sync>(
+    rt: &R,
+    both: &mut Compared,
+    ops: &[Op],
+) -> Option<Refusal> {
+    let outcome = both.index.run(rt, ops, &OpenGate);
+    let followed = follow(rt, &mut both.map, ops, &outcome);
+    are_same(rt, both);
+    followed.err()
+}

@@ -1,0 +1,191 @@
+// Lists in segments.
+ghost use Rattle.std.specs.Prelude.{◌≡◌, ◌+◌, ◌<◌, ◌≤◌, ◌++◌, ◌∷◌, [], length, take, drop, slice_get, slice_set, vec_capacity, Some, OnOk, OnErr};
+ghost use Rattle.std.specs.Option.{option_map};
+
+use bw_key::Memory;
+use bw_memory::Alloc;
+use std::marker::Model;
+use std::mem;
+
+/// How many entries a segment has.
+pub const SEGMENT: usize = 1024;
+
+/// The most segments that are full: 2^32.
+pub const SEGMENTS_MAX: usize = 1 << 32;
+
+/// A list in segments of `SEGMENT` entries, of which the last one may have fewer.
+///
+/// An entry that was added stays where it is in memory, but for the first ones: the first segment grows as a `Vec` does, so
+/// that a short list takes little. Each further segment is made at once. Entries are found by their places in constant time.
+#[derive(Debug)]
+pub struct Segmented<T> {
+    full: Vec<Vec<T, Alloc>, Alloc>,
+    last: Vec<T, Alloc>,
+}
+
+// Not derived: whoever drops one calls this, and its proof is spared the parts.
+impl<T: Drop> Drop for Segmented<T> {
+    fn drop(self) {
+        let Segmented {
+            full: _full,
+            last: _last,
+        } = self;
+    }
+}
+
+impl<T> Model for Segmented<T> {
+    ghost use Rattle.std.specs.Prelude.{◌-◌, length, vec_capacity, map, min};
+    ghost use Rattle.bw_segment.specs.Segments.{IsSegmented, SegmentedView, joined};
+
+    ghost Value = { SegmentedView T };
+
+    ghost view = { λ s. record {
+      items = joined (map (λ v. v.items) s.full.items) s.last.items;
+      room = min 1024 (vec_capacity s.last) - length s.last.items;
+    } };
+
+    ghost invariant = { λ s. IsSegmented (map (λ v. v.items) s.full.items) s.last.items };
+}
+
+impl<T: Drop> Segmented<T> {
+    /// The empty list. It takes no memory.
+    pub fn new(alloc: Alloc) -> Segmented<T>
+        ensures { result.items ≡ [] }
+    {
+        Segmented {
+            full: Vec::new(alloc),
+            last: Vec::new(alloc),
+        }
+    }
+
+    /// The allocator that the list has its memory from. Contracts don't see it.
+    pub fn allocator(&self) -> Alloc {
+        *self.last.allocator()
+    }
+
+    /// How many entries there are.
+    pub fn len(&self) -> usize
+        ensures { result ≡ length self.now.items }
+    {
+        self.full.len() * SEGMENT + self.last.len()
+    }
+
+    /// The entry at a place, if there is one.
+    pub fn get(&self, place: usize) -> Option<&T>
+        ensures { option_map (λ entry. entry.now) result ≡ slice_get self.now.items place }
+    {
+        let segment = place / SEGMENT;
+        if segment < self.full.len() {
+            Some(&self.full[segment][place % SEGMENT])
+        } else if segment == self.full.len() {
+            self.last.get(place % SEGMENT)
+        } else {
+            None
+        }
+    }
+
+    /// Puts an entry in the place of another, which it answers.
+    pub fn replace(&mut self, place: usize, entry: T) -> T
+        requires { place < length self.old.items }
+        ensures old { slice_get self.old.items place ≡ Some result }
+        ensures items { self.new.items ≡ slice_set self.old.items place entry }
+        ensures room { self.new.room ≡ self.old.room }
+    {
+        let segment = place / SEGMENT;
+        if segment < self.full.len() {
+            return replace_in(&mut self.full[segment], place % SEGMENT, entry);
+        }
+        replace_in(&mut self.last, place % SEGMENT, entry)
+    }
+
+    /// Puts an entry in the place of another, which is dropped.
+    pub fn set(&mut self, place: usize, entry: T)
+        requires { place < length self.old.items }
+        ensures items { self.new.items ≡ slice_set self.old.items place entry }
+        ensures room { self.new.room ≡ self.old.room }
+    {
+        let _old = self.replace(place, entry);
+    }
+
+    /// Makes room for one more entry, which in one call of 1,024 means a new segment. `Memory` is answered where a growth is
+    /// refused, and where `SEGMENTS_MAX` segments are full; the list is as before.
+    pub fn make_room(&mut self) -> Result<(), Memory>
+        ensures items { self.new.items ≡ self.old.items }
+        ensures ok { OnOk result (0 < self.new.room) }
+    {
+        if self.last.len() < SEGMENT {
+            self.last.reserve(1)?;
+            return Ok(());
+        }
+        if self.full.len() == SEGMENTS_MAX {
+            return Err(Memory);
+        }
+        self.full.reserve(1)?;
+        let next = Vec::with_capacity(*self.last.allocator(), SEGMENT)?;
+        self.full.push_reserved(mem::replace(&mut self.last, next));
+        Ok(())
+    }
+
+    /// Adds an entry behind the others. It takes no memory: room was made.
+    pub fn push_reserved(&mut self, entry: T)
+        requires { 0 < self.old.room }
+        ensures items { self.new.items ≡ self.old.items ++ entry ∷ [] }
+        ensures room { self.old.room ≡ self.new.room + 1 }
+    {
+        self.last.push_reserved(entry);
+    }
+
+    /// Adds an entry behind the others. `Memory` is answered as by `make_room`, and then the list is as before.
+    pub fn push(&mut self, entry: T) -> Result<(), Memory>
+        ensures ok { OnOk result (self.new.items ≡ self.old.items ++ entry ∷ []) }
+        ensures err { OnErr result (self.new.items ≡ self.old.items) }
+    {
+        self.make_room()?;
+        self.push_reserved(entry);
+        Ok(())
+    }
+
+    /// Leaves the first `len` entries, or all where there are no more. The segments behind them are given back, but for one that
+    /// may stay with no entry. It takes no memory, and costs a step for each entry that goes.
+    pub fn truncate(&mut self, len: usize)
+        ensures { self.new.items ≡ take len self.old.items }
+    {
+        let segment = len / SEGMENT;
+        if segment < self.full.len() {
+            self.full.truncate(segment + 1);
+            let Some(last) = self.full.pop() else {
+                unreachable!();
+            };
+            let _old = mem::replace(&mut self.last, last);
+            self.last.truncate(len % SEGMENT);
+        } else if segment == self.full.len() {
+            self.last.truncate(len % SEGMENT);
+        }
+    }
+}
+
+impl<T: Copy + Drop> Segmented<T> {
+    /// Puts entries in the places of others, from the one at `start` on. It takes no memory.
+    pub fn overwrite(&mut self, start: usize, entries: &[T])
+        requires { start + length entries.now ≤ length self.old.items }
+        ensures items { self.new.items
+            ≡ take start self.old.items ++ entries.now ++ drop (start + length entries.now) self.old.items }
+        ensures room { self.new.room ≡ self.old.room }
+    {
+        // A look at a field is what makes the type's rule known here: there are fewer entries than can be counted.
+        let _ = &self.last;
+        for (place, entry) in entries.iter().enumerate() {
+            self.set(start + place, *entry);
+        }
+    }
+}
+
+// Puts an entry in the place of another in one segment.
+fn replace_in<T: Drop>(entries: &mut Vec<T, Alloc>, place: usize, entry: T) -> T
+    requires { place < length entries.old.items }
+    ensures old { slice_get entries.old.items place ≡ Some result }
+    ensures items { entries.new.items ≡ slice_set entries.old.items place entry }
+    ensures capacity { vec_capacity entries.new ≡ vec_capacity entries.old }
+{
+    mem::replace(&mut entries[place], entry)
+}
