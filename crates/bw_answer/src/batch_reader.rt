@@ -13,7 +13,6 @@ ghost use Rattle.bw_answer.specs.Parts.{IsPartOf, places_in};
 ghost use Rattle.bw_answer.specs.Replies.{answers_to, point_places, ArePointsOf, IsReadBy};
 ghost use Rattle.bw_model.specs.Model.{IsReplyAt};
 
-use crate::leaf_values::value_at;
 use crate::parts::Part;
 use crate::write_groups::{group_of, writes_by_key};
 use bw_delta::{Reading, Write};
@@ -174,12 +173,7 @@ impl<'a> BatchReader<'a> {
             let end = group_end(points, start);
             let key = points[start].key;
             let group = &points[start..end];
-            self.answer_group(
-                value_at(leaf.base.pairs(), key),
-                group_of(&writes, key),
-                group,
-                answers,
-            )?;
+            self.answer_group(leaf.base.find(key), group_of(&writes, key), group, answers)?;
             start = end;
         }
         Ok(())

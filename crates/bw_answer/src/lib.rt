@@ -7,7 +7,6 @@
 
 mod batch_reader;
 mod batch_replies;
-mod leaf_values;
 mod parts;
 mod write_groups;
 

@@ -6,7 +6,6 @@ ghost use Rattle.bw_delta.specs.History.{pointed_to, HasDistinctStamps};
 ghost use Rattle.bw_answer.specs.WriteGroups.{AreSortedByKey, HaveRisingStamps};
 
 use bw_delta::{Write, in_order};
-use bw_group::{compare, is_before, is_upto};
 use bw_key::{Key, Memory};
 use bw_memory::Alloc;
 
@@ -21,7 +20,7 @@ pub(crate) fn writes_by_key<'a>(
     ensures rising { IfOk result (λ grouped. HaveRisingStamps (pointed_to grouped.items)) }
 {
     let mut grouped = in_order(alloc, writes)?;
-    grouped.sort_by(|a, b| compare(&a.key, &b.key))?;
+    grouped.sort_by(|a, b| a.key.cmp(&b.key))?;
     Ok(grouped)
 }
 
@@ -30,8 +29,8 @@ pub(crate) fn group_of<'a>(grouped: &'a [&'a Write], key: &Key) -> &'a [&'a Writ
     requires { AreSortedByKey (pointed_to grouped.now) }
     ensures { pointed_to result.now ≡ writes_to key.now (pointed_to grouped.now) }
 {
-    let start = grouped.partition_point(|write| is_before(&write.key, key));
+    let start = grouped.partition_point(|write| write.key < *key);
     let rest = &grouped[start..];
-    let end = rest.partition_point(|write| is_upto(&write.key, key));
+    let end = rest.partition_point(|write| write.key <= *key);
     &rest[..end]
 }

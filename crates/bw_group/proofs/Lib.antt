@@ -1,7 +1,6 @@
 pub mod Lists
 pub mod Entries
 pub mod Groups
-pub mod PrefixLemmas
 pub mod Wholes
 pub mod RunLemmas
 pub mod PassedPages

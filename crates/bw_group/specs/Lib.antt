@@ -1,3 +1,2 @@
 pub mod Points
 pub mod Homes
-pub mod Prefixes

@@ -1,10 +1,11 @@
 // The homes of a batch, and the runs of points that are at home on one page.
-ghost use Rattle.std.specs.Prelude.{◌≡◌, ◌≢◌, ◌<◌, ◌≤◌, false, Some, T, length, slice_get, IfOk};
+ghost use Rattle.std.specs.Prelude.{◌≡◌, ◌≢◌, ◌<◌, ◌≤◌, false, Some, T, length, slice_get, IfOk, IfSome};
 ghost use Rattle.std.specs.List.{AllByRecursion, Contains};
 ghost use Rattle.std.specs.List.Sorted.{IsSortedBy};
 ghost use Rattle.std.specs.Option.{option_copied};
 ghost use Rattle.std.specs.Ordering.{is_lt};
 ghost use Rattle.bw_key.specs.Order.{key_cmp};
+ghost use Rattle.bw_key.specs.Prefixes.{key_prefix};
 ghost use Rattle.bw_model.specs.Contents.{is_below_end};
 ghost use Rattle.bw_tree.specs.Levels.{IsOneHome, row};
 ghost use Rattle.bw_tree.specs.Slots.{slot_at};
@@ -15,7 +16,6 @@ ghost use Rattle.bw_group.specs.declared.points.Point.{Point};
 
 use crate::grouping::Grouping;
 use crate::points::Point;
-use crate::prefixes::prefix_of_end;
 use bw_key::{Key, Memory};
 use bw_memory::Alloc;
 use bw_tree::{PageId, Routes, Tree};
@@ -187,4 +187,14 @@ fn run_end(points: &[Point<'_>], start: usize, end: Option<&Key>) -> usize
         }
     }
     points.len()
+}
+
+// The prefix of an end, and any number where there is none.
+fn prefix_of_end(end: Option<&Key>) -> u64
+    ensures { IfSome end.entry (λ key. result ≡ key_prefix key.now) }
+{
+    match end {
+        Some(key) => key.prefix(),
+        None => 0,
+    }
 }

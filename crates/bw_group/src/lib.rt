@@ -7,12 +7,10 @@
 mod grouping;
 mod homes;
 mod points;
-mod prefixes;
 
 pub use grouping::{Grouping, group_end};
 pub use homes::{Homes, find_homes};
 pub use points::Point;
-pub use prefixes::{compare, is_before, is_same, is_upto};
 
 /// Out of memory.
 pub use bw_key::Memory;

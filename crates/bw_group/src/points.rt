@@ -3,10 +3,9 @@ ghost use Rattle.std.specs.Prelude.{◌≡◌, not, IfSome};
 ghost use Rattle.std.specs.Option.{option_copied};
 ghost use Rattle.bw_key.specs.Order.{key_cmp, key_eq};
 ghost use Rattle.bw_model.specs.Contents.{is_below_end};
-ghost use Rattle.bw_group.specs.Prefixes.{key_prefix};
+ghost use Rattle.bw_key.specs.Prefixes.{key_prefix};
 
-use crate::prefixes::{compare_by, prefix_of};
-use bw_key::Key;
+use bw_key::{Key, compare_prefixed};
 use std::cmp::Ordering;
 
 /// An operation's key, and its place in the batch.
@@ -25,7 +24,7 @@ impl<'a> Point<'a> {
         ensures key { result.key.now ≡ key.now }
         ensures place { result.place ≡ place }
     {
-        let prefix = prefix_of(key);
+        let prefix = key.prefix();
         Point { key, place, prefix }
     }
 
@@ -33,7 +32,7 @@ impl<'a> Point<'a> {
     pub(crate) fn by_key(&self, other: &Point<'_>) -> Ordering
         ensures { result ≡ key_cmp self.now.key.now other.now.key.now }
     {
-        compare_by(self.key, self.prefix, other.key, other.prefix)
+        compare_prefixed(self.key, self.prefix, other.key, other.prefix)
     }
 
     /// Whether two points have different keys.
@@ -49,7 +48,7 @@ impl<'a> Point<'a> {
         ensures { result ≡ is_below_end (option_copied end.entry) self.now.key.now }
     {
         match end {
-            Some(end) => compare_by(self.key, self.prefix, end, prefix).is_lt(),
+            Some(end) => compare_prefixed(self.key, self.prefix, end, prefix).is_lt(),
             None => true,
         }
     }

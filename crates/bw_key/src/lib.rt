@@ -4,14 +4,20 @@
 
 ghost use Rattle.std.specs.Prelude.{◌≡◌, ◌<◌, ◌≤◌, length, IsOk, IfOk, IsOkUnless};
 ghost use Rattle.bw_key.specs.Order.{key_cmp, key_eq, key_cmp_total, key_eq_laws, key_eq_equiv, key_cmp_laws, key_cmp_agrees, key_ties};
+ghost use Rattle.bw_key.specs.Prefixes.{key_prefix};
 ghost use Rattle.std.specs.Ordering.{as_partial_cmp};
 
+use crate::prefixes::prefix_of;
 use bw_memory::Alloc;
 use smallvec::SmallVec;
 use std::alloc::{AllocError, AllocFailed};
 use std::cmp::Ordering;
 use std::marker::Model;
 use thiserror::Error;
+
+mod prefixes;
+
+pub use prefixes::compare_prefixed;
 
 /// Out of memory, the same in every crate of the workspace: the allocator refused a growth, since the system has no
 /// more or the heap has reached its limit. Each call says what stands after it.
@@ -52,7 +58,7 @@ pub const KEY_INLINE: usize = 24;
 ///
 /// Keys are ordered byte by byte as unsigned numbers: the first bytes that differ decide, and a key which is the
 /// beginning of another one is before it. So the empty key is before all others. Two keys are equal where they have the
-/// same bytes. Contracts see a key as the list of its bytes.
+/// same bytes. Keys that differ in their first eight bytes are told apart by one comparison of numbers. Contracts see a key as the list of its bytes.
 #[derive(Debug)]
 pub struct Key {
     bytes: SmallVec<u8, KEY_INLINE, Alloc>,
@@ -122,6 +128,14 @@ impl Key {
     {
         self.bytes.as_slice()
     }
+
+    /// The first eight bytes as one number, the first of them at the top, with zeros behind a shorter key. Keys of
+    /// different prefixes stand as these do, so whoever sorts keeps them beside the keys (`compare_prefixed`).
+    pub fn prefix(&self) -> u64
+        ensures { result ≡ key_prefix self.now }
+    {
+        prefix_of(self.bytes())
+    }
 }
 
 impl PartialEq for Key {
@@ -130,7 +144,7 @@ impl PartialEq for Key {
     ghost laws = { key_eq_laws };
 
     fn eq(&self, other: &Key) -> bool {
-        self.bytes() == other.bytes()
+        self.cmp(other).is_eq()
     }
 }
 
@@ -158,7 +172,7 @@ impl Ord for Key {
     ghost matches_eq = { key_ties };
 
     fn cmp(&self, other: &Key) -> Ordering {
-        self.bytes().cmp(&other.bytes())
+        compare_prefixed(self, self.prefix(), other, other.prefix())
     }
 }
 

@@ -2,7 +2,7 @@ use Rattle.std.proofs.Common.{ap, sym, map, ◌∙◌, rules, refl}
 use Rattle.std.proofs.lemmas.List.Sorted.{answers_always}
 use Rattle.bw_key.specs.Order.{key_eq}
 use Rattle.bw_group.specs.Points.{Entry}
-use Rattle.bw_group.specs.Prefixes.{key_prefix}
+use Rattle.bw_key.specs.Prefixes.{key_prefix}
 use Rattle.bw_group.specs.declared.points.Point.{Point}
 use Rattle.bw_group.proofs.Groups.{is_below, ranks, filter_seen, same_of_key, sorted_seen}
 use Rattle.bw_group.proofs.grouping.group.Goals as goal

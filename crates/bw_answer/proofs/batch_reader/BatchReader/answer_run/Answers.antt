@@ -1,9 +1,7 @@
 use Rattle.std.proofs.Common.{◌≡◌, ◌-◌, List, take, drop, get_or, sym, ap, subst, ◌∙◌, arith}
 use Rattle.std.specs.Borrow.{Bor}
 use Rattle.std.specs.List.{AllByRecursion, Contains}
-use Rattle.std.specs.FinMap.{find}
 use Rattle.std.specs.Option.{option_copied}
-use Rattle.bw_key.specs.Order.{key_cmp}
 use Rattle.bw_delta.specs.Writes.{WriteView}
 use Rattle.bw_delta.specs.Batches.{writes_to}
 use Rattle.bw_delta.specs.History.{pointed_to}
@@ -26,7 +24,7 @@ answer_group-requires-clause-reads c =
     let first = c.index-points-start.result in
     let key = (get_or points at first).key.now in
     let part = entries_of (take (c.group_end-end.result - at) (drop at points)) in
-    let start = option_copied c.value_at.result in
+    let start = option_copied c.find.result in
     let writes = pointed_to c.group_of.result.now in
     let homes = subst (λ (t : TreeView). AllByRecursion (λ e. IsHome t.slots t.levels e.0 page) part) (sym is)
     (part_holds (λ e. IsHome c.args.self.now.tree.slots c.args.self.now.tree.levels e.0 page) points at (c.group_end-end.result - at) c.requires.homes) in
@@ -36,7 +34,7 @@ answer_group-requires-clause-reads c =
     subst (λ (t : TreeView). AllByRecursion (λ e. IsReadBy t start writes e.0) part) is
     (group_reads tree key start writes page part
     (group_read tree page key c.in_ok-leaf.leaf.base.now.pairs (pointed_to c.deref.result.now) (pointed_to c.in_ok-writes.writes.items) writes start c.know_homes.ensures.values c.in_ok-leaf.ensures.values distinct found
-    c.in_ok-writes.ensures.same (c.value_at.ensures ∙ ap (find key_cmp key) c.pairs.ensures.value) group)
+    c.in_ok-writes.ensures.same c.find.ensures group)
     (c.group_end-end.ensures.same first) homes)
 
 pub answer_group-requires-clause-entries : goal.answer_group-requires-clause-entries

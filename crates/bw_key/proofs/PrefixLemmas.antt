@@ -6,7 +6,7 @@ use Rattle.std.proofs.lemmas.Nat.{pow-add}
 use Rattle.std.proofs.Math.Pow.{pow_mono}
 use Rattle.std.specs.declared.cmp.Ordering.TheVariants.{Less, Equal, Greater}
 use Rattle.bw_key.specs.Order.{key_cmp}
-use Rattle.bw_group.specs.Prefixes.{continued_by, key_prefix, IsBytes}
+use Rattle.bw_key.specs.Prefixes.{continued_by, key_prefix, IsBytes}
 
 below : {x y : ℕ} → x < y → nat_cmp x y ≡ Less
 below {x} {y} lt = sym (nat_cmp_is x y Less lt)

@@ -1,7 +1,7 @@
 use Rattle.std.proofs.Common.{ap, sym, ◌∙◌, add-one, arith, ◌*◌, ◌+◌}
-use Rattle.bw_group.specs.Prefixes.{continued_by}
-use Rattle.bw_group.proofs.PrefixLemmas.{digits_fit, one_more}
-use Rattle.bw_group.proofs.prefixes.number_of.Goals as goal
+use Rattle.bw_key.specs.Prefixes.{continued_by}
+use Rattle.bw_key.proofs.PrefixLemmas.{digits_fit, one_more}
+use Rattle.bw_key.proofs.prefixes.short_prefix.Goals as goal
 
 pub overflow_mul-number : goal.overflow_mul-number
 overflow_mul-number c =

@@ -1,8 +1,8 @@
 use Rattle.std.proofs.Common.{ℕ, sym, ap, ◌∙◌}
 use Rattle.std.specs.Ordering.{nat_cmp}
-use Rattle.bw_group.specs.Prefixes.{key_prefix}
-use Rattle.bw_group.proofs.PrefixLemmas.{by_prefix}
-use Rattle.bw_group.proofs.prefixes.compare_by.Goals as goal
+use Rattle.bw_key.specs.Prefixes.{key_prefix}
+use Rattle.bw_key.proofs.PrefixLemmas.{by_prefix}
+use Rattle.bw_key.proofs.prefixes.compare_prefixed.Goals as goal
 
 pub returns-in_default : goal.returns-in_default
 returns-in_default c =

@@ -1,0 +1,84 @@
+// Keys by their first bytes as one number, which tells most of them apart.
+ghost use Rattle.std.specs.Prelude.{◌≡◌, ◌<◌, ◌≤◌, length, slice_index_or};
+ghost use Rattle.bw_key.specs.Order.{key_cmp};
+ghost use Rattle.bw_key.specs.Prefixes.{IsBytes, key_prefix};
+
+use crate::Key;
+use std::cmp::Ordering;
+
+// So many bytes of a key are in its prefix.
+const PREFIX_LEN: usize = 8;
+
+/// How two keys stand, whose prefixes these are: `left.cmp(right)`. Keys that differ in their first eight bytes are told
+/// apart by one comparison of numbers, and not read.
+#[inline(always)]
+pub fn compare_prefixed(left: &Key, left_prefix: u64, right: &Key, right_prefix: u64) -> Ordering
+    requires left { left_prefix ≡ key_prefix left.now }
+    requires right { right_prefix ≡ key_prefix right.now }
+    ensures { result ≡ key_cmp left.now right.now }
+{
+    know_bytes(left);
+    know_bytes(right);
+    match left_prefix.cmp(&right_prefix) {
+        Ordering::Equal => compare_alike(left, right),
+        order => order,
+    }
+}
+
+// How two keys of one prefix stand: one that ends within it begins the other.
+#[inline(never)]
+fn compare_alike(left: &Key, right: &Key) -> Ordering
+    requires { key_prefix left.now ≡ key_prefix right.now }
+    ensures { result ≡ key_cmp left.now right.now }
+{
+    know_bytes(left);
+    know_bytes(right);
+    let (left, right) = (left.bytes(), right.bytes());
+    if left.len() <= PREFIX_LEN || right.len() <= PREFIX_LEN {
+        left.len().cmp(&right.len())
+    } else {
+        left.cmp(&right)
+    }
+}
+
+/// The first eight bytes as one number, the first of them at the top, with zeros behind a shorter list.
+pub(crate) fn prefix_of(bytes: &[u8]) -> u64
+    ensures { result ≡ key_prefix bytes.now }
+{
+    if bytes.len() < PREFIX_LEN {
+        return short_prefix(bytes);
+    }
+    u64::from_be_bytes([
+        bytes[0], bytes[1], bytes[2], bytes[3], bytes[4], bytes[5], bytes[6], bytes[7],
+    ])
+}
+
+// The same, byte by byte.
+fn short_prefix(bytes: &[u8]) -> u64
+    ensures { result ≡ key_prefix bytes.now }
+{
+    let mut number = 0;
+    for place in 0..PREFIX_LEN {
+        number = number * 256 + byte_at(bytes, place);
+    }
+    number
+}
+
+// The byte at a place, and behind the last one zero.
+fn byte_at(bytes: &[u8], place: usize) -> u64
+    ensures byte { result ≡ slice_index_or bytes.now place 0 }
+    ensures bound { result < 256 }
+{
+    match bytes.get(place) {
+        Some(byte) => u64::from(*byte),
+        None => 0,
+    }
+}
+
+// That the bytes of a key are bytes. It does nothing.
+fn know_bytes(key: &Key)
+    ensures { IsBytes key.now }
+{
+    let bytes = key.bytes();
+    let _len = bytes.len();
+}
