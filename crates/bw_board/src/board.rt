@@ -11,7 +11,7 @@ ghost use Rattle.bw_board.specs.Public.{Replaces, seat_after_claim, AllClaimed, 
 use crate::last_words::{Closed, swapped_pages, words_from};
 use crate::plays::{Both, Halve};
 use crate::table::{LawfulTable, Origin, Place, Sight};
-use crate::{chains, steps};
+use crate::{atomic_steps, page_chains};
 use atomic_table::Table;
 use bw_key::Memory;
 use bw_memory::Alloc;
@@ -227,7 +227,7 @@ impl Board {
         if seat.told {
             return None;
         }
-        let from = steps::claim(&self.table.shared, &mut seat.place, self.piece);
+        let from = atomic_steps::claim(&self.table.shared, &mut seat.place, self.piece);
         if from < self.records {
             let left = self.records - from;
             let to = if left < self.piece {
@@ -297,7 +297,7 @@ impl Board {
             told: also,
         } = other;
         self.table.shared.join_seat::<Both>(&mut place, second);
-        steps::settle(&self.table.shared, &mut place);
+        atomic_steps::settle(&self.table.shared, &mut place);
         Seat {
             place,
             width: width + more,
@@ -323,7 +323,7 @@ impl Board {
         ensures sound { IsSound seat.new }
     {
         let words = &self.table.shared;
-        let lost = chains::post(words, &mut seat.place, self.pages, self.floor, r, page);
+        let lost = page_chains::post(words, &mut seat.place, self.pages, self.floor, r, page);
         Posted { lost }
     }
 
@@ -334,7 +334,7 @@ impl Board {
         ensures seen { Sees seat.old seat.new page (book_after_look seat.old.book page) }
         ensures head { result ≡ top self.now.floor (end_at seat.new.book page) (seen_at seat.new.book page) }
     {
-        steps::look(&self.table.shared, &mut seat.place, page)
+        atomic_steps::look(&self.table.shared, &mut seat.place, page)
     }
 
     /// The records that were posted to the page, newest first, with all that this seat posted there or had seen there. What an
@@ -352,7 +352,7 @@ impl Board {
     {
         let words = &self.table.shared;
         let pages = self.pages;
-        chains::peek(self.alloc, words, &mut seat.place, pages, self.floor, page)
+        page_chains::peek(self.alloc, words, &mut seat.place, pages, self.floor, page)
     }
 
     /// Replaces the page's first word by its spare, where the head still is that word: where a settled chain was consolidated
@@ -374,7 +374,7 @@ impl Board {
         let Some(spare) = self.origin.spares.get(page as usize).copied().flatten() else {
             return Replaced::Late;
         };
-        let found = steps::replace(&self.table.shared, &mut seat.place, page, first, spare);
+        let found = atomic_steps::replace(&self.table.shared, &mut seat.place, page, first, spare);
         if found == first {
             Replaced::Won
         } else {

@@ -7,12 +7,12 @@
 //! for another thread.
 #![tactic(auto)]
 
+mod atomic_steps;
 mod board;
-mod chains;
 mod last_words;
 pub mod laws;
+mod page_chains;
 mod plays;
-mod steps;
 mod table;
 
 pub use board::{Board, Posted, Replaced, Seat};

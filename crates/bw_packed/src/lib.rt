@@ -5,12 +5,12 @@
 #![tactic(auto)]
 
 mod list;
-mod pairs;
-mod search;
+mod packed_pairs;
+mod sorted_search;
 
 pub use list::Packed;
-pub use pairs::PackedPairs;
-pub use search::Keyed;
+pub use packed_pairs::PackedPairs;
+pub use sorted_search::Keyed;
 
 /// The most bytes of all entries of a list together: 2^32 - 1.
 pub const BYTES_MAX: usize = u32::MAX as usize;

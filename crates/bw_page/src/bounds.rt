@@ -4,7 +4,7 @@ ghost use Rattle.std.specs.Option.{option_copied};
 ghost use Rattle.bw_model.specs.Contents.{is_below_end};
 
 use crate::pages::PageId;
-use crate::sorted;
+use crate::sorted_entries;
 use bw_key::{Key, Memory};
 use std::marker::Model;
 
@@ -76,7 +76,7 @@ impl Bounds {
     {
         Ok(Bounds {
             low: low.copy()?,
-            high: sorted::copy_end(&self.high)?,
+            high: sorted_entries::copy_end(&self.high)?,
             side: self.side,
         })
     }

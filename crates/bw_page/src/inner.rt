@@ -7,7 +7,7 @@ ghost use Rattle.bw_page.specs.Pages.{BeginsAt};
 
 use crate::bounds::Bounds;
 use crate::pages::PageId;
-use crate::sorted;
+use crate::sorted_entries;
 use bw_key::{Key, Memory};
 use bw_memory::Alloc;
 use std::marker::Model;
@@ -127,7 +127,7 @@ impl Inner {
         requires { IsUpto self.now.low key.now }
         ensures { IsLastUpto key.now self.now.children result }
     {
-        *sorted::last_upto(&self.children, key)
+        *sorted_entries::last_upto(&self.children, key)
     }
 
     /// The children from place `keep` on, as a page that begins at the first of their separators and ends where this
@@ -143,7 +143,7 @@ impl Inner {
         Ok(Inner {
             level: self.level,
             bounds: self.bounds.with_low(&self.children[keep].0)?,
-            children: sorted::copy_from(*self.children.allocator(), &self.children, keep)?,
+            children: sorted_entries::copy_from(*self.children.allocator(), &self.children, keep)?,
         })
     }
 
@@ -162,7 +162,7 @@ impl Inner {
         ensures err { OnErr result (self.new ≡ self.old) }
     {
         let bounds = self.bounds.with_low(&self.children[keep].0)?;
-        let children = sorted::cut(&mut self.children, keep)?;
+        let children = sorted_entries::cut(&mut self.children, keep)?;
         Ok(Inner {
             level: self.level,
             bounds,
@@ -177,7 +177,7 @@ impl Inner {
         requires { T (is_below_end (Some high) self.old.low) }
         ensures { self.new ≡ narrowed_inner self.old high side }
     {
-        sorted::keep_below(&mut self.children, &high);
+        sorted_entries::keep_below(&mut self.children, &high);
         self.bounds.narrow(high, side);
     }
 
@@ -191,7 +191,11 @@ impl Inner {
         Ok(Inner {
             level: self.level,
             bounds: right.bounds.with_low(self.bounds.low())?,
-            children: sorted::join(*self.children.allocator(), &self.children, &right.children)?,
+            children: sorted_entries::join(
+                *self.children.allocator(),
+                &self.children,
+                &right.children,
+            )?,
         })
     }
 
@@ -214,7 +218,7 @@ impl Inner {
         ensures { IfOk result (λ inner. inner ≡ with_child self.now sep.now child) }
     {
         let alloc = *self.children.allocator();
-        self.over(sorted::copy_with(alloc, &self.children, sep, child)?)
+        self.over(sorted_entries::copy_with(alloc, &self.children, sep, child)?)
     }
 
     /// This page without the separator and its child, or an equal page where it has no such separator. The separator
@@ -224,6 +228,6 @@ impl Inner {
         ensures { IfOk result (λ inner. inner ≡ without_child self.now sep.now) }
     {
         let alloc = *self.children.allocator();
-        self.over(sorted::copy_without(alloc, &self.children, sep)?)
+        self.over(sorted_entries::copy_without(alloc, &self.children, sep)?)
     }
 }

@@ -9,7 +9,7 @@ ghost use Rattle.bw_page.specs.Pages.{BeginsAt, IsPage};
 
 use crate::bounds::Bounds;
 use crate::pages::PageId;
-use crate::sorted;
+use crate::sorted_entries;
 use bw_key::{Key, Memory};
 use bw_memory::Alloc;
 use bw_model::{Pairs, Value};
@@ -119,14 +119,14 @@ impl Leaf {
         ensures value { result.now ≡ filter (is_pair_in_range low.now (option_copied high.entry)) self.now.pairs }
         ensures rules { IsPage self.now.low self.now.high self.now.side self.now.pairs }
     {
-        sorted::between(&self.pairs, low, high)
+        sorted_entries::between(&self.pairs, low, high)
     }
 
     /// The value at a key, in about log2 n key comparisons for n pairs. It copies nothing.
     pub fn find(&self, key: &Key) -> Option<&Value>
         ensures { option_copied result ≡ find key_cmp key.now self.now.pairs }
     {
-        sorted::value_at(&self.pairs, key)
+        sorted_entries::value_at(&self.pairs, key)
     }
 
     /// The right neighbour, where the key is past the end of the range: there a search goes on, as in a B-link tree.
@@ -149,7 +149,7 @@ impl Leaf {
     {
         Ok(Leaf {
             bounds: self.bounds.with_low(&self.pairs[keep].0)?,
-            pairs: sorted::copy_from(*self.pairs.allocator(), &self.pairs, keep)?,
+            pairs: sorted_entries::copy_from(*self.pairs.allocator(), &self.pairs, keep)?,
         })
     }
 
@@ -166,7 +166,7 @@ impl Leaf {
         ensures err { OnErr result (self.new ≡ self.old) }
     {
         let bounds = self.bounds.with_low(&self.pairs[keep].0)?;
-        let pairs = sorted::cut(&mut self.pairs, keep)?;
+        let pairs = sorted_entries::cut(&mut self.pairs, keep)?;
         Ok(Leaf { bounds, pairs })
     }
 
@@ -176,7 +176,7 @@ impl Leaf {
         requires { T (is_below_end (Some high) self.old.low) }
         ensures { self.new ≡ narrowed_leaf self.old high side }
     {
-        sorted::keep_below(&mut self.pairs, &high);
+        sorted_entries::keep_below(&mut self.pairs, &high);
         self.bounds.narrow(high, side);
     }
 
@@ -191,7 +191,7 @@ impl Leaf {
     {
         Ok(Leaf {
             bounds: right.bounds.with_low(self.bounds.low())?,
-            pairs: sorted::join(*self.pairs.allocator(), &self.pairs, &right.pairs)?,
+            pairs: sorted_entries::join(*self.pairs.allocator(), &self.pairs, &right.pairs)?,
         })
     }
 }

@@ -7,7 +7,7 @@ mod bounds;
 mod inner;
 mod leaf;
 mod pages;
-mod sorted;
+mod sorted_entries;
 
 pub use inner::Inner;
 pub use leaf::Leaf;

@@ -3,10 +3,10 @@ ghost use Rattle.std.specs.Prelude.{◌≡◌, ◌++◌, OnOk, IfOk};
 ghost use Rattle.bw_picture.specs.Layout.{first_spot};
 ghost use Rattle.bw_picture.specs.Pictures.{place_text, page_text, pages_text, head_text, ground_text, picture_text};
 
+use crate::drawn_pages::{push_body, push_bracket};
 use crate::layout::{
     Frame, Spot, extent_of, first_spot, frame_of, height_of, span_of, spot_of, width_of, x_of, y_of,
 };
-use crate::pages::{push_body, push_bracket};
 use bw_key::Memory;
 use bw_memory::Alloc;
 use bw_tree::PageShape;

@@ -5,9 +5,9 @@
 #![tactic(auto)]
 
 mod drawing;
+mod drawn_pages;
 mod keys;
 mod layout;
-mod pages;
 
 pub use bw_key::{Key, Memory};
 pub use bw_page::PageId;

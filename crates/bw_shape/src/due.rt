@@ -5,8 +5,8 @@ ghost use Rattle.bw_tree.specs.Splits.{IsSplittable};
 ghost use Rattle.bw_shape.specs.Naming.{HasFinished};
 ghost use Rattle.bw_shape.specs.Tidying.{HasBoth, HasNoPage, HoldsAll, IsNext, IsNextBefore, IsSplitNext, KeepsWithin};
 
-use crate::naming::name_rights;
 use crate::page_lists::sort_by_low_key;
+use crate::right_neighbours::name_rights;
 use crate::steps::grow_root;
 use bw_key::Memory;
 use bw_memory::Alloc;

@@ -5,9 +5,9 @@
 
 mod due;
 mod limits;
-mod naming;
 mod outcome;
 mod page_lists;
+mod right_neighbours;
 mod steps;
 mod sweeps;
 mod tidying;

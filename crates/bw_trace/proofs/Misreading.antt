@@ -1,8 +1,8 @@
 -- Faulty words, one behind another.
 use Rattle.std.proofs.Common.{◌≡◌, ◌<◌, ◌≤◌, List, [], ◌∷◌, length, get_or, Result, Err, refl, ap, arith}
 use Rattle.bw_trace.specs.declared.faults.Cause.{Cause}
-use Rattle.bw_trace.specs.declared.words.Misread.{Misread}
-use Rattle.bw_trace.specs.declared.words.Misread.TheVariants.{Faulty, Memory}
+use Rattle.bw_trace.specs.declared.line_words.Misread.{Misread}
+use Rattle.bw_trace.specs.declared.line_words.Misread.TheVariants.{Faulty, Memory}
 use Rattle.bw_trace.specs.Grammar.{◌>>=◌}
 use Rattle.bw_trace.specs.Misreads.{Says}
 

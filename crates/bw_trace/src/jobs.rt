@@ -14,7 +14,7 @@ ghost use Rattle.bw_trace.specs.Texts.{batch_text, batches_text};
 ghost use Rattle.bw_trace.specs.Traces.{Trace, trace_from, cut_trace_from, no_trace, faulty};
 ghost use Rattle.bw_trace.specs.Writing.{TakesFront};
 
-use crate::ends::end_text;
+use crate::endings::end_text;
 use crate::faults::TraceFault;
 use crate::ports::{Inlet, Outlet};
 use crate::sources::{Source, read_batch};

@@ -1,10 +1,11 @@
 //! Traces of an ordered index: operations in as lines, replies out as lines.
 #![tactic(auto)]
 
-mod ends;
+mod endings;
 mod faults;
 mod jobs;
 pub mod laws;
+mod line_words;
 mod parse;
 mod places;
 mod ports;
@@ -14,7 +15,6 @@ mod spelling;
 mod std_ports;
 mod summaries;
 mod texts;
-mod words;
 
 pub use faults::{Cause, TraceFault};
 pub use jobs::{Job, run_trace, status};

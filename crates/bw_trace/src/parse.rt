@@ -5,8 +5,8 @@ ghost use Rattle.bw_trace.specs.Grammar.{meaning_of, meaning_of_words, meaning_b
 ghost use Rattle.bw_trace.specs.Misreads.{Says};
 
 use crate::faults::Cause;
+use crate::line_words::{Misread, end_in, key_in, number_in, value_in};
 use crate::places::{Place, Version};
-use crate::words::{Misread, end_in, key_in, number_in, value_in};
 use bw_batch::{Key, Memory, Op, Value};
 use bw_memory::Alloc;
 

@@ -16,7 +16,7 @@ use Rattle.bw_chain.specs.Levels.{IsHome, row, levels_under}
 use Rattle.bw_chain.specs.Chains.{Bases, Records, slot_of_word, slots_of}
 use Rattle.bw_tree.specs.Trees.{IsStanding, IsTree, StageWords, stage_of, view_of}
 use Rattle.bw_tree.specs.Words.{words_before}
-use Rattle.bw_tree.specs.declared.words.WordsBefore.{WordsBefore}
+use Rattle.bw_tree.specs.declared.mapping_words.WordsBefore.{WordsBefore}
 use Rattle.bw_chain.specs.Records.{put_records, writes_in}
 use Rattle.bw_tree.specs.Stages.{IsPosted, IsPostedStage, adopted_stage}
 use Rattle.bw_tree.specs.View.{TreeView, StageView, contents_at, contents_with}

@@ -10,7 +10,7 @@ use Rattle.bw_delta.specs.declared.deltas.Delta.TheVariants.{Put}
 use Rattle.bw_chain.specs.Chains.{Bases, Records, Ends, EndsAt, record_at}
 use Rattle.bw_tree.specs.Trees.{IsTree, IsStaged, StageWords, stage_of, view_of}
 use Rattle.bw_tree.specs.Words.{words_before}
-use Rattle.bw_tree.specs.declared.words.WordsBefore.{WordsBefore}
+use Rattle.bw_tree.specs.declared.mapping_words.WordsBefore.{WordsBefore}
 use Rattle.bw_chain.specs.Records.{put_records, writes_in}
 use Rattle.bw_tree.specs.Stages.{IsStagedAs}
 use Rattle.bw_tree.specs.View.{TreeView, staged_writes}

@@ -14,7 +14,7 @@ use Rattle.bw_chain.specs.Reading.{row_writes}
 use Rattle.bw_chain.specs.Searches.{IsInLevels}
 use Rattle.bw_chain.specs.Supports.{OwnBases}
 use Rattle.bw_tree.specs.View.{TreeView, StageView}
-use Rattle.bw_tree.specs.declared.words.WordsBefore.{WordsBefore}
+use Rattle.bw_tree.specs.declared.mapping_words.WordsBefore.{WordsBefore}
 use Rattle.bw_tree.specs.Words.{words_before}
 
 -- the writes over all leaves of a tree

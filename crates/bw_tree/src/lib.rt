@@ -6,11 +6,11 @@
 #![tactic(auto)]
 
 mod making;
+mod mapping_words;
 mod routes;
 mod scans;
 mod staging;
 mod tree;
-mod words;
 
 pub use routes::Routes;
 pub use scans::Scans;

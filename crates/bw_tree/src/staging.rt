@@ -1,5 +1,5 @@
 // A staged batch.
-use crate::words::WordsBefore;
+use crate::mapping_words::WordsBefore;
 use std::marker::Model;
 
 /// A batch that was staged.

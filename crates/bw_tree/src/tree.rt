@@ -15,19 +15,19 @@ use bw_page::{Inner, Leaf, Page, PageId};
 use bw_segment::Segmented;
 use std::marker::Model;
 
-mod batch;
+mod child_merging;
 mod children;
-mod consolidation;
-mod counts;
-mod merging;
 mod naming;
-mod pages;
-mod reading;
+mod page_consolidation;
+mod page_counts;
+mod page_states;
 mod restart;
 mod roots;
 mod search;
 mod shape;
+mod snapshot_reads;
 mod splits;
+mod staged_batch;
 
 pub use children::Unnamed;
 pub use shape::PageShape;

@@ -7,7 +7,7 @@ ghost use Rattle.bw_chain.specs.Searches.{plain_inner};
 ghost use Rattle.bw_chain.specs.Slots.{PageState, Live, slot_at};
 
 use super::Tree;
-use super::merging::with_entries;
+use super::child_merging::with_entries;
 use bw_delta::Delta;
 use bw_key::{Key, Memory};
 use bw_memory::Alloc;

@@ -9,7 +9,7 @@ ghost use Rattle.bw_tree.specs.Routing.{IsInLevel};
 ghost use Rattle.bw_tree.specs.Shapes.{level_shape, page_shape, pairs_on, shape_of};
 
 use super::Tree;
-use super::consolidation::copy_end;
+use super::page_consolidation::copy_end;
 use bw_key::{Key, Memory};
 use bw_memory::Alloc;
 use bw_page::PageId;

@@ -1,5 +1,5 @@
 use Rattle.std.proofs.Common.{◌∙◌, ap, sym, subst, Some, List, ℕ, length, ◌≤◌, ◌+◌}
-use Rattle.bw_tree.specs.declared.words.WordsBefore.TheVariants.{OfPages}
+use Rattle.bw_tree.specs.declared.mapping_words.WordsBefore.TheVariants.{OfPages}
 use Rattle.bw_tree.specs.Words.{put_words, words_of}
 use Rattle.bw_tree.proofs.AdoptedLemmas.{adopted_with}
 use Rattle.bw_tree.proofs.AdoptedOnLemmas.{AreFit, adoption_on, pages_fit, words_back}

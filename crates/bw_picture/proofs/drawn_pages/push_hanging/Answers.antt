@@ -1,0 +1,13 @@
+use Rattle.std.proofs.Common.{append_assoc}
+use Rattle.bw_picture.proofs.drawn_pages.push_hanging.Goals as goal
+
+pub returns : goal.returns
+returns c =
+    rw (
+      c.in_ok-extend_from_slice-4.ensures.items,
+      c.in_ok-push_writes.ensures,
+      c.in_ok-extend_from_slice-3.ensures.items,
+      c.in_ok-extend_from_slice-2.ensures.items,
+      c.in_ok-extend_from_slice.ensures.items,
+    )
+    (simp append_assoc)

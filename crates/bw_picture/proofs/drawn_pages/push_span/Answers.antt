@@ -1,0 +1,11 @@
+use Rattle.std.proofs.Common.{append_assoc}
+use Rattle.bw_picture.proofs.drawn_pages.push_span.Goals as goal
+
+pub returns : goal.returns
+returns c =
+    rw (
+      c.in_ok-extend_from_slice-2.ensures.items,
+      c.in_ok-push_number.ensures,
+      c.in_ok-extend_from_slice.ensures.items,
+    )
+    (simp append_assoc)

@@ -1,0 +1,5 @@
+use Rattle.bw_tree.proofs.WordLemmas.{AreSwapped}
+use Rattle.bw_tree.proofs.mapping_words.swap_each.Given as goal
+
+abbrev pub invariant-loop-place : goal.invariant-loop-place
+invariant-loop-place l = AreSwapped l.fn.heads l.heads l.pages l.fn.words l.words l.place

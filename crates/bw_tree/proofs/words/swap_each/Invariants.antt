@@ -1,5 +1,0 @@
-use Rattle.bw_tree.proofs.WordLemmas.{AreSwapped}
-use Rattle.bw_tree.proofs.words.swap_each.Given as goal
-
-abbrev pub invariant-loop-place : goal.invariant-loop-place
-invariant-loop-place l = AreSwapped l.fn.heads l.heads l.pages l.fn.words l.words l.place
