@@ -58,7 +58,8 @@ pub const KEY_INLINE: usize = 24;
 ///
 /// Keys are ordered byte by byte as unsigned numbers: the first bytes that differ decide, and a key which is the
 /// beginning of another one is before it. So the empty key is before all others. Two keys are equal where they have the
-/// same bytes. Keys that differ in their first eight bytes are told apart by one comparison of numbers. Contracts see a key as the list of its bytes.
+/// same bytes. Keys that differ in their first eight bytes are told apart by one comparison of numbers. Contracts see a
+/// key as the list of its bytes.
 #[derive(Debug)]
 pub struct Key {
     bytes: SmallVec<u8, KEY_INLINE, Alloc>,

@@ -1,5 +1,5 @@
 // The limits of a key, its order, and what takes memory.
-use crate::{Key, KeyFault, Memory};
+use crate::{Key, KeyFault, Memory, compare_prefixed};
 use bw_memory::{Alloc, Heap};
 use std::alloc::Global;
 use std::cmp::Ordering;
@@ -38,13 +38,23 @@ fn keys_have_at_most_64_bytes(rt: HostRuntime) {
 // Compares two keys by each way to do so.
 fn stand<R: Abort>(rt: &R, left: &Key, right: &Key, order: Ordering) {
     assert!(rt; left.cmp(right) == order);
+    assert!(rt; compare_prefixed(left, left.prefix(), right, right.prefix()) == order);
     assert!(rt; left.partial_cmp(right) == Some(order));
     assert!(rt; (left == right) == (order == Ordering::Equal));
 }
 
+// Compares each two of some keys that rise.
+fn rise<R: Abort>(rt: &R, alloc: Alloc, rising: &[&[u8]]) {
+    for (i, lower) in rising.iter().enumerate() {
+        let lower = key(rt, alloc, lower);
+        for (j, upper) in rising.iter().enumerate() {
+            stand(rt, &lower, &key(rt, alloc, upper), i.cmp(&j));
+        }
+    }
+}
+
 #[test]
 fn keys_are_ordered_byte_by_byte(rt: HostRuntime) {
-    let alloc = heap(&rt, rt.alloc());
     let rising: [&[u8]; 11] = [
         b"",
         b"\x00",
@@ -58,12 +68,39 @@ fn keys_are_ordered_byte_by_byte(rt: HostRuntime) {
         b"\x80",
         b"\xff",
     ];
-    for (i, lower) in rising.iter().enumerate() {
-        let lower = key(&rt, alloc, lower);
-        for (j, upper) in rising.iter().enumerate() {
-            stand(&rt, &lower, &key(&rt, alloc, upper), i.cmp(&j));
-        }
-    }
+    rise(&rt, heap(&rt, rt.alloc()), &rising);
+}
+
+#[test]
+fn keys_that_begin_alike_stand_by_their_rest(rt: HostRuntime) {
+    let rising: [&[u8]; 9] = [
+        b"abcdefg",
+        b"abcdefg\x00",
+        b"abcdefg\x00\x00",
+        b"abcdefg\x00a",
+        b"abcdefgh",
+        b"abcdefgh\x00",
+        b"abcdefgh\x00\x01",
+        b"abcdefghi",
+        b"abcdefgi",
+    ];
+    rise(&rt, heap(&rt, rt.alloc()), &rising);
+}
+
+#[test]
+fn a_prefix_has_eight_bytes(rt: HostRuntime) {
+    let alloc = heap(&rt, rt.alloc());
+    assert_eq!(rt; key(&rt, alloc, b"").prefix(), 0);
+    assert_eq!(rt; key(&rt, alloc, b"\x01").prefix(), 0x0100_0000_0000_0000);
+    assert_eq!(rt; key(&rt, alloc, b"abcdefg").prefix(), 0x6162_6364_6566_6700);
+    assert_eq!(rt;
+        key(&rt, alloc, b"abcdefgh").prefix(),
+        0x6162_6364_6566_6768
+    );
+    assert_eq!(rt;
+        key(&rt, alloc, b"abcdefghi").prefix(),
+        0x6162_6364_6566_6768
+    );
 }
 
 #[test]

@@ -9,7 +9,8 @@ use Rattle.bw_chain.specs.Levels.{row}
 use Rattle.bw_chain.specs.Splits.{level_parted, put_behind}
 use Rattle.bw_tree.specs.Routing.{IsInLevel}
 use Rattle.bw_tree.specs.View.{TreeView}
-use Rattle.bw_shape.specs.Tidying.{DueView, HasPassed, IsBare, IsHalved, IsNextBefore, IsPart, StandBefore, half_of, work_left}
+use Rattle.bw_shape.specs.Tidying.{DueView}
+use Rattle.bw_shape.specs.Visits.{HasPassed, IsBare, IsHalved, IsNextBefore, IsPart, StandBefore, half_of, work_left}
 
 -- the pages of a row stand in it still, and the new one does
 still_there : (p q r : ℕ) (ps : List ℕ) → Contains ps r → Contains (put_behind p q ps) r

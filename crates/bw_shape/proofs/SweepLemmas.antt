@@ -5,25 +5,42 @@ use Rattle.std.proofs.lemmas.List.{get_or-set_other, length-set}
 use Rattle.std.specs.List.{AllByRecursion, Contains}
 use Rattle.std.specs.Prelude.{slice_index}
 use Rattle.bw_chain.specs.Levels.{row}
+use Rattle.bw_chain.specs.Before.{low_of}
 use Rattle.bw_chain.specs.Reading.{writes_over}
+use Rattle.bw_chain.specs.Scans.{high_of}
 use Rattle.bw_chain.specs.Searches.{IsInLevels}
-use Rattle.bw_chain.specs.Slots.{slot_at}
+use Rattle.bw_chain.specs.Slots.{Slot, side_of_slot, slot_at}
 use Rattle.bw_tree.specs.Consolidation.{IsConsolidated, IsRebased}
 use Rattle.bw_tree.specs.View.{TreeView, contents_at}
 use Rattle.bw_shape.specs.Steps.{HasLostChain, IsConsolidationStep}
 use Rattle.bw_shape.specs.Limits.{IsWithin}
-use Rattle.bw_shape.specs.Sweeps.{ArePlainBelow, HasAllRecorded, HoldsSame, IsPlainAt, IsSwept, KeepsPlain}
+use Rattle.bw_shape.specs.Sweeps.{ArePlainBelow, HasAllRecorded, HasSameBounds, HaveSameBounds, HoldsSame, IsPlainAt, IsSwept, KeepsPlain}
 use Rattle.bw_shape.specs.Tidying.{HasBoth, KeepsWithin}
 use Rattle.bw_shape.specs.declared.steps.Did.{Did}
 use Rattle.bw_shape.specs.declared.steps.Did.TheVariants.{Done, NotNeeded}
 
+bounds_same : (old new : Slot) → new ≡ old → HasSameBounds old new
+bounds_same old new is = record { low = ap low_of is; high = ap high_of is; side = ap side_of_slot is }
+
+bounds_on : (first old new : Slot) → HasSameBounds first old → HasSameBounds old new → HasSameBounds first new
+bounds_on first old new a b = record { low = b.low ∙ a.low; high = b.high ∙ a.high; side = b.side ∙ a.side }
+
+-- a consolidated leaf keeps its bounds, and all other pages are as before
+consolidated_bounds : (old new : TreeView) (p : ℕ) → IsConsolidated old new p → HaveSameBounds old new
+consolidated_bounds old new p k q = by (cases_eq q p)
+  where
+    by : (q ≡ p) ⊎ (q ≡ p → ⊥) → HasSameBounds (slot_at old.slots q) (slot_at new.slots q)
+    by (inl here) = subst (λ r. HasSameBounds (slot_at old.slots r) (slot_at new.slots r)) (sym here) (record { low = ap low_of k.page; high = ap high_of k.page; side = ap side_of_slot k.page })
+    by (inr other) = bounds_same (slot_at old.slots q) (slot_at new.slots q) (k.others q other)
+
 pub holds_itself : (tree : TreeView) → tree.staged ≡ None → HoldsSame tree tree
-holds_itself tree none = record { contents = refl; levels = refl; root = refl; next = refl; records = refl; staged = none; pages = refl }
+holds_itself tree none = record { contents = refl; levels = refl; bounds = λ p. bounds_same (slot_at tree.slots p) (slot_at tree.slots p) refl; root = refl; next = refl; records = refl; staged = none; pages = refl }
 
 holds_on : (first old new : TreeView) → HoldsSame first old → HoldsSame old new → HoldsSame first new
 holds_on first old new a b = record {
   contents = b.contents ∙ a.contents;
   levels = b.levels ∙ a.levels;
+  bounds = λ p. bounds_on (slot_at first.slots p) (slot_at old.slots p) (slot_at new.slots p) (a.bounds p) (b.bounds p);
   root = b.root ∙ a.root;
   next = b.next ∙ a.next;
   records = b.records ∙ a.records;
@@ -37,6 +54,7 @@ module _ (old new : TreeView) (p : ℕ) where
     same = record {
       contents = k.contents;
       levels = k.levels;
+      bounds = consolidated_bounds old new p k;
       root = k.root;
       next = k.next;
       records = k.records;
@@ -53,6 +71,7 @@ module _ (old new : TreeView) (p : ℕ) where
     same = record {
       contents = ap (λ (v : TreeView). contents_at v v.next) k.view;
       levels = ap (λ (v : TreeView). v.levels) k.view;
+      bounds = λ q. bounds_same (slot_at old.slots q) (slot_at new.slots q) (ap (λ (v : TreeView). slot_at v.slots q) k.view);
       root = ap (λ (v : TreeView). v.root) k.view;
       next = ap (λ (v : TreeView). v.next) k.view;
       records = ap (λ (v : TreeView). v.records) k.view;
@@ -118,6 +137,7 @@ swept_all old tree new held plain view contents bare = record {
   plain = subst (λ (v : TreeView). AllByRecursion (λ w. w < 2 ^ 32) v.heads) (sym view) plain;
   bare = bare;
   levels = ap (λ (v : TreeView). v.levels) view ∙ held.levels;
+  bounds = λ p. bounds_on (slot_at old.slots p) (slot_at tree.slots p) (slot_at new.slots p) (held.bounds p) (bounds_same (slot_at tree.slots p) (slot_at new.slots p) (ap (λ (v : TreeView). slot_at v.slots p) view));
   root = ap (λ (v : TreeView). v.root) view ∙ held.root;
   pages = ap (λ (v : TreeView). length v.heads) view ∙ held.pages;
   records = ap (λ (v : TreeView). v.records) view;

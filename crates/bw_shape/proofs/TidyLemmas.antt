@@ -22,7 +22,8 @@ use Rattle.bw_tree.specs.View.{TreeView, contents_at}
 use Rattle.bw_shape.specs.Limits.{LimitsView, AreWithinBut, IsWithin}
 use Rattle.bw_shape.specs.Naming.{AreFinished}
 use Rattle.bw_shape.specs.Sweeps.{HoldsSame}
-use Rattle.bw_shape.specs.Tidying.{HoldsAll, IsBare, IsNext, IsSplitNext, KeepsWithin}
+use Rattle.bw_shape.specs.Tidying.{HoldsAll, KeepsWithin}
+use Rattle.bw_shape.specs.Visits.{IsBare, IsNext, IsSplitNext}
 use Rattle.bw_shape.specs.Steps.{HasLostChain, IsFinishStep, IsFinished, IsRootStep, IsSameOver}
 use Rattle.bw_tree.specs.Consolidation.{IsRebased}
 use Rattle.bw_shape.specs.declared.steps.Did.{Did}

@@ -1,14 +1,28 @@
 -- What a sweep does, on its way and at its end.
 use Rattle.std.specs.Prelude.{◌≡◌, ℕ, ◌<◌, ◌≤◌, ◌^◌, List, [], None, length, slice_index}
 use Rattle.std.specs.List.{AllByRecursion, Contains}
+use Rattle.bw_chain.specs.Before.{low_of}
 use Rattle.bw_chain.specs.Reading.{writes_over}
-use Rattle.bw_chain.specs.Slots.{slot_at}
+use Rattle.bw_chain.specs.Scans.{high_of}
+use Rattle.bw_chain.specs.Slots.{Slot, side_of_slot, slot_at}
 use Rattle.bw_tree.specs.View.{TreeView, contents_at}
 
--- the tree holds what it held as of its next stamp, which is the same, on the same levels, and nothing is staged
+-- a page begins and ends where it did, and has the same right neighbour
+pub record HasSameBounds (old new : Slot) : Type 0 where
+  pub low : low_of new ≡ low_of old
+  pub high : high_of new ≡ high_of old
+  pub side : side_of_slot new ≡ side_of_slot old
+
+-- each page begins and ends where it did
+abbrev pub HaveSameBounds : TreeView → TreeView → Type 0
+HaveSameBounds old new = (p : ℕ) → HasSameBounds (slot_at old.slots p) (slot_at new.slots p)
+
+-- The tree holds what it held as of its next stamp, which is the same, on the same levels of pages with the same bounds, and
+-- nothing is staged.
 pub record HoldsSame (old new : TreeView) : Type 0 where
   pub contents : contents_at new new.next ≡ contents_at old old.next
   pub levels : new.levels ≡ old.levels
+  pub bounds : HaveSameBounds old new
   pub root : new.root ≡ old.root
   pub next : new.next ≡ old.next
   pub records : new.records ≡ old.records
@@ -35,13 +49,14 @@ abbrev pub HasAllRecorded : TreeView → List ℕ → Type 0
 HasAllRecorded tree pages =
     (p : ℕ) → p < length tree.heads → 2 ^ 32 ≤ slice_index tree.heads p → Contains pages p
 
--- As of every stamp the tree holds what it held as of its next one. There is no record, so no page has one, nor a write
--- over it, and the next stamp is 0.
+-- As of every stamp the tree holds what it held as of its next one, on the same levels of pages with the same bounds. There
+-- is no record, so no page has one, nor a write over it, and the next stamp is 0.
 pub record IsSwept (old new : TreeView) : Type 0 where
   pub contents : (stamp : ℕ) → contents_at new stamp ≡ contents_at old old.next
   pub plain : AllByRecursion (λ w. w < 2 ^ 32) new.heads
   pub bare : (p : ℕ) → writes_over (slot_at new.slots p) ≡ []
   pub levels : new.levels ≡ old.levels
+  pub bounds : HaveSameBounds old new
   pub root : new.root ≡ old.root
   pub pages : length new.heads ≡ length old.heads
   pub records : new.records ≡ 0

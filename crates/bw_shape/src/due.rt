@@ -3,7 +3,8 @@ ghost use Rattle.std.specs.Prelude.{◌≡◌, ℕ, ◌+◌, ◌<◌, ◌≤◌,
 ghost use Rattle.std.specs.List.{Contains};
 ghost use Rattle.bw_tree.specs.Splits.{IsSplittable};
 ghost use Rattle.bw_shape.specs.Naming.{HasFinished};
-ghost use Rattle.bw_shape.specs.Tidying.{HasBoth, HasNoPage, HoldsAll, IsNext, IsNextBefore, IsSplitNext, KeepsWithin};
+ghost use Rattle.bw_shape.specs.Tidying.{HasBoth, HasNoPage, HoldsAll, KeepsWithin};
+ghost use Rattle.bw_shape.specs.Visits.{IsNext, IsNextBefore, IsSplitNext};
 
 use crate::page_lists::sort_by_low_key;
 use crate::right_neighbours::name_rights;

@@ -7,7 +7,8 @@ ghost use Rattle.bw_chain.specs.Searches.{IsInLevels};
 ghost use Rattle.bw_tree.specs.Routing.{IsInLevel};
 ghost use Rattle.bw_tree.specs.Splits.{IsSplittable};
 ghost use Rattle.bw_shape.specs.Limits.{AreWithinBut, IsWithin};
-ghost use Rattle.bw_shape.specs.Tidying.{HasNoneDue, HasPassed, HoldsAll, IsBare, IsHalved, IsNext, IsOver, IsPart, KeepsWithin, StandBefore, work_left};
+ghost use Rattle.bw_shape.specs.Tidying.{HasNoneDue, HoldsAll, KeepsWithin};
+ghost use Rattle.bw_shape.specs.Visits.{HasPassed, IsBare, IsHalved, IsNext, IsOver, IsPart, StandBefore, work_left};
 
 use crate::due::Due;
 use crate::limits::Limits;

@@ -3,7 +3,7 @@ ghost use Rattle.std.specs.Prelude.{◌≡◌, ℕ, false, [], None, IfOk};
 ghost use Rattle.std.specs.List.{Contains};
 ghost use Rattle.bw_chain.specs.Levels.{row};
 ghost use Rattle.bw_shape.specs.Limits.{AreWithinBut, HoldFew};
-ghost use Rattle.bw_shape.specs.Tidying.{HoldsAll};
+ghost use Rattle.bw_shape.specs.Tidying.{AreAllPages, HoldsAll};
 
 use crate::due::Due;
 use crate::limits::Limits;
@@ -74,9 +74,11 @@ fn finish_each(tree: &mut Tree, pages: &[PageId]) -> Result<(), Memory>
     Ok(())
 }
 
-/// All pages of a tree, which are due. It costs a walk along each level.
+/// All pages of a tree, which are due: the leaves first, and behind them the inner pages, the lowest level first. It costs a
+/// walk along each level.
 pub fn all_pages(tree: &Tree) -> Result<Due, Memory>
-    ensures { IfOk result (λ due. (p : ℕ) → Contains (row tree.now.levels 0) p → Contains due.pages p) }
+    ensures all { IfOk result (AreAllPages tree.now) }
+    ensures leaves { IfOk result (λ due. (p : ℕ) → Contains (row tree.now.levels 0) p → Contains due.pages p) }
 {
     let leaves = leaf_pages(tree)?;
     let inner = inner_pages(*leaves.allocator(), tree)?;

@@ -1,6 +1,7 @@
 use Rattle.std.proofs.Common.{◌≤◌}
 use Rattle.bw_shape.specs.Limits.{AreWithinBut}
-use Rattle.bw_shape.specs.Tidying.{HoldsAll, StandBefore, work_left}
+use Rattle.bw_shape.specs.Tidying.{HoldsAll}
+use Rattle.bw_shape.specs.Visits.{StandBefore, work_left}
 use Rattle.bw_shape.proofs.tidying.part_halves.Given as goal
 
 abbrev pub invariant-loop-page : goal.invariant-loop-page

@@ -1,6 +1,7 @@
 use Rattle.std.proofs.Common.{◌≡◌, None}
 use Rattle.bw_shape.specs.Limits.{AreWithinBut}
-use Rattle.bw_shape.specs.Tidying.{HoldsAll, work_left}
+use Rattle.bw_shape.specs.Tidying.{HoldsAll}
+use Rattle.bw_shape.specs.Visits.{work_left}
 use Rattle.bw_shape.proofs.tidying.visit_all.Given as goal
 
 abbrev pub invariant-loop-page : goal.invariant-loop-page

@@ -1,11 +1,23 @@
-use Rattle.std.proofs.Common.{ℕ, List, reverse, sym, ap, ◌∙◌, subst}
+use Rattle.std.proofs.Common.{◌≡◌, ℕ, List, Option, None, reverse, sym, ap, ◌∙◌, subst}
 use Rattle.std.proofs.lemmas.List.Sorted.{Contains-permutation, IsPermutation-reverse}
 use Rattle.std.specs.List.{Contains}
 use Rattle.bw_chain.specs.Levels.{row}
+use Rattle.bw_shape.specs.Tidying.{DueView}
 use Rattle.bw_shape.proofs.whole_tree.all_pages.Goals as goal
 
-pub returns : goal.returns
-returns c = λ p leaf.
+due_is : (due : DueView) (pages above : List ℕ) (unfinished : Option ℕ) → due.pages ≡ pages → due.above ≡ above → due.unfinished ≡ unfinished → due ≡ record { pages = pages; above = above; unfinished = unfinished }
+due_is due pages above unfinished here there behind =
+    ap (λ (l : List ℕ). record { pages = l; above = due.above; unfinished = due.unfinished }) here
+    ∙ ap (λ (l : List ℕ). record { pages = pages; above = l; unfinished = due.unfinished }) there
+    ∙ ap (λ (o : Option ℕ). record { pages = pages; above = above; unfinished = o }) behind
+
+pub returns-clause-all : goal.returns-clause-all
+returns-clause-all c =
+    due_is c.set_pages.new.self _ _ None (c.set_pages.ensures.pages ∙ ap reverse c.in_ok-leaves.ensures) (c.set_pages.ensures.above ∙ c.in_ok-inner.ensures)
+    (c.set_pages.ensures.unfinished ∙ ap (λ (d : DueView). d.unfinished) c.new.ensures)
+
+pub returns-clause-leaves : goal.returns-clause-leaves
+returns-clause-leaves c = λ p leaf.
     let leaves = row c.args.tree.now.levels 0 in
     subst (λ (l : List ℕ). Contains l p) (sym (c.set_pages.ensures.pages ∙ ap reverse c.in_ok-leaves.ensures))
     (Contains-permutation leaves (reverse leaves) p (IsPermutation-reverse leaves) leaf)

@@ -1,0 +1,73 @@
+-- One page that is due is looked at: it is consolidated where it has records, and split where it is over a limit.
+use Rattle.std.specs.Prelude.{◌≡◌, ℕ, Bool, true, false, ◌+◌, ◌*◌, ◌-◌, ◌≤◌, ◌<◌, ◌^◌, ◌⊎◌, ◌/◌, List, [], ◌∷◌, ◌++◌, length, drop, slice_index}
+use Rattle.std.specs.List.{Contains}
+use Rattle.bw_chain.specs.Reading.{writes_over}
+use Rattle.bw_chain.specs.Slots.{Slot, slot_at}
+use Rattle.bw_chain.specs.Splits.{slot_entries}
+use Rattle.bw_tree.specs.Routing.{IsInLevel}
+use Rattle.bw_tree.specs.Splits.{IsSplit, IsSplittable}
+use Rattle.bw_tree.specs.View.{TreeView}
+use Rattle.bw_shape.specs.Limits.{LimitsView}
+use Rattle.bw_shape.specs.Sweeps.{HoldsSame}
+use Rattle.bw_shape.specs.Tidying.{DueView}
+
+-- this page is the next one
+abbrev pub IsNext : List ℕ → ℕ → Type 0
+IsNext pages p = (rest : List ℕ) × (pages ≡ rest ++ p ∷ [])
+
+-- this page is the next one, and there are more than so many
+abbrev pub IsNextBefore : List ℕ → ℕ → ℕ → Type 0
+IsNextBefore pages others p = IsNext pages p × (others < length pages)
+
+-- a page has more writes over its base page than a leaf may have, or more entries under them than a page may have
+abbrev pub IsOver : LimitsView → Slot → Type 0
+IsOver limits slot = (limits.chain_max < length (writes_over slot)) ⊎ (limits.page_max < slot_entries slot)
+
+-- what is left to do: a split is worth three pages that are looked at
+abbrev pub work_left : TreeView → DueView → ℕ
+work_left tree due = 3 * (2 ^ 32 - length tree.heads) + length due.pages + length due.above
+
+-- the page has parted in two, and the parts are the next ones, the left one first
+pub record IsSplitNext (old new : TreeView) (due due' : List ℕ) (p keep : ℕ) : Type 0 where
+  pub right : ℕ
+  pub split : IsSplit old new p keep right
+  pub rest : List ℕ
+  pub was : due ≡ rest ++ p ∷ []
+  pub is : due' ≡ rest ++ right ∷ p ∷ []
+
+-- the next page has parted in two; nothing else is due, and no tree has more pages than there are identifiers
+pub record IsHalved (old new : TreeView) (due due' : DueView) (p keep : ℕ) : Type 0 where
+  pub able : IsSplittable old p keep
+  pub split : IsSplitNext old new due.pages due'.pages p keep
+  pub above : due'.above ≡ due.above
+  pub few : length new.heads ≤ 2 ^ 32
+
+-- half of a page's entries, rounded down
+abbrev pub half_of : TreeView → ℕ → ℕ
+half_of tree p = slot_entries (slot_at tree.slots p) / 2
+
+-- the next page was looked at: it was split and keeps its first half, or nothing has changed and it is due no more
+abbrev pub IsPart : TreeView → TreeView → DueView → DueView → ℕ → Bool → Type 0
+IsPart old new due due' p true = IsHalved old new due due' p (half_of old p)
+IsPart old new due due' p false = (new ≡ old) × (due.pages ≡ due'.pages ++ p ∷ []) × (due'.above ≡ due.above)
+
+-- the pages that are to be looked at before so many others stand on this level
+abbrev pub StandBefore : TreeView → ℕ → ℕ → List ℕ → Type 0
+StandBefore tree level others pages = (p : ℕ) → Contains (drop others pages) p → IsInLevel tree p level
+
+-- The next page, which stands on this level, was looked at: pages of the level are due in its place, which may be none,
+-- and less is left to do. A page of a level still stands on it.
+pub record HasPassed (old new : TreeView) (due due' : DueView) (p level : ℕ) : Type 0 where
+  pub rest : List ℕ
+  pub was : due.pages ≡ rest ++ p ∷ []
+  pub halves : List ℕ
+  pub is : due'.pages ≡ rest ++ halves
+  pub stand : (q : ℕ) → Contains halves q → IsInLevel new q level
+  pub still : (q n : ℕ) → IsInLevel old q n → IsInLevel new q n
+  pub less : work_left new due' < work_left old due
+
+-- the page has no record; all other pages are as before
+pub record IsBare (old new : TreeView) (p : ℕ) : Type 0 where
+  pub same : HoldsSame old new
+  pub plain : slice_index new.heads p < 2 ^ 32
+  pub others : (q : ℕ) → (q ≡ p → ⊥) → slot_at new.slots q ≡ slot_at old.slots q
