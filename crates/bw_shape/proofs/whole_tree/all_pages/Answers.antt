@@ -14,7 +14,7 @@ due_is due pages above unfinished here there behind =
 pub returns-clause-all : goal.returns-clause-all
 returns-clause-all c =
     due_is c.set_pages.new.self _ _ None (c.set_pages.ensures.pages ∙ ap reverse c.in_ok-leaves.ensures) (c.set_pages.ensures.above ∙ c.in_ok-inner.ensures)
-    (c.set_pages.ensures.unfinished ∙ ap (λ (d : DueView). d.unfinished) c.new.ensures)
+    (c.set_pages.ensures.unfinished ∙ ap (λ (d : DueView). d.unfinished) c.new-due.ensures)
 
 pub returns-clause-leaves : goal.returns-clause-leaves
 returns-clause-leaves c = λ p leaf.
