@@ -264,16 +264,33 @@ fn each_growth_of_leaves_and_pages_above_is_refused(rt: HostRuntime) {
     panic!(rt; "no run met no refusal")
 }
 
+// Tidies a tree of one leaf where this growth is refused. What that did, and what is due behind it.
+fn tidied_to_a_refusal<R: Abort>(
+    rt: &R,
+    alloc: Alloc,
+    tree: &mut Tree,
+    limits: &Limits,
+    growth: u64,
+) -> (Tidy, Due)
+    requires { tree.old.staged ≡ None }
+    ensures none { tree.new.staged ≡ None }
+    ensures within { AreWithinBut limits.now tree.new result.1.pages }
+{
+    let pages = [PageId(0)];
+    assert!(rt; are_within_but(tree, limits, &pages));
+    let mut due = due_of(rt, alloc, tree, &pages);
+    alloc.refuse(growth);
+    let tidy = tidy_due(tree, limits, &mut due);
+    alloc.refuse(0);
+    (tidy, due)
+}
+
 // Tidies a leaf of five pairs where this growth is refused. Where that leaves two leaves without a root over them, all pairs
 // are read, and tidying again puts it there. Whether it left them so.
 fn root_refused<R: Abort>(rt: &R, alloc: Alloc, growth: u64) -> bool {
     let limits = four_pairs();
     let mut tree = five(rt, alloc);
-    assert!(rt; are_within_but(&tree, &limits, &[PageId(0)]));
-    let mut due = due_of(rt, alloc, &tree, &[PageId(0)]);
-    alloc.refuse(growth);
-    let stopped = tidy_due(&mut tree, &limits, &mut due);
-    alloc.refuse(0);
+    let (stopped, mut due) = tidied_to_a_refusal(rt, alloc, &mut tree, &limits, growth);
     if !stopped.stopped || tree.heads().len() != 2 {
         return false;
     }
