@@ -1,18 +1,23 @@
-//! A program that embeds the index: it runs a batch, and prints a reply to it and what the index holds then.
+//! A program that embeds the index: it runs batches, and prints a reply and what the index holds then.
 #![tactic(auto)]
+
+ghost use Rattle.std.specs.Prelude.{◌≡◌, OnOk, OnErr};
+ghost use Rattle.std.specs.FinMap.{insert};
+ghost use Rattle.bw_batch.specs.View.{contents_of};
 
 use anyhow::Result;
 use bw_batch::{Index, Key, Op, OpenGate, Options, Reply, Value};
 use bw_memory::{Alloc, Heap};
+use std::thread::Threads;
 
 fn main(rt: HostRuntime) -> Result<()> {
     // All that the index keeps comes from this heap, which never has more than a gigabyte in use.
     let alloc = Heap::within(rt.alloc(), 1 << 30).leak(rt.alloc())?;
     let mut index = Index::new(alloc, Options::default())?;
+    put(&rt, alloc, &mut index, b"ada", b"1815")?;
 
     let mut batch = Vec::new(alloc);
-    batch.push(upsert(alloc, b"ada", b"1815")?)?;
-    batch.push(upsert(alloc, b"grace", b"1906")?)?;
+    batch.push(Op::Upsert(Key::new(alloc, b"grace")?, Value::new(alloc, b"1906")?))?;
     batch.push(Op::Get(Key::new(alloc, b"ada")?))?;
     let done = index.run(&rt, &batch, &OpenGate)?;
     for reply in done.replies.as_slice() {
@@ -20,9 +25,7 @@ fn main(rt: HostRuntime) -> Result<()> {
             println!(rt; "ada was born in {}", str::from_utf8(year.bytes())?)?;
         }
     }
-
-    let pairs = index.contents()?;
-    for (name, year) in pairs.as_slice() {
+    for (name, year) in index.contents()?.as_slice() {
         println!(rt;
             "{} {}",
             str::from_utf8(name.bytes())?,
@@ -32,7 +35,19 @@ fn main(rt: HostRuntime) -> Result<()> {
     Ok(())
 }
 
-// The operation that puts a value at a key.
-fn upsert(alloc: Alloc, key: &[u8], value: &[u8]) -> Result<Op> {
-    Ok(Op::Upsert(Key::new(alloc, key)?, Value::new(alloc, value)?))
+/// Puts a value at a key, by a batch of one operation. That the index holds it then is proved from the contract of `run`.
+fn put<R: Threads + Sync>(
+    rt: &R,
+    alloc: Alloc,
+    index: &mut Index,
+    key: &[u8],
+    value: &[u8],
+) -> Result<()>
+    ensures ok { OnOk result (contents_of index.new ≡ insert (contents_of index.old) key.now value.now) }
+    ensures err { OnErr result (contents_of index.new ≡ contents_of index.old) }
+{
+    let mut batch = Vec::new(alloc);
+    batch.push(Op::Upsert(Key::new(alloc, key)?, Value::new(alloc, value)?))?;
+    index.run(rt, &batch, &OpenGate)?;
+    Ok(())
 }
