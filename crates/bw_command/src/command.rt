@@ -22,7 +22,7 @@ use std::thread::Threads;
 
 /// Does what the words of a command line ask for, the name of the program left out: `run`, `dump`, `shape` and `picture`
 /// with their options and the path of a trace, `--help` and `--version`. The path `-`, and none, is `input`. Texts go to
-/// `output`, and a message, one line, to `errors`.
+/// `output`, and a message to `errors`: one line, but for other words, of which several lines tell.
 ///
 /// `turns` is how often a trace is read at the most. The answer is the exit status: 0 where each batch was accepted and
 /// where help or the version was asked for, 1 at a fault of reading, writing or memory and where the input doesn't end,
