@@ -1,22 +1,23 @@
 //! What a batch costs on an index of many leaves, beside the same operations on std's `BTreeMap` by one thread.
 //!
 //! An index and a map are filled with the same keys of 8 bytes, 44 to a leaf of the index, and then run the same batches,
-//! which are drawn from a seed: gets, then gets and upserts in equal parts, and then scans of 32 pairs and upserts in equal
-//! parts. With no word there are few keys, and how many replies of the two are the same is printed. With the word `time`
-//! there are 10,000 keys and 1,000,000, and batches of 65,536 operations: then the times in the middle are printed, and the
-//! ratio of the index's to the map's. Beside it stands the ratio of all times together. With the word `small` batches of 1,
-//! 8, 64 and 1,024 operations are timed in the same way. With the word `insert` an empty index and an empty map get
-//! 1,048,576 keys, rising ones and scattered ones, by batches of 65,536 and of 64; then the time of the
-//! slowest batch is printed, too.
+//! which are drawn from a seed. With no word there are few keys, and how many replies of the two are the same is printed.
+//! `run` times batches of one kind, as its options say; `time` those of all kinds over 10,000 keys and 1,000,000, `small`
+//! batches of 1, 8, 64 and 1,024 operations, and `insert` an empty index and an empty map that get 1,048,576 keys, rising
+//! ones and scattered ones. What is printed is nanoseconds an operation, of the batch whose time is in the middle and of all
+//! batches together, index / map, and the ratio. `bytes` prints how many bytes a key the index and the map have in use.
 #![tactic(auto)]
 
 ghost use Rattle.std.specs.Prelude.{◌<◌};
 
+mod request;
 mod workload;
 
 use anyhow::{Context, Result, bail};
 use bw_batch::{Index, Key, Op, OpenGate, Options, Tree, Value};
-use bw_memory::{Alloc, Heap};
+use bw_memory::{Alloc, Heap, LIMIT_MAX};
+use request::{Job, Request, request_in};
+use std::alloc::Global;
 use std::collections::BTreeMap;
 use std::env;
 use std::num::nearest_u64_to_f64;
@@ -52,6 +53,9 @@ const LARGE: Load = Load {
     operations: BATCH,
     rounds: 15,
 };
+
+// Where drawn numbers begin.
+const SEED: u64 = 20130408;
 
 // Operations of small batches, and how many of them are run.
 const SIZES: [u64; 4] = [1, 8, 64, 1024];
@@ -123,25 +127,42 @@ fn no_runs(alloc: Alloc) -> Runs {
     }
 }
 
+// Where the memory of operations and replies, of an index and of a map comes from.
+#[derive(Clone, Copy)]
+struct Heaps {
+    ops: Alloc,
+    index: Alloc,
+    map: Alloc,
+}
+
+// All from one heap.
+fn one_heap(alloc: Alloc) -> Heaps {
+    Heaps {
+        ops: alloc,
+        index: alloc,
+        map: alloc,
+    }
+}
+
 // An index and a map with all keys, put by batches.
 fn filled<R: Threads + Clock + Sync>(
     rt: &R,
-    alloc: Alloc,
+    heaps: Heaps,
     workers: u64,
     keys: u64,
 ) -> Result<Both> {
     let options = Options::new(workers, 64, 8, 64, 16, BATCH, 1_048_576)?;
-    let tree = Tree::from_level(alloc, leaves_for(alloc, keys)?)?;
+    let tree = Tree::from_level(heaps.index, leaves_for(heaps.index, keys)?)?;
     let mut both = Both {
-        index: Index::from_tree(alloc, options, tree)?,
-        map: BTreeMap::new(alloc),
+        index: Index::from_tree(heaps.index, options, tree)?,
+        map: BTreeMap::new(heaps.map),
     };
-    let mut runs = no_runs(alloc);
+    let mut runs = no_runs(heaps.ops);
     for place in 0..keys.div_ceil(BATCH) {
         let from = place.saturating_mul(BATCH);
         let to = from.saturating_add(BATCH).min(keys);
-        let ops = upserts(alloc, Order::Rising, from, to)?;
-        run_batch(rt, alloc, &mut both, &ops, &mut runs)?;
+        let ops = upserts(heaps.ops, Order::Rising, from, to)?;
+        run_batch(rt, heaps.ops, &mut both, &ops, &mut runs)?;
     }
     Ok(both)
 }
@@ -168,6 +189,26 @@ fn print_times<R: Print>(rt: &R, runs: &mut Runs, operations: u64) -> Result<()>
     Ok(())
 }
 
+// Runs batches of one kind, which are drawn from a seed.
+fn drawn_runs<R: Threads + Clock + Sync>(
+    rt: &R,
+    alloc: Alloc,
+    both: &mut Both,
+    load: Load,
+    kind: Kind,
+    seed: u64,
+) -> Result<Runs>
+    requires { 0 < load.keys }
+{
+    let mut random = Random { state: seed };
+    let mut runs = no_runs(alloc);
+    for _ in 0..load.rounds {
+        let ops = drawn(alloc, &mut random, load.keys, load.operations, kind)?;
+        run_batch(rt, alloc, both, &ops, &mut runs)?;
+    }
+    Ok(runs)
+}
+
 // Runs batches of one kind, and prints what came of them.
 fn print_kind<R: Threads + Clock + Sync + Print>(
     rt: &R,
@@ -179,18 +220,55 @@ fn print_kind<R: Threads + Clock + Sync + Print>(
 ) -> Result<()>
     requires { 0 < load.keys }
 {
-    let mut random = Random { state: 20130408 };
-    let mut runs = no_runs(alloc);
-    for _ in 0..load.rounds {
-        let ops = drawn(alloc, &mut random, load.keys, load.operations, kind)?;
-        run_batch(rt, alloc, both, &ops, &mut runs)?;
-    }
+    let mut runs = drawn_runs(rt, alloc, both, load, kind, SEED)?;
     let words = kind.words();
     let all = load.rounds.saturating_mul(load.operations);
     println!(rt; "  {words}: {} of {all} replies are the map's", runs.same)?;
     if is_timed {
         print_times(rt, &mut runs, load.operations)?;
     }
+    Ok(())
+}
+
+// Runs the batches that a request asks for, and prints what they cost.
+fn print_run<R: Threads + Clock + Sync + Print>(
+    rt: &R,
+    alloc: Alloc,
+    request: &Request,
+) -> Result<()> {
+    let Request {
+        keys,
+        workers,
+        kind,
+        batch,
+        batches,
+        seed,
+        ..
+    } = *request;
+    if keys == 0 || batch == 0 || batches == 0 {
+        bail!("keys, batch and batches are 1 or more");
+    }
+    let load = Load {
+        keys,
+        operations: batch,
+        rounds: batches,
+    };
+    let mut both = filled(rt, one_heap(alloc), workers, keys)?;
+    let mut runs = drawn_runs(rt, alloc, &mut both, load, kind, seed)?;
+    let words = kind.words();
+    println!(rt;
+        "{keys} keys, {workers} workers, {batches} batches of {batch} {words}, seed {seed}:"
+    )?;
+    print_times(rt, &mut runs, batch)?;
+    print_rate(rt, &runs, batch)
+}
+
+// Prints how many operations a second the index ran, by the batch in the middle of sorted times.
+fn print_rate<R: Print>(rt: &R, runs: &Runs, operations: u64) -> Result<()> {
+    let place = runs.index.len() / 2;
+    let middle = runs.index.get(place).copied().context("no batch")?;
+    let rate = nearest_u64_to_f64(operations) / middle.as_secs_f64();
+    println!(rt; "    {rate:.0} operations a second")?;
     Ok(())
 }
 
@@ -205,7 +283,7 @@ fn print_load<R: Threads + Clock + Sync + Print>(
 {
     for workers in [1, 2, 4] {
         println!(rt; "{} keys, workers {workers}:", load.keys)?;
-        let mut both = filled(rt, alloc, workers, load.keys)?;
+        let mut both = filled(rt, one_heap(alloc), workers, load.keys)?;
         print_kind(rt, alloc, &mut both, load, Kind::Gets, is_timed)?;
         print_kind(rt, alloc, &mut both, load, Kind::GetsAndUpserts, is_timed)?;
         print_kind(rt, alloc, &mut both, load, Kind::ScansAndUpserts, is_timed)?;
@@ -217,7 +295,7 @@ fn print_load<R: Threads + Clock + Sync + Print>(
 fn print_small<R: Threads + Clock + Sync + Print>(rt: &R, alloc: Alloc, keys: u64) -> Result<()>
     requires { 0 < keys }
 {
-    let mut both = filled(rt, alloc, 1, keys)?;
+    let mut both = filled(rt, one_heap(alloc), 1, keys)?;
     for operations in SIZES {
         println!(rt; "{keys} keys, batches of {operations}:")?;
         let load = Load {
@@ -296,30 +374,85 @@ fn print_all_inserts<R: Threads + Clock + Sync + Print>(rt: &R, alloc: Alloc) ->
     Ok(())
 }
 
+// A heap that counts the bytes in use.
+fn counting_heap(global: Global) -> Result<Alloc> {
+    Ok(Heap::within(global, LIMIT_MAX).leak(global)?)
+}
+
+// Fills an index and a map, each with a heap of its own, and prints how many bytes a key they have in use.
+fn print_bytes<R: Threads + Clock + Sync + Print>(
+    rt: &R,
+    global: Global,
+    alloc: Alloc,
+    request: &Request,
+) -> Result<()> {
+    let heaps = Heaps {
+        ops: alloc,
+        index: counting_heap(global)?,
+        map: counting_heap(global)?,
+    };
+    let keys = request.keys;
+    let both = filled(rt, heaps, request.workers, keys)?;
+    let index = bytes_each(heaps.index.used(), keys);
+    let map = bytes_each(heaps.map.used(), keys);
+    println!(rt;
+        "{keys} keys: {index:.1} / {map:.1} bytes a key = {:.2}",
+        index / map
+    )?;
+    drop(both);
+    Ok(())
+}
+
+// So many bytes by so many keys.
+fn bytes_each(bytes: u64, keys: u64) -> f64 {
+    nearest_u64_to_f64(bytes) / nearest_u64_to_f64(keys)
+}
+
+// Compares the replies of an index and of a map over few keys.
+fn print_brief<R: Threads + Clock + Sync + Print>(rt: &R, alloc: Alloc) -> Result<()> {
+    print_load(rt, alloc, BRIEF, false)?;
+    print_inserts(rt, alloc, Order::Scattered, fresh(1000, 64), RECORDS, false)
+}
+
+// Does what a request asks for.
+fn print_request<R: Threads + Clock + Sync + Print>(
+    rt: &R,
+    global: Global,
+    alloc: Alloc,
+    request: &Request,
+) -> Result<()> {
+    match request.job {
+        Job::Check => print_brief(rt, alloc),
+        Job::Run => print_run(rt, alloc, request),
+        Job::Bytes => print_bytes(rt, global, alloc, request),
+        Job::Time => {
+            print_load(rt, alloc, SMALL, true)?;
+            print_load(rt, alloc, LARGE, true)
+        }
+        Job::Small => {
+            print_small(rt, alloc, SMALL.keys)?;
+            print_small(rt, alloc, LARGE.keys)
+        }
+        Job::Insert => print_all_inserts(rt, alloc),
+    }
+}
+
 fn main(rt: HostRuntime) -> Result<()> {
-    let alloc = Heap::new(rt.alloc()).leak(rt.alloc())?;
-    let words = env::args(&rt)?.skip(1).collect::<Vec<String>>(rt.alloc())?;
-    match words.as_slice() {
-        [] => {
-            print_load(&rt, alloc, BRIEF, false)?;
-            print_inserts(
-                &rt,
-                alloc,
-                Order::Scattered,
-                fresh(1000, 64),
-                RECORDS,
-                false,
-            )
+    let global = rt.alloc();
+    let alloc = Heap::new(global).leak(global)?;
+    let arguments = env::args(&rt)?.skip(1).collect::<Vec<String>>(global)?;
+    let words = arguments
+        .iter()
+        .map(|word| word.as_str())
+        .collect::<Vec<&str>>(global)?;
+    match request_in(global, &words) {
+        Ok(request) => print_request(&rt, global, alloc, &request),
+        Err(error) => {
+            error.print(&rt)?;
+            if error.use_stderr() {
+                bail!("nothing was measured");
+            }
+            Ok(())
         }
-        [word] if word.as_str() == "time" => {
-            print_load(&rt, alloc, SMALL, true)?;
-            print_load(&rt, alloc, LARGE, true)
-        }
-        [word] if word.as_str() == "small" => {
-            print_small(&rt, alloc, SMALL.keys)?;
-            print_small(&rt, alloc, LARGE.keys)
-        }
-        [word] if word.as_str() == "insert" => print_all_inserts(&rt, alloc),
-        _ => bail!("usage: bw_batch_bench [time|small|insert]"),
     }
 }

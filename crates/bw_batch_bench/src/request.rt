@@ -1,0 +1,126 @@
+//! What the words of the command line ask for.
+
+use crate::workload::Kind;
+use clap::error::Error;
+use clap::{Arg, ArgMatches, Command, value_parser};
+use std::alloc::{AllocError, Global};
+
+/// What is done.
+#[derive(Clone, Copy, Debug, PartialEq, Eq)]
+pub enum Job {
+    Check,
+    Run,
+    Bytes,
+    Time,
+    Small,
+    Insert,
+}
+
+/// A job, and what `run` and `bytes` are told.
+#[derive(Clone, Copy)]
+pub struct Request {
+    pub job: Job,
+    pub kind: Kind,
+    pub keys: u64,
+    pub workers: u64,
+    pub batch: u64,
+    pub batches: u64,
+    pub seed: u64,
+}
+
+static JOBS: [&str; 6] = ["check", "run", "bytes", "time", "small", "insert"];
+
+static KINDS: [&str; 3] = ["gets", "upserts", "scans"];
+
+const AFTER: &str = "The jobs:
+  check   compares the replies of an index and of a map over few keys, and times nothing
+  run     times the batches that the options describe
+  bytes   prints how many bytes a key an index and a map of so many keys have in use
+  time    times all kinds of batches of 65536, over 10000 keys and 1000000, with 1, 2 and 4 workers
+  small   times batches of 1, 8, 64 and 1024 gets, and of gets and upserts
+  insert  times an empty index and an empty map that get 1048576 keys
+
+The kinds: gets; upserts, half of them gets; scans, of 32 pairs, half of them upserts.";
+
+/// What the words ask for, the name of the program left out. The error is a text for the user: what is wrong with the words,
+/// or help where they ask for it.
+pub fn request_in(global: Global, words: &[&str]) -> Result<Request, Error> {
+    let matches = program(global)?.try_get_matches_from(words)?;
+    Ok(Request {
+        job: job_named(matches.get_str("JOB")),
+        kind: kind_named(matches.get_str("kind")),
+        keys: number_in(&matches, "keys"),
+        workers: number_in(&matches, "workers"),
+        batch: number_in(&matches, "batch"),
+        batches: number_in(&matches, "batches"),
+        seed: number_in(&matches, "seed"),
+    })
+}
+
+fn job_named(word: Option<&str>) -> Job {
+    match word {
+        Some("run") => Job::Run,
+        Some("bytes") => Job::Bytes,
+        Some("time") => Job::Time,
+        Some("small") => Job::Small,
+        Some("insert") => Job::Insert,
+        _ => Job::Check,
+    }
+}
+
+fn kind_named(word: Option<&str>) -> Kind {
+    match word {
+        Some("upserts") => Kind::GetsAndUpserts,
+        Some("scans") => Kind::ScansAndUpserts,
+        _ => Kind::Gets,
+    }
+}
+
+// Each option has a default, so that none is missing; a missing one would be 0.
+fn number_in(matches: &ArgMatches<'_>, id: &str) -> u64 {
+    matches.get_one::<u64>(id).unwrap_or(0)
+}
+
+// The command line as clap knows it.
+fn program<'a>(global: Global) -> Result<Command<'a>, AllocError> {
+    let job = Arg::new(global, "JOB")
+        .default_value("check")
+        .value_parser(JOBS.as_slice())
+        .help("What is done");
+    let kind = Arg::new(global, "kind")
+        .long("kind")
+        .default_value("gets")
+        .value_parser(KINDS.as_slice())
+        .help("What a batch is made of");
+    Command::new(global, "bw_batch_bench")
+        .about("Times batches on an index of many leaves beside an ordered map.")
+        .after_help(AFTER)
+        .no_binary_name(true)
+        .arg(job)?
+        .arg(kind)?
+        .arg(number(global, "keys", "1000000", "How many keys there are"))?
+        .arg(number(
+            global,
+            "workers",
+            "1",
+            "How many workers the index has, 1 to 64",
+        ))?
+        .arg(number(
+            global,
+            "batch",
+            "65536",
+            "How many operations a batch has, 1 to 65536",
+        ))?
+        .arg(number(global, "batches", "15", "How many batches are timed"))?
+        .arg(number(global, "seed", "20130408", "Where drawn numbers begin"))
+}
+
+// An option whose value is a number.
+fn number<'a>(global: Global, id: &'a str, default: &'a str, help: &'a str) -> Arg<'a> {
+    Arg::new(global, id)
+        .long(id)
+        .value_name("N")
+        .value_parser(value_parser!(u64))
+        .default_value(default)
+        .help(help)
+}
