@@ -12,12 +12,15 @@ use bw_memory::Alloc;
 use smallvec::SmallVec;
 use std::alloc::{AllocError, AllocFailed};
 use std::cmp::Ordering;
+use std::fmt;
 use std::marker::Model;
 use thiserror::Error;
 
 mod prefixes;
+mod spelling;
 
 pub use prefixes::compare_prefixed;
+pub use spelling::Spelled;
 
 /// Out of memory, the same in every crate of the workspace: the allocator refused a growth, since the system has no
 /// more or the heap has reached its limit. Each call says what stands after it.
@@ -136,6 +139,21 @@ impl Key {
         ensures { result ≡ key_prefix self.now }
     {
         prefix_of(self.bytes())
+    }
+}
+
+/// The copy comes from the allocator of the key, as that of `copy`, and takes the same memory.
+impl Clone for Key {
+    fn clone(&self) -> Result<Key, AllocError> {
+        let bytes = SmallVec::from_slice(*self.bytes.allocator(), self.bytes())?;
+        Ok(Key { bytes })
+    }
+}
+
+/// As traces spell it: `apple`, or `%00ff` where a byte is no letter, digit, `_`, `.` or `-`.
+impl fmt::Display for Key {
+    fn fmt<W: fmt::Write>(&self, f: &mut fmt::Formatter<W>) -> fmt::Result {
+        fmt::Display::fmt(&Spelled(self.bytes()), f)
     }
 }
 

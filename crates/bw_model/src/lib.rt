@@ -8,6 +8,7 @@ mod operations;
 mod outcomes;
 mod ranges;
 mod reference;
+mod shown;
 mod sorted;
 mod values;
 mod verbs;

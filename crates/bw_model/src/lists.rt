@@ -6,7 +6,7 @@ use bw_memory::Alloc;
 use std::marker::Model;
 
 /// Keys and their values, as a scan answers them. Contracts see them as a list.
-#[derive(Debug)]
+#[derive(Clone, Debug)]
 pub struct Pairs {
     items: Vec<(Key, Value), Alloc>,
 }

@@ -12,7 +12,7 @@ use crate::verbs::Verb;
 use bw_key::{Key, Memory};
 
 /// An operation on the index. Operations of a batch take effect in its order.
-#[derive(Debug, Drop, PartialEq, Eq)]
+#[derive(Clone, Debug, Drop, PartialEq, Eq)]
 pub enum Op {
     /// Reads a key's value.
     Get(Key),
@@ -56,7 +56,7 @@ pub enum Action {
 }
 
 /// The reply to an operation.
-#[derive(Debug, Drop, PartialEq, Eq)]
+#[derive(Clone, Debug, Drop, PartialEq, Eq)]
 pub enum Reply {
     /// The key has this value.
     Found(Value),

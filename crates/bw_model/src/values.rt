@@ -2,9 +2,11 @@
 ghost use Rattle.std.specs.Prelude.{◌≡◌, ◌<◌, ◌≤◌, length, IsOk, IfOk, IsOkUnless};
 ghost use Rattle.bw_model.specs.Values.{value_eq, value_eq_laws, value_eq_equiv};
 
-use bw_key::Memory;
+use bw_key::{Memory, Spelled};
 use bw_memory::Alloc;
 use smallvec::SmallVec;
+use std::alloc::AllocError;
+use std::fmt;
 use std::marker::Model;
 use thiserror::Error;
 
@@ -99,6 +101,21 @@ impl Value {
         ensures limit { length self.now ≤ 1024 }
     {
         self.bytes.as_slice()
+    }
+}
+
+/// The copy comes from the allocator of the value, as that of `copy`, and takes the same memory.
+impl Clone for Value {
+    fn clone(&self) -> Result<Value, AllocError> {
+        let bytes = SmallVec::from_slice(*self.bytes.allocator(), self.bytes())?;
+        Ok(Value { bytes })
+    }
+}
+
+/// As traces spell it, and as a key is shown.
+impl fmt::Display for Value {
+    fn fmt<W: fmt::Write>(&self, f: &mut fmt::Formatter<W>) -> fmt::Result {
+        fmt::Display::fmt(&Spelled(self.bytes()), f)
     }
 }
 

@@ -5,3 +5,4 @@ pub mod Entries
 pub mod Separators
 pub mod Ranges
 pub mod Cuts
+pub mod MergingLemmas

@@ -4,6 +4,7 @@ use Rattle.std.specs.List.{Contains}
 use Rattle.std.specs.Ordering.{is_lt}
 use Rattle.std.specs.FinMap.{put}
 use Rattle.bw_key.specs.Order.{KeyBytes, key_cmp, key_eq}
+use Rattle.bw_page.specs.Merging.{put_all}
 use Rattle.bw_page.specs.Pages.{IsPage, BeginsAt, below, first_key}
 
 -- the level above the leaves, the bounds of a range of keys, the right neighbour, and the separators with their children
@@ -72,6 +73,10 @@ joined_inner left right =
 -- the page with this child at the separator, in place of one that stands there
 abbrev pub with_child : InnerView → KeyBytes → ℕ → InnerView
 with_child inner sep child = record inner { children = put key_cmp sep child inner.children }
+
+-- the page with these children put among its own
+abbrev pub with_children : InnerView → List (KeyBytes × ℕ) → InnerView
+with_children inner entries = record inner { children = put_all entries inner.children }
 
 -- the page without the separator
 abbrev pub without_child : InnerView → KeyBytes → InnerView

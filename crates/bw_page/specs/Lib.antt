@@ -1,4 +1,5 @@
 pub mod Pages
 pub mod Leaves
+pub mod Merging
 pub mod Inners
 pub mod Codes

@@ -1,8 +1,11 @@
 // Inner pages.
 ghost use Rattle.std.specs.Prelude.{◌≡◌, ◌≢◌, ◌<◌, length, Some, IfOk, OnErr, OnOk, MatchOption, true, false, T};
 ghost use Rattle.std.specs.Option.{option_copied};
-ghost use Rattle.bw_model.specs.Contents.{is_below_end, is_in_range};
-ghost use Rattle.bw_page.specs.Inners.{IsInner, IsLastUpto, IsUpto, joined_inner, lower_inner, narrowed_inner, upper_inner, with_child, without_child};
+ghost use Rattle.std.specs.FinMap.{is_sorted};
+ghost use Rattle.std.specs.List.{list_all};
+ghost use Rattle.bw_key.specs.Order.{key_cmp};
+ghost use Rattle.bw_model.specs.Contents.{is_below_end, is_in_range, is_pair_in_range};
+ghost use Rattle.bw_page.specs.Inners.{IsInner, IsLastUpto, IsUpto, joined_inner, lower_inner, narrowed_inner, upper_inner, with_child, with_children, without_child};
 ghost use Rattle.bw_page.specs.Pages.{BeginsAt};
 
 use crate::bounds::Bounds;
@@ -219,6 +222,20 @@ impl Inner {
     {
         let alloc = *self.children.allocator();
         self.over(sorted_entries::copy_with(alloc, &self.children, sep, child)?)
+    }
+
+    /// This page with these children among its own, each in place of one that stands at its separator. The separators rise,
+    /// and are in the range of the page. This page stays as it is.
+    ///
+    /// It copies its children once and moves the others, each of which costs a binary search among the children behind the
+    /// one before it: so a page that gets many children gets them at once.
+    pub fn with_children(&self, entries: Vec<(Key, PageId), Alloc>) -> Result<Inner, Memory>
+        requires rising { T (is_sorted key_cmp entries.items) }
+        requires inside { T (list_all (is_pair_in_range self.now.low self.now.high) entries.items) }
+        ensures { IfOk result (λ inner. inner ≡ with_children self.now entries.entry.items) }
+    {
+        let alloc = *self.children.allocator();
+        self.over(sorted_entries::copy_with_all(alloc, &self.children, entries)?)
     }
 
     /// This page without the separator and its child, or an equal page where it has no such separator. The separator

@@ -1,11 +1,12 @@
 // Sorted lists of entries: searched by halves, copied, and cut.
-ghost use Rattle.std.specs.Prelude.{◌≡◌, ◌<◌, ◌≤◌, ◌++◌, drop, filter, length, not, take, IfOk, OnErr, OnOk, T};
+ghost use Rattle.std.specs.Prelude.{◌≡◌, ◌<◌, ◌≤◌, [], ◌∷◌, ◌++◌, drop, filter, length, not, take, IfOk, OnErr, OnOk, T};
 ghost use Rattle.std.specs.FinMap.{find, is_sorted, put};
 ghost use Rattle.std.specs.Option.{option_copied};
 ghost use Rattle.bw_key.specs.Order.{key_cmp, key_eq};
 ghost use Rattle.bw_model.specs.Contents.{is_pair_in_range};
 ghost use Rattle.bw_model.specs.Sorted.{place_of};
 ghost use Rattle.bw_page.specs.Inners.{IsLastUpto, IsUpto};
+ghost use Rattle.bw_page.specs.Merging.{HasAdded, put_all};
 ghost use Rattle.bw_page.specs.Pages.{below, first_key};
 
 use crate::pages::PageId;
@@ -146,13 +147,64 @@ pub(crate) fn copy_with<V: Copied + Drop>(
     let mut copy = Vec::with_capacity(alloc, entries.len() + 1)?;
     push_copies(&mut copy, &entries[..at])?;
     copy.push((key.copy()?, value))?;
-    let rest = if at < entries.len() && entries[at].0 == *key {
+    let rest = behind(entries, at, key);
+    push_copies(&mut copy, &entries[rest..])?;
+    Ok(copy)
+}
+
+// Where the entries begin whose keys are above this one, the place of which is `at`.
+fn behind<V>(entries: &[(Key, V)], at: usize, key: &Key) -> usize
+    requires { at ≡ place_of key.now entries.now }
+    ensures within { result ≤ length entries.now }
+    ensures put { (value : V) → (take at entries.now ++ (key.now, value) ∷ []) ++ drop result entries.now
+        ≡ put key_cmp key.now value entries.now }
+{
+    if at < entries.len() && entries[at].0 == *key {
         at + 1
     } else {
         at
-    };
-    push_copies(&mut copy, &entries[rest..])?;
-    Ok(copy)
+    }
+}
+
+/// The entries with more of them, whose keys rise, each in place of one that stands at its key. The new ones are moved, and
+/// each costs a binary search among the entries behind the one before it; the others are copied once.
+pub(crate) fn copy_with_all<V: Copied + Drop>(
+    alloc: Alloc,
+    entries: &[(Key, V)],
+    more: Vec<(Key, V), Alloc>,
+) -> Result<Vec<(Key, V), Alloc>, Memory>
+    requires entries { T (is_sorted key_cmp entries.now) }
+    requires more { T (is_sorted key_cmp more.items) }
+    ensures { IfOk result (λ all. all.items ≡ put_all more.entry.items entries.now) }
+{
+    let mut all = Vec::with_capacity(alloc, entries.len() + more.len())?;
+    let mut passed = 0;
+    for entry in more {
+        passed = add_entry(&mut all, entries, passed, entry)?;
+    }
+    push_copies(&mut all, &entries[passed..])?;
+    Ok(all)
+}
+
+// Adds the entries from a place on that come before another one, and that one. Answers the place where the rest begins.
+fn add_entry<V: Copied + Drop>(
+    all: &mut Vec<(Key, V), Alloc>,
+    entries: &[(Key, V)],
+    passed: usize,
+    entry: (Key, V),
+) -> Result<usize, Memory>
+    requires sorted { T (is_sorted key_cmp entries.now) }
+    requires within { passed ≤ length entries.now }
+    ensures within { IfOk result (λ next. next ≤ length entries.now) }
+    ensures ok { IfOk result (λ next. HasAdded all.old.items all.new.items
+        (drop passed entries.now) (drop next entries.now) entry) }
+{
+    let rest = &entries[passed..];
+    let at = place(rest, &entry.0);
+    let next = behind(rest, at, &entry.0);
+    push_copies(all, &rest[..at])?;
+    all.push(entry)?;
+    Ok(passed + next)
 }
 
 /// The entries but for the one at a key.

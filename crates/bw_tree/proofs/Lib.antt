@@ -29,6 +29,5 @@ pub mod NarrowLemmas
 pub mod UnnamedLemmas
 pub mod ShapeLemmas
 pub mod BoundLemmas
-pub mod MergingLemmas
 pub mod NamingLemmas
 pub mod PageLemmas

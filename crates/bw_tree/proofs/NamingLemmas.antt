@@ -27,8 +27,8 @@ use Rattle.bw_chain.proofs.GrowthLemmas.{append_extends, still_ends}
 use Rattle.bw_chain.proofs.ReadingLemmas.{slot_of_head}
 use Rattle.bw_chain.proofs.RouteLemmas.{held}
 use Rattle.bw_chain.proofs.RowLemmas.{in_row}
+use Rattle.bw_page.specs.Merging.{put_all}
 use Rattle.bw_tree.specs.Children.{AreNamed, HasChildren, MayHaveChildren, state_with_children}
-use Rattle.bw_tree.specs.Merging.{put_all}
 use Rattle.bw_tree.specs.Routing.{IsInnerPage}
 use Rattle.bw_tree.specs.Trees.{IsStanding, IsTree, StageWords, view_of}
 use Rattle.bw_tree.specs.View.{StageView, TreeView}

@@ -21,7 +21,6 @@ pub use Rattle.bw_chain.specs.LeafEnds
 pub use Rattle.bw_chain.specs.Targets
 pub use Rattle.bw_chain.specs.Laws
 pub mod Splits
-pub mod Merging
 pub mod Children
 pub mod Roots
 pub mod Shapes

@@ -15,7 +15,6 @@ use bw_page::{Inner, Leaf, Page, PageId};
 use bw_segment::Segmented;
 use std::marker::Model;
 
-mod child_merging;
 mod children;
 mod naming;
 mod page_consolidation;

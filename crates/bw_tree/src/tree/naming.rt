@@ -7,7 +7,6 @@ ghost use Rattle.bw_chain.specs.Searches.{plain_inner};
 ghost use Rattle.bw_chain.specs.Slots.{PageState, Live, slot_at};
 
 use super::Tree;
-use super::child_merging::with_entries;
 use bw_delta::Delta;
 use bw_key::{Key, Memory};
 use bw_memory::Alloc;
@@ -57,10 +56,9 @@ impl Tree {
         ensures { IfOk result (λ page. (was : PageState) → slot_at self.now.slots parent ≡ Live was →
             plain_inner page ≡ Live (state_with_children entries.entry.items was)) }
     {
-        let alloc = *self.heads.allocator();
         match self.inner(parent) {
-            Some(inner) => with_entries(alloc, inner, entries),
-            None => with_entries(alloc, &self.inner_page(parent)?, entries),
+            Some(inner) => inner.with_children(entries),
+            None => self.inner_page(parent)?.with_children(entries),
         }
     }
 }
