@@ -16,7 +16,7 @@ pub all_found : {X : Type 0} (most : ℕ) (found xs : List X) → found ≡ take
 all_found most found xs is few = is ∙ first_all most xs (subst (λ l. length l < most) is few)
 
 -- each key is in the range of all keys
-all_in_range : (es : List (KeyBytes × ValueBytes)) → filter (is_pair_in_range [] None) es ≡ es
+pub all_in_range : (es : List (KeyBytes × ValueBytes)) → filter (is_pair_in_range [] None) es ≡ es
 all_in_range [] = refl
 all_in_range (e ∷ es) = ap (λ b. cond b (e ∷ filter (is_pair_in_range [] None) es) (filter (is_pair_in_range [] None) es)) (from_least e.0) ∙ ap (λ l. e ∷ l) (all_in_range es)
   where

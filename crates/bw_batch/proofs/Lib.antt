@@ -3,3 +3,5 @@ pub mod BatchLemmas
 pub mod ContentsLemmas
 pub mod ChangesLemmas
 pub mod DueLemmas
+pub mod LenLemmas
+pub mod LeafPairsLemmas

@@ -6,3 +6,4 @@ pub mod View
 pub mod Sweeps
 pub mod Outcomes
 pub mod Trees
+pub mod Lens

@@ -9,6 +9,7 @@ ghost use Rattle.bw_tree.specs.Shapes.{shape_of};
 ghost use Rattle.bw_tree.specs.View.{contents_at};
 
 use crate::batch::{Answered, run_batch};
+use crate::key_counts::{count_pairs, len_after};
 use crate::options::Options;
 use bw_key::{Key, Memory};
 use bw_memory::Alloc;
@@ -42,6 +43,8 @@ pub struct Index {
     tree: Tree,
     // the pages that tidying is to look at: each leaf that may be over a limit is among them
     due: Due,
+    // how many keys there are
+    len: u64,
 }
 
 // Not derived: whoever drops one calls this, and its proof is spared the parts.
@@ -52,6 +55,7 @@ impl Drop for Index {
             alloc: _alloc,
             tree: _tree,
             due: _due,
+            len: _len,
         } = self;
     }
 }
@@ -61,6 +65,7 @@ impl Model for Index {
     ghost use Rattle.bw_shape.specs.Limits.{AreWithinBut};
     ghost use Rattle.bw_tree.specs.Shapes.{shape_of};
     ghost use Rattle.bw_tree.specs.View.{contents_at};
+    ghost use Rattle.bw_batch.specs.Lens.{key_count};
     ghost use Rattle.bw_batch.specs.Settings.{limits_of};
     ghost use Rattle.bw_batch.specs.View.{IndexView, coded_view};
 
@@ -78,10 +83,13 @@ impl Model for Index {
       pages = shape_of i.tree;
     } };
 
-    ghost invariant = { λ i. (i.tree.staged ≡ None) × AreWithinBut (limits_of i.options) i.tree i.due.pages };
+    ghost invariant = { λ i. (i.tree.staged ≡ None) × AreWithinBut (limits_of i.options) i.tree i.due.pages
+        × (key_count (contents_at i.tree i.tree.next) ≡ i.len) };
 }
 
 impl Index {
+    ghost use Rattle.std.specs.Prelude.{nat_eq};
+    ghost use Rattle.bw_batch.specs.Lens.{key_count};
     ghost use Rattle.bw_batch.specs.Settings.{limits_of};
     ghost use Rattle.bw_batch.specs.View.{contents_of, settings_of, next_stamp_of};
     ghost use Rattle.bw_batch.specs.Sweeps.{base_of, is_sweep_due, records_before};
@@ -107,11 +115,13 @@ impl Index {
             alloc,
             tree,
             due: Due::new(alloc),
+            len: 0,
         })
     }
 
     /// The index over a tree, with what it holds. The tree has no staged batch. All its pages are due, so the next batch that
-    /// is accepted has them looked at; this costs the list of all pages. A split of the tree that isn't finished stays so, and
+    /// is accepted has them looked at. This costs the list of all pages and what `Tree::shape` does, since the pairs are
+    /// counted once. A split of the tree that isn't finished stays so, and
     /// is read by its side link: finish them first (`bw_shape::tidy`). After `Memory` the tree is gone.
     ///
     /// The tree, its keys and its values should be made on `alloc` too: they stay where they were made, and so do their
@@ -126,11 +136,13 @@ impl Index {
         ensures pages { IfOk result (λ index. index.pages ≡ shape_of tree) }
     {
         let due = all_pages(&tree)?;
+        let len = count_pairs(&tree)?;
         Ok(Index {
             options,
             alloc,
             tree,
             due,
+            len,
         })
     }
 
@@ -237,7 +249,10 @@ impl Index {
         ensures recorded { OnOk result (self.new.records
             ≡ self.old.records + length (writes_of (next_stamp_of self.old) ops.now)) }
     {
-        run_batch(
+        if ops.len() as u64 >= u64::MAX - self.len {
+            return Err(Memory);
+        }
+        let answered = run_batch(
             rt,
             self.alloc,
             &mut self.tree,
@@ -245,7 +260,9 @@ impl Index {
             ops,
             &self.options,
             gate,
-        )
+        )?;
+        self.len = len_after(self.len, ops, answered.replies.as_slice());
+        Ok(answered)
     }
 
     // Looks at the pages that are due.
@@ -290,6 +307,20 @@ impl Index {
             outcomes.push(outcome).unwrap();
         }
         Ok(outcomes)
+    }
+
+    /// How many keys there are. They are counted as batches run, so this walks nothing.
+    pub fn len(&self) -> u64
+        ensures { result ≡ key_count (contents_of self.now) }
+    {
+        self.len
+    }
+
+    /// Whether there is no key.
+    pub fn is_empty(&self) -> bool
+        ensures { result ≡ nat_eq (key_count (contents_of self.now)) 0 }
+    {
+        self.len == 0
     }
 
     /// All pairs, in the order of their keys.

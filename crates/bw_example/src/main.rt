@@ -22,15 +22,11 @@ fn main(rt: HostRuntime) -> Result<()> {
     let done = index.run(&rt, &batch, &OpenGate)?;
     for reply in done.replies.as_slice() {
         if let Reply::Found(year) = reply {
-            println!(rt; "ada was born in {}", str::from_utf8(year.bytes())?)?;
+            println!(rt; "ada was born in {year}")?;
         }
     }
     for (name, year) in index.contents()?.as_slice() {
-        println!(rt;
-            "{} {}",
-            str::from_utf8(name.bytes())?,
-            str::from_utf8(year.bytes())?
-        )?;
+        println!(rt; "{name} {year}")?;
     }
     Ok(())
 }

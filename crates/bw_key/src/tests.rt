@@ -200,6 +200,39 @@ fn a_refused_push_is_out_of_memory(rt: HostRuntime) -> Result<(), Fail> {
     Ok(())
 }
 
+// Compares how a key is shown with a text.
+fn is_shown<R: Abort>(rt: &R, alloc: Alloc, key: &Key, text: &str) {
+    let shown = format!(in alloc; "{key}").expect(rt, "memory");
+    assert!(rt; shown.as_str() == text);
+}
+
+#[test]
+fn keys_are_shown_plain_or_by_their_digits(rt: HostRuntime) {
+    let alloc = heap(&rt, rt.alloc());
+    let rows: [(&[u8], &str); 6] = [
+        (b"apple", "apple"),
+        (b"az_AZ.09-", "az_AZ.09-"),
+        (b"", "%"),
+        (b"a b", "%612062"),
+        (b"\x00\xff", "%00ff"),
+        (b"%", "%25"),
+    ];
+    for (bytes, text) in rows {
+        is_shown(&rt, alloc, &key(&rt, alloc, bytes), text);
+    }
+}
+
+#[test]
+fn a_clone_is_an_equal_key_in_one_growth(rt: HostRuntime) {
+    let alloc = heap(&rt, rt.alloc());
+    let long = key(&rt, alloc, &BYTES[..25]);
+    alloc.refuse(1);
+    assert!(rt; long.clone().is_err());
+    alloc.refuse(2);
+    assert!(rt; long.clone().expect(&rt, "memory") == long);
+    assert!(rt; alloc.left() == 1);
+}
+
 #[test]
 fn faults_say_what_is_wrong(rt: HostRuntime) -> Result<(), Fail> {
     let alloc = rt.alloc();

@@ -6,4 +6,5 @@ mod randomly;
 mod ranges;
 mod reference;
 mod refused;
+mod shown;
 mod values;

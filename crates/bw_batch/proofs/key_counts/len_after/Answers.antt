@@ -1,0 +1,14 @@
+use Rattle.std.proofs.Common.{arith, sym, subst, refl, add-one, ◌∙◌, ◌+◌}
+use Rattle.bw_batch.proofs.LenLemmas.{counted_all, counting_next, len_behind_most}
+use Rattle.bw_batch.proofs.key_counts.len_after.Goals as goal
+
+pub loop-place-preserved : goal.loop-place-preserved
+loop-place-preserved c =
+    let told = c.len_behind-now.ensures in
+    let most = len_behind_most c.loop-place.now c.index-ops-place.result c.index-replies-place.result in
+    record {
+      most = omega (arith, told, most, c.loop-place.invariant.most);
+      counting = λ m size same.
+          counting_next c.args.ops.now c.args.replies.now c.loop-place.place c.loop-place.now c.len_behind-now.result m c.index-ops-place.result c.index-replies-place.result
+          c.loop-place-test.true c.requires.alike c.index-ops-place.is c.index-replies-place.is told (c.loop-place.invariant.counting m size same);
+    }

@@ -1,0 +1,64 @@
+// How many keys an index has.
+ghost use Rattle.std.specs.Prelude.{◌≡◌, ◌<◌, ◌+◌, ◌^◌, [], ◌∷◌, length, IfOk};
+ghost use Rattle.bw_tree.specs.View.{contents_at};
+ghost use Rattle.bw_batch.specs.Lens.{IsLenAfter, key_count, leaf_pairs, len_behind};
+
+use bw_key::Memory;
+use bw_model::{Op, Reply};
+use bw_tree::{PageShape, Tree};
+
+/// How many pairs a tree has, as many as its leaves. It costs what the tree's `shape` does.
+pub(crate) fn count_pairs(tree: &Tree) -> Result<u64, Memory>
+    ensures { IfOk result (λ count. count ≡ key_count (contents_at tree.now tree.now.next)) }
+{
+    tree.know_levels();
+    let shape = tree.shape()?;
+    count_leaf_pairs(&shape)
+}
+
+// How many pairs the leaves have that are among these pages.
+fn count_leaf_pairs(pages: &[PageShape]) -> Result<u64, Memory>
+    ensures { IfOk result (λ count. count ≡ leaf_pairs pages.now) }
+{
+    let mut count = 0;
+    for page in pages {
+        count = with_leaf_pairs(count, page)?;
+    }
+    Ok(count)
+}
+
+// The same with those of one page more.
+fn with_leaf_pairs(count: u64, page: &PageShape) -> Result<u64, Memory>
+    ensures { IfOk result (λ sum. sum ≡ count + leaf_pairs (page.now ∷ [])) }
+{
+    if page.level == 0 {
+        count.checked_add(page.pairs as u64).ok_or(Memory)
+    } else {
+        Ok(count)
+    }
+}
+
+/// How many keys there are behind a batch where there were `len` before it, by the replies to its operations.
+pub(crate) fn len_after(len: u64, ops: &[Op], replies: &[Reply]) -> u64
+    requires alike { length replies.now ≡ length ops.now }
+    requires fits { len + length ops.now < 2 ^ 64 }
+    ensures { IsLenAfter len ops.now replies.now result }
+{
+    let mut now = len;
+    for place in 0..ops.len() {
+        now = len_behind(now, &ops[place], &replies[place]);
+    }
+    now
+}
+
+// The same for one operation. Where a key was removed, it was counted.
+fn len_behind(len: u64, op: &Op, reply: &Reply) -> u64
+    requires { len + 1 < 2 ^ 64 }
+    ensures { result ≡ len_behind len op.now reply.now }
+{
+    match (op, reply) {
+        (Op::Delete(_), Reply::Was(_)) => len.saturating_sub(1),
+        (_, Reply::Inserted | Reply::New) => len + 1,
+        _ => len,
+    }
+}
