@@ -1,5 +1,5 @@
 -- What the words of a command line ask for.
-use Rattle.std.specs.Prelude.{◌≡◌, ℕ, true, if◌then◌else◌, List, [], ◌∷◌, map, Option, Some, None, codes, option_map}
+use Rattle.std.specs.Prelude.{◌≡◌, ℕ, Bool, true, false, if◌then◌else◌, List, [], ◌∷◌, map, Option, Some, None, codes, option_map}
 use Rattle.std.specs.Borrow.{Bor}
 use Rattle.std.specs.Str.{bytes_eq}
 use Rattle.std.specs.Str.Parse.{digits_value, without_leading_plus}
@@ -9,6 +9,7 @@ use Rattle.bw_trace.specs.declared.jobs.Job.{Job}
 use Rattle.bw_trace.specs.declared.jobs.Job.TheVariants.{Run, Dump, Shape, Picture}
 use Rattle.clap.specs.Words.{App, Kinds, Row, Rule, Text, fault_of, first_of, matches_of, new_app, new_rule, one_of}
 use Rattle.clap.specs.ValueTests.{is_unsigned_in}
+use Rattle.clap.specs.declared.builder.action.ArgAction.TheVariants.{SetTrue}
 use Rattle.clap.specs.declared.builder.value_parser.ValueParser.TheVariants as vp
 use Rattle.clap.specs.declared.error.kind.ErrorKind.{ErrorKind}
 use Rattle.clap.specs.declared.error.kind.ErrorKind.TheVariants as kind
@@ -27,6 +28,10 @@ job_rule jobs = record (new_rule (codes "JOB")) { required = true; parser = Some
 -- the path of a trace
 abbrev pub file_rule : Rule
 file_rule = record (new_rule (codes "FILE")) { defaults = codes "-" ∷ [] }
+
+-- `--NAME`, with no value
+abbrev pub flag_rule : Text → Rule
+flag_rule name = record (new_rule name) { long = Some name; action = Some SetTrue }
 
 -- `--NAME N`, N a number of 64 bits
 abbrev pub number_rule : Text → Text → Rule
@@ -60,7 +65,7 @@ program_with rules = record {
 }
 
 abbrev pub program_of : JobWords → App
-program_of jobs = program_with (job_rule jobs ∷ file_rule ∷ number_rules)
+program_of jobs = program_with (job_rule jobs ∷ file_rule ∷ flag_rule (codes "stats") ∷ number_rules)
 
 -- ---- what words ask for
 
@@ -110,10 +115,16 @@ limits_of values = record {
   record_max = number_of (codes "record-max") values;
 }
 
+-- whether a flag was given, as its value tells
+pub record IsFlag (name : Text) (values : List Row) (given : Bool) : Type 0 where
+  pub yes : one_of name values ≡ Some (codes "true") → given ≡ true
+  pub no : one_of name values ≡ Some (codes "false") → given ≡ false
+
 -- the request that the values make
 pub record IsMadeBy (values : List Row) (request : Request) : Type 0 where
   pub job : request.job ≡ job_of values
   pub limits : request.limits ≡ limits_of values
+  pub stats : IsFlag (codes "stats") values request.stats
   pub file : option_map (λ path. path.now) request.file ≡ file_of values
 
 -- the request of words in which nothing is wrong

@@ -9,27 +9,38 @@ ghost use Rattle.bw_trace.specs.Counts.{HasRisenBy};
 ghost use Rattle.bw_trace.specs.Faults.{IfLine, IsOfInput};
 ghost use Rattle.clap.specs.Words.{kind_of};
 
-use crate::messages::{no_memory, report};
+use crate::counting::{Counting, Front};
+use crate::messages::{Stats, no_memory, report};
 use crate::request::{Request, request_in};
 use bw_batch::Options;
 use bw_memory::Alloc;
 use bw_trace::{FromRead, Inlet, Job, Outlet, Source, Summary, TraceFault, run_trace, status};
 use clap::error::{Error, ErrorKind};
 use std::alloc::Global;
-use std::fs;
+use std::cell::Cell;
 use std::rt::Files;
 use std::thread::Threads;
+use std::time::{Clock, Duration, Instant};
+use std::{fs, io};
 
 /// Does what the words of a command line ask for, the name of the program left out: `run`, `dump`, `shape` and `picture`
 /// with their options and the path of a trace, `--help` and `--version`. The path `-`, and none, is `input`. Texts go to
-/// `output`, and a message to `errors`: one line, but for other words, of which several lines tell.
+/// `output`, and a message to `errors`: one line, but for other words, of which several lines tell. `--stats` has a line
+/// on `errors` too, where the trace was read to its end: its batches and operations, how many batches were refused, the
+/// seconds that the whole took by the clock, and operations a second. Without a clock it ends before the seconds.
 ///
 /// `turns` is how often a trace is read at the most. The answer is the exit status: 0 where each batch was accepted and
 /// where help or the version was asked for, 1 at a fault of reading, writing or memory and where the input doesn't end,
 /// 2 for other words and for an option out of its range, 3 at a faulty line, and 4 where the trace was read to its end
 /// and a batch was refused. Options are tested before a file is opened. A message that can't be written leaves the
 /// status as it is.
-pub fn run_words<'a, F: Files + AllocGlobal + Threads + Sync, R: Inlet, W: Outlet, E: Outlet>(
+pub fn run_words<
+    'a,
+    F: Files + AllocGlobal + Threads + Clock + Sync,
+    R: Inlet,
+    W: Outlet,
+    E: Outlet,
+>(
     rt: &F,
     alloc: Alloc,
     words: &'a [&'a str],
@@ -50,7 +61,7 @@ pub fn run_words<'a, F: Files + AllocGlobal + Threads + Sync, R: Inlet, W: Outle
 }
 
 // Does a job.
-fn run_request<F: Files + Threads + Sync, R: Inlet, W: Outlet, E: Outlet>(
+fn run_request<F: Files + Threads + Clock + Sync, R: Inlet, W: Outlet, E: Outlet>(
     rt: &F,
     alloc: Alloc,
     request: &Request<'_>,
@@ -76,7 +87,37 @@ fn run_request<F: Files + Threads + Sync, R: Inlet, W: Outlet, E: Outlet>(
         }
     };
     let Some(path) = request.file else {
-        return run_input(
+        return run_input(rt, alloc, input, output, errors, options, request, turns);
+    };
+    match fs::open(rt, path) {
+        Ok(file) => {
+            let input = FromRead::new(file);
+            run_input(rt, alloc, input, output, errors, options, request, turns)
+        }
+        Err(_) => {
+            report(alloc, errors, TraceFault::Read);
+            1
+        }
+    }
+}
+
+// Does a job on a trace that is read from an input, and reports its fault, or what it was where that is asked for.
+fn run_input<F: Threads + Clock + Sync, R: Inlet, W: Outlet, E: Outlet>(
+    rt: &F,
+    alloc: Alloc,
+    input: R,
+    output: &mut W,
+    errors: &mut E,
+    options: Options,
+    request: &Request<'_>,
+    turns: u64,
+) -> u8
+    ensures { IsJobOutcome result options request.now.job (R.remaining input)
+        (W.contents output.old) (W.contents output.new)
+        (W.failures output.old) (W.failures output.new) }
+{
+    if request.stats {
+        return run_told(
             rt,
             alloc,
             input,
@@ -86,30 +127,16 @@ fn run_request<F: Files + Threads + Sync, R: Inlet, W: Outlet, E: Outlet>(
             request.job,
             turns,
         );
-    };
-    match fs::open(rt, path) {
-        Ok(file) => {
-            let input = FromRead::new(file);
-            run_input(
-                rt,
-                alloc,
-                input,
-                output,
-                errors,
-                options,
-                request.job,
-                turns,
-            )
-        }
-        Err(_) => {
-            report(alloc, errors, TraceFault::Read);
-            1
-        }
     }
+    let outcome = run(rt, alloc, input, output, options, request.job, turns);
+    if let Err(fault) = outcome {
+        report(alloc, errors, fault);
+    }
+    status(&outcome)
 }
 
-// Does a job on a trace that is read from an input, and reports its fault.
-fn run_input<F: Threads + Sync, R: Inlet, W: Outlet, E: Outlet>(
+// Does the same, and tells how much was run and how fast.
+fn run_told<F: Threads + Clock + Sync, R: Inlet, W: Outlet, E: Outlet>(
     rt: &F,
     alloc: Alloc,
     input: R,
@@ -122,11 +149,31 @@ fn run_input<F: Threads + Sync, R: Inlet, W: Outlet, E: Outlet>(
     ensures { IsJobOutcome result options job (R.remaining input) (W.contents output.old) (W.contents output.new)
         (W.failures output.old) (W.failures output.new) }
 {
+    let operations = Cell::new(0);
+    let input = Counting {
+        reader: input,
+        front: Front::Blank,
+        operations: &operations,
+    };
+    let start = Instant::now(rt);
     let outcome = run(rt, alloc, input, output, options, job, turns);
-    if let Err(fault) = outcome {
-        report(alloc, errors, fault);
+    match outcome {
+        Ok(summary) => {
+            let stats = Stats {
+                summary,
+                operations: operations.get(),
+                time: time_since(rt, start),
+            };
+            report(alloc, errors, stats);
+        }
+        Err(fault) => report(alloc, errors, fault),
     }
     status(&outcome)
+}
+
+// The time since a start, where the clock told both.
+fn time_since<F: Clock>(rt: &F, start: io::Result<Instant>) -> Option<Duration> {
+    start.ok()?.elapsed(rt).ok()
 }
 
 fn run<F: Threads + Sync, R: Inlet, W: Outlet>(

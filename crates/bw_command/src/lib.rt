@@ -2,9 +2,10 @@
 #![tactic(auto)]
 
 mod command;
+mod counting;
 mod messages;
 mod request;
 
 pub use command::run_words;
-pub use messages::{no_memory, no_words};
+pub use messages::{Stats, no_memory, no_words};
 pub use request::{Limits, Request, arguments, request_in};

@@ -1,12 +1,12 @@
 // What the words of a command line ask for.
 ghost use Rattle.std.specs.Prelude.{◌≡◌, IfOk, MatchResult, fold, map, option_map, Some, false};
-ghost use Rattle.bw_command.specs.CommandLine.{Asks, IsMadeBy, JobWords, faults_in, file_of, job_named, job_of, limits_of, number_of, number_rule, number_rules, path_of, program_of};
+ghost use Rattle.bw_command.specs.CommandLine.{Asks, IsFlag, IsMadeBy, JobWords, faults_in, file_of, file_rule, flag_rule, job_named, job_of, job_rule, limits_of, number_of, number_rule, number_rules, path_of, program_of};
 ghost use Rattle.clap.specs.Words.{HasKind, app_of, found_of, rows_of, rule_of, with_rule};
 
 use bw_batch::{OptionFault, Options};
 use bw_trace::Job;
 use clap::error::Error;
-use clap::{Arg, ArgMatches, Command, value_parser};
+use clap::{Arg, ArgAction, ArgMatches, Command, value_parser};
 use std::alloc::{AllocError, Global};
 use std::env::{self, Env};
 use std::io;
@@ -51,6 +51,8 @@ impl Limits {
 pub struct Request<'a> {
     pub job: Job,
     pub limits: Limits,
+    /// Whether a line at the end tells how much was run, and how fast.
+    pub stats: bool,
     /// The path of the trace, None for standard input.
     pub file: Option<&'a str>,
 }
@@ -120,6 +122,7 @@ fn request_of<'a>(matches: &ArgMatches<'a>) -> Request<'a>
     Request {
         job: job_in(matches),
         limits: limits_in(matches),
+        stats: flag_in(matches, "stats"),
         file: file_in(matches),
     }
 }
@@ -173,6 +176,12 @@ fn limits_in(matches: &ArgMatches<'_>) -> Limits
     }
 }
 
+fn flag_in(matches: &ArgMatches<'_>, id: &str) -> bool
+    ensures { IsFlag id.now (rows_of (found_of matches.now)) result }
+{
+    matches.get_flag(id)
+}
+
 // Each option has a default, so that none is missing; a missing one would be 0.
 fn number_in(matches: &ArgMatches<'_>, id: &str) -> u64
     ensures { result ≡ number_of id.now (rows_of (found_of matches.now)) }
@@ -184,24 +193,38 @@ fn number_in(matches: &ArgMatches<'_>, id: &str) -> u64
 fn program<'a>(global: Global) -> Result<Command<'a>, AllocError>
     ensures { IfOk result (λ command. (jobs : JobWords) × (app_of command ≡ program_of jobs)) }
 {
-    let job = Arg::new(global, "JOB")
-        .required(true)
-        .value_parser(JOBS.as_slice())
-        .help(
-            "What is printed: the replies, what the index holds at the end, its pages, or a picture of them",
-        );
-    let file = Arg::new(global, "FILE")
-        .default_value("-")
-        .help("The trace; - is standard input");
+    let stats = "Tell on standard error how much was run, and how fast";
     let command = Command::new(global, "bw_run")
         .about(ABOUT)
         .after_help(AFTER)
         .version("0.1.0")
         .override_usage(USAGE)
         .no_binary_name(true)
-        .arg(job)?
-        .arg(file)?;
+        .arg(job_argument(global))?
+        .arg(file_argument(global))?
+        .arg(flag(global, "stats", stats))?;
     with_limits(global, command)
+}
+
+fn job_argument<'a>(global: Global) -> Arg<'a>
+    ensures rule { (jobs : JobWords) × (rule_of result ≡ job_rule jobs) }
+    ensures local { result.global ≡ false }
+{
+    Arg::new(global, "JOB")
+        .required(true)
+        .value_parser(JOBS.as_slice())
+        .help(
+            "What is printed: the replies, what the index holds at the end, its pages, or a picture of them",
+        )
+}
+
+fn file_argument<'a>(global: Global) -> Arg<'a>
+    ensures rule { rule_of result ≡ file_rule }
+    ensures local { result.global ≡ false }
+{
+    Arg::new(global, "FILE")
+        .default_value("-")
+        .help("The trace; - is standard input")
 }
 
 fn with_limits<'a>(global: Global, command: Command<'a>) -> Result<Command<'a>, AllocError>
@@ -223,6 +246,17 @@ fn with_limits<'a>(global: Global, command: Command<'a>) -> Result<Command<'a>, 
         .arg(number(global, "page-min", "16", page_min))?
         .arg(number(global, "batch-max", "65536", batch_max))?
         .arg(number(global, "record-max", "1048576", record_max))
+}
+
+// An option that has no value.
+fn flag<'a>(global: Global, id: &'a str, help: &'a str) -> Arg<'a>
+    ensures rule { rule_of result ≡ flag_rule id.now }
+    ensures local { result.global ≡ false }
+{
+    Arg::new(global, id)
+        .long(id)
+        .action(ArgAction::SetTrue)
+        .help(help)
 }
 
 // An option whose value is a number.

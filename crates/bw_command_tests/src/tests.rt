@@ -14,6 +14,7 @@ mod options;
 mod pictures;
 mod ports;
 mod shapes;
+mod stats;
 mod stops;
 mod traces;
 mod words;

@@ -4,6 +4,7 @@ use bw_command::run_words;
 use std::process::Abort;
 use std::rt::Files;
 use std::thread::Threads;
+use std::time::Clock;
 
 // The pages where both batches were accepted, and where the first one was refused. The second one writes nothing.
 const ONE_PAIR: &str = "leaf % * 1 2\n";
@@ -45,7 +46,7 @@ const PICTURE_OF_NO_PAIR: &str =
 </svg>
 "##;
 
-impl<R: Abort + Files + AllocGlobal + Threads + Sync> Runner<'_, R> {
+impl<R: Abort + Files + AllocGlobal + Threads + Clock + Sync> Runner<'_, R> {
     // Does a job where this growth is refused. Its status, and how many growths were left to make.
     fn refused_end(&self, job: &'static str, growth: u64, whole: &str, other: &str) -> (u8, u64) {
         let mut out = self.sink();

@@ -4,11 +4,12 @@ use std::fs;
 use std::process::Abort;
 use std::rt::Files;
 use std::thread::Threads;
+use std::time::Clock;
 
 // What stands in the input in place of the file's text.
 const NO_TRACE: &str = "bogus";
 
-impl<R: Abort + Files + AllocGlobal + Threads + Sync> Runner<'_, R> {
+impl<R: Abort + Files + AllocGlobal + Threads + Clock + Sync> Runner<'_, R> {
     // Makes a file of this text where the test runs, and runs the program with words that name it.
     fn expect_file(
         &self,

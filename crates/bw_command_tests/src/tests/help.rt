@@ -14,6 +14,7 @@ Arguments:
   [FILE]  The trace; - is standard input [default: -]
 
 Options:
+      --stats           Tell on standard error how much was run, and how fast
       --workers <N>     How many threads post the writes of a batch, and answer it, 1 to 64 [default: 4]
       --piece <N>       How many writes a worker takes at once, 1 to 4096 [default: 64]
       --chain <N>       How many writes stand before a leaf's page until it is consolidated, 1 to 1024 [default: 8]

@@ -8,6 +8,7 @@ use std::alloc::Global;
 use std::process::Abort;
 use std::rt::Files;
 use std::thread::Threads;
+use std::time::Clock;
 
 // How often the input may be read, where a test doesn't say.
 pub const TURNS: u64 = 1_000_000;
@@ -119,14 +120,14 @@ impl Outlet for Sink {
 
 /// Runs the program, and ends the test where it does something else than is expected.
 #[derive(Drop)]
-pub struct Runner<'a, R: Abort + Files + AllocGlobal + Threads + Sync> {
+pub struct Runner<'a, R: Abort + Files + AllocGlobal + Threads + Clock + Sync> {
     pub rt: &'a R,
     global: Global,
     // what the program allocates from
     pub alloc: Alloc,
 }
 
-impl<'a, R: Abort + Files + AllocGlobal + Threads + Sync> Runner<'a, R> {
+impl<'a, R: Abort + Files + AllocGlobal + Threads + Clock + Sync> Runner<'a, R> {
     pub fn new(rt: &'a R, global: Global) -> Runner<'a, R> {
         let alloc = Heap::counted(global).leak(global).expect(rt, "memory");
         Runner { rt, global, alloc }

@@ -6,6 +6,7 @@ use bw_command::run_words;
 use std::process::Abort;
 use std::rt::Files;
 use std::thread::Threads;
+use std::time::Clock;
 
 // How a run may end: its status, and what it wrote.
 type End = (u8, &'static str);
@@ -83,7 +84,7 @@ fn count(counts: &mut [u64], place: usize) {
     }
 }
 
-impl<R: Abort + Files + AllocGlobal + Threads + Sync> Runner<'_, R> {
+impl<R: Abort + Files + AllocGlobal + Threads + Clock + Sync> Runner<'_, R> {
     // Runs these words over a text, where this growth is refused. Which end it was, and how many growths were left.
     fn end_of(
         &self,

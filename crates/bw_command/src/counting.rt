@@ -1,0 +1,77 @@
+// How many operations a trace has, counted while it is read.
+use bw_trace::{Failed, Inlet};
+use std::cell::Cell;
+
+/// What the bytes of a line that were read so far tell of it.
+///
+/// In a trace without a fault the first word of each operation has three letters or more, and `go` and `bw` have two.
+#[derive(Clone, Copy, Debug, PartialEq, Eq)]
+pub enum Front {
+    /// There is no word yet.
+    Blank,
+    /// The first word has one letter so far.
+    OneLetter,
+    /// The first word has two letters so far.
+    TwoLetters,
+    /// The last byte has shown that the line is an operation.
+    Operation,
+    /// What else the line has tells nothing.
+    Rest,
+}
+
+impl Front {
+    // What a further byte tells.
+    fn behind(self, byte: u8) -> Front {
+        match (self, byte) {
+            (_, b'\n') => Front::Blank,
+            (Front::Blank, b' ' | b'\r') => Front::Blank,
+            (Front::Blank, b'#') => Front::Rest,
+            (Front::Blank, _) => Front::OneLetter,
+            (Front::OneLetter, _) => Front::TwoLetters,
+            (Front::TwoLetters, b' ' | b'\r') => Front::Rest,
+            (Front::TwoLetters, _) => Front::Operation,
+            (Front::Operation | Front::Rest, _) => Front::Rest,
+        }
+    }
+}
+
+// What further bytes tell of the line in which they end. The operations that show in them are counted.
+fn count(front: Front, bytes: &[u8], operations: &Cell<u64>) -> Front {
+    let mut front = front;
+    for byte in bytes {
+        front = front.behind(*byte);
+        if front == Front::Operation {
+            operations.set(operations.get().saturating_add(1));
+        }
+    }
+    front
+}
+
+/// A reader of a trace that counts its operations. Where the trace was read to its end and no line was faulty, all were
+/// counted and nothing else was.
+#[derive(Drop)]
+pub struct Counting<'a, R: Inlet> {
+    pub reader: R,
+    pub front: Front,
+    pub operations: &'a Cell<u64>,
+}
+
+impl<R: Inlet> Inlet for Counting<'_, R> {
+    ghost remaining = { λ s. R.remaining s.reader };
+
+    ghost calls = { λ s. R.calls s.reader };
+
+    ghost failures = { λ s. R.failures s.reader };
+
+    ghost has_ended = { λ s. R.has_ended s.reader };
+
+    fn read(&mut self, buffer: &mut [u8]) -> Result<usize, Failed> {
+        match self.reader.read(buffer) {
+            Ok(n) => {
+                self.front = count(self.front, &buffer[..n], self.operations);
+                Ok(n)
+            }
+            Err(failed) => Err(failed),
+        }
+    }
+}
