@@ -68,26 +68,34 @@ const ABOUT: &str = "Runs a trace of operations on an ordered index from keys to
 
 const AFTER: &str = "The jobs:
   run      prints the reply to each operation, batch by batch
-  dump     prints at the end how many pairs the index holds, and the pairs in key order
+  dump     prints at the end `contents N`, and the N pairs that the index holds, in key order
   shape    prints at the end a line for each page of the index, the leaves first:
              leaf LOW HIGH PAIRS WRITES     the pairs from LOW on and below HIGH, and how
-                                            many writes stand before the leaf's page
+                                            many writes lie over the leaf's base page
              inner LEVEL LOW HIGH CHILDREN  a page so many levels above the leaves
            A HIGH of * is no end.
   picture  writes at the end a picture of these pages to standard output, an SVG text
 
-A trace has one operation on a line:
-  upsert apple 7      puts the value 7 at the key apple
-  insert apple 7      puts it where the key has none
-  update apple 8      puts it where the key has one
-  swapif apple 8 9    puts 9 where the value is 8
-  get apple           reads the value
-  delete apple        removes the key
+A trace has one operation on a line. Its reply is a line too, where w is the key's value:
+
+                      does                                   prints: with w    with none
+  upsert apple 7      puts the value 7 at the key apple      was w             new
+  insert apple 7      puts it where the key has none         held w            inserted
+  update apple 8      puts it where the key has one          was w             none
+  swapif apple 8 9    puts 9 where the value is 8            was 8, or held w  none
+  get apple           reads the value                        is w              none
+  delete apple        removes the key                        was w             none
   scan apple pear 10  reads the first 10 pairs from apple on and below pear
   rscan apple * 10    reads the last 10 pairs from apple on, greatest key first
+                      Both print `scan M`, and then M lines `key value`. An end of * is none.
   go                  ends a batch: it is run, and its replies are printed
-A line that begins with # is a comment. A key is spelled by letters, digits, _, . and -,
-or by % and hexadecimal digits. Behind a first line `bw 2` values are spelled so too.
+
+A batch that is refused prints one line, `refused long OPS MOST` or `refused memory`.
+A line that begins with # is a comment.
+
+A key has 0 to 64 bytes. It is spelled by letters, digits, _, . and -, or by % and
+hexadecimal digits; % alone is the empty key. A value is a number up to
+18446744073709551615. Behind a first line `bw 2` it has 0 to 1024 bytes, spelled as a key.
 
 --page-min has no effect yet: no page is merged.
 
@@ -232,7 +240,7 @@ fn with_limits<'a>(global: Global, command: Command<'a>) -> Result<Command<'a>, 
 {
     let workers = "How many threads post the writes of a batch, and answer it, 1 to 64";
     let piece = "How many writes a worker takes at once, 1 to 4096";
-    let chain = "How many writes stand before a leaf's page until it is consolidated, 1 to 1024";
+    let chain = "How many writes lie over a leaf's base page until it is consolidated, 1 to 1024";
     let page_max = "Above how many entries a page is split, 4 to 4096";
     let page_min = "Below how many entries a page is merged, 0 to half of page-max";
     let batch_max = "How many operations a batch may have, 1 to 65536";
