@@ -6,17 +6,20 @@
 //! batches of 1, 8, 64 and 1,024 operations, and `insert` an empty index and an empty map that get 1,048,576 keys, rising
 //! ones and scattered ones. What is printed is nanoseconds an operation, of the batch whose time is in the middle and of all
 //! batches together, index / map, and the ratio. `bytes` prints how many bytes a key the index and the map have in use.
+//! `picture` writes what `run` times as an SVG text, over several numbers of workers, operations of a batch or keys.
 #![tactic(auto)]
 
-ghost use Rattle.std.specs.Prelude.{◌<◌};
+ghost use Rattle.std.specs.Prelude.{◌<◌, IfOk};
 
+mod chart;
 mod request;
 mod workload;
 
 use anyhow::{Context, Result, bail};
 use bw_batch::{Index, Key, Op, OpenGate, Options, Tree, Value};
 use bw_memory::{Alloc, Heap, LIMIT_MAX};
-use request::{Job, Request, request_in};
+use chart::{Column, print_chart};
+use request::{By, Job, Request, request_in};
 use std::alloc::Global;
 use std::collections::BTreeMap;
 use std::env;
@@ -61,6 +64,9 @@ const SEED: u64 = 20130408;
 const SIZES: [u64; 4] = [1, 8, 64, 1024];
 
 const SMALL_ROUNDS: u64 = 1001;
+
+// How many operations are timed for a column of a picture, at least.
+const FEWEST: u64 = 8192;
 
 // How many keys are put in an empty index.
 const FRESH: u64 = 1 << 20;
@@ -230,37 +236,113 @@ fn print_kind<R: Threads + Clock + Sync + Print>(
     Ok(())
 }
 
+// The batches that a request asks for.
+fn load_of(request: &Request) -> Result<Load>
+    ensures { IfOk result (λ load. 0 < load.keys) }
+{
+    let Request {
+        keys,
+        batch,
+        batches,
+        ..
+    } = *request;
+    if keys == 0 || batch == 0 || batches == 0 {
+        bail!("keys, batch and batches are 1 or more");
+    }
+    Ok(Load {
+        keys,
+        operations: batch,
+        rounds: batches,
+    })
+}
+
+// Runs batches on an index and a map that are filled for them.
+fn runs_of<R: Threads + Clock + Sync>(
+    rt: &R,
+    alloc: Alloc,
+    request: &Request,
+    load: Load,
+) -> Result<Runs>
+    requires { 0 < load.keys }
+{
+    let mut both = filled(rt, one_heap(alloc), request.workers, load.keys)?;
+    drawn_runs(rt, alloc, &mut both, load, request.kind, request.seed)
+}
+
 // Runs the batches that a request asks for, and prints what they cost.
 fn print_run<R: Threads + Clock + Sync + Print>(
     rt: &R,
     alloc: Alloc,
     request: &Request,
 ) -> Result<()> {
+    let mut runs = runs_of(rt, alloc, request, load_of(request)?)?;
     let Request {
         keys,
         workers,
-        kind,
         batch,
         batches,
         seed,
         ..
     } = *request;
-    if keys == 0 || batch == 0 || batches == 0 {
-        bail!("keys, batch and batches are 1 or more");
-    }
-    let load = Load {
-        keys,
-        operations: batch,
-        rounds: batches,
-    };
-    let mut both = filled(rt, one_heap(alloc), workers, keys)?;
-    let mut runs = drawn_runs(rt, alloc, &mut both, load, kind, seed)?;
-    let words = kind.words();
+    let words = request.kind.words();
     println!(rt;
         "{keys} keys, {workers} workers, {batches} batches of {batch} {words}, seed {seed}:"
     )?;
     print_times(rt, &mut runs, batch)?;
     print_rate(rt, &runs, batch)
+}
+
+// What the batches of a request cost that has one of the values of a picture, by the batch in the middle.
+fn column<R: Threads + Clock + Sync>(
+    rt: &R,
+    alloc: Alloc,
+    request: &Request,
+    value: u64,
+) -> Result<Column> {
+    let mut load = load_of(request)?;
+    let enough = FEWEST.checked_div(load.operations).unwrap_or(0);
+    load.rounds = load.rounds.max(enough);
+    let mut runs = runs_of(rt, alloc, request, load)?;
+    let (index, _) = nanoseconds(&mut runs.index, load.operations)?;
+    let (map, _) = nanoseconds(&mut runs.map, load.operations)?;
+    Ok(Column { value, index, map })
+}
+
+// Times what a request asks for at each value of a picture.
+fn columns<R: Threads + Clock + Sync>(
+    rt: &R,
+    alloc: Alloc,
+    request: &Request,
+) -> Result<Vec<Column, Alloc>> {
+    let mut columns = Vec::new(alloc);
+    for value in request.by.values() {
+        let request = request.with_value(*value);
+        columns.push(column(rt, alloc, &request, *value)?)?;
+    }
+    Ok(columns)
+}
+
+// Prints a picture of what a request asks for. Nothing is printed before all is timed.
+fn print_picture<R: Threads + Clock + Sync + Print>(
+    rt: &R,
+    alloc: Alloc,
+    request: &Request,
+) -> Result<()> {
+    let columns = columns(rt, alloc, request)?;
+    let words = request.kind.words();
+    let Request {
+        keys,
+        workers,
+        batch,
+        by,
+        ..
+    } = *request;
+    let heading = match by {
+        By::Workers => format!(in alloc; "{words}: {keys} keys, batches of {batch}")?,
+        By::Batch => format!(in alloc; "{words}: {keys} keys, {workers} workers")?,
+        By::Keys => format!(in alloc; "{words}: batches of {batch}, {workers} workers")?,
+    };
+    print_chart(rt, heading.as_str(), by, &columns)
 }
 
 // Prints how many operations a second the index ran, by the batch in the middle of sorted times.
@@ -434,6 +516,7 @@ fn print_request<R: Threads + Clock + Sync + Print>(
             print_small(rt, alloc, LARGE.keys)
         }
         Job::Insert => print_all_inserts(rt, alloc),
+        Job::Picture => print_picture(rt, alloc, request),
     }
 }
 

@@ -14,9 +14,44 @@ pub enum Job {
     Time,
     Small,
     Insert,
+    Picture,
 }
 
-/// A job, and what `run` and `bytes` are told.
+/// What has several values in a picture.
+#[derive(Clone, Copy, Debug, PartialEq, Eq)]
+pub enum By {
+    Workers,
+    Batch,
+    Keys,
+}
+
+impl By {
+    /// Its words in the picture.
+    pub fn words(self) -> &'static str {
+        match self {
+            By::Workers => "workers",
+            By::Batch => "operations of a batch",
+            By::Keys => "keys",
+        }
+    }
+
+    /// Its values, from left to right.
+    pub fn values(self) -> &'static [u64] {
+        match self {
+            By::Workers => &WORKERS,
+            By::Batch => &SIZES,
+            By::Keys => &KEYS,
+        }
+    }
+}
+
+static WORKERS: [u64; 3] = [1, 2, 4];
+
+static SIZES: [u64; 5] = [1, 8, 64, 1024, 65_536];
+
+static KEYS: [u64; 3] = [10_000, 100_000, 1_000_000];
+
+/// A job, and what `run`, `bytes` and `picture` are told.
 #[derive(Clone, Copy)]
 pub struct Request {
     pub job: Job,
@@ -26,9 +61,34 @@ pub struct Request {
     pub batch: u64,
     pub batches: u64,
     pub seed: u64,
+    pub by: By,
 }
 
-static JOBS: [&str; 6] = ["check", "run", "bytes", "time", "small", "insert"];
+impl Request {
+    /// The same with another value of what has several in a picture.
+    pub fn with_value(&self, value: u64) -> Request {
+        match self.by {
+            By::Workers => Request {
+                workers: value,
+                ..*self
+            },
+            By::Batch => Request {
+                batch: value,
+                ..*self
+            },
+            By::Keys => Request {
+                keys: value,
+                ..*self
+            },
+        }
+    }
+}
+
+static JOBS: [&str; 7] = [
+    "check", "run", "bytes", "time", "small", "insert", "picture",
+];
+
+static BYS: [&str; 3] = ["workers", "batch", "keys"];
 
 static KINDS: [&str; 3] = ["gets", "upserts", "scans"];
 
@@ -39,6 +99,9 @@ const AFTER: &str = "The jobs:
   time    times all kinds of batches of 65536, over 10000 keys and 1000000, with 1, 2 and 4 workers
   small   times batches of 1, 8, 64 and 1024 gets, and of gets and upserts
   insert  times an empty index and an empty map that get 1048576 keys
+  picture writes a picture of times to standard output, an SVG text: what `run` times with 1, 2
+          and 4 workers, by batches of 1, 8, 64, 1024 and 65536 operations, or over 10000, 100000
+          and 1000000 keys, as --by says; of small batches as many as have 8192 operations
 
 The kinds: gets; upserts, half of them gets; scans, of 32 pairs, half of them upserts.";
 
@@ -54,6 +117,7 @@ pub fn request_in(global: Global, words: &[&str]) -> Result<Request, Error> {
         batch: number_in(&matches, "batch"),
         batches: number_in(&matches, "batches"),
         seed: number_in(&matches, "seed"),
+        by: by_named(matches.get_str("by")),
     })
 }
 
@@ -64,6 +128,7 @@ fn job_named(word: Option<&str>) -> Job {
         Some("time") => Job::Time,
         Some("small") => Job::Small,
         Some("insert") => Job::Insert,
+        Some("picture") => Job::Picture,
         _ => Job::Check,
     }
 }
@@ -73,6 +138,14 @@ fn kind_named(word: Option<&str>) -> Kind {
         Some("upserts") => Kind::GetsAndUpserts,
         Some("scans") => Kind::ScansAndUpserts,
         _ => Kind::Gets,
+    }
+}
+
+fn by_named(word: Option<&str>) -> By {
+    match word {
+        Some("batch") => By::Batch,
+        Some("keys") => By::Keys,
+        _ => By::Workers,
     }
 }
 
@@ -92,6 +165,11 @@ fn program<'a>(global: Global) -> Result<Command<'a>, AllocError> {
         .default_value("gets")
         .value_parser(KINDS.as_slice())
         .help("What a batch is made of");
+    let by = Arg::new(global, "by")
+        .long("by")
+        .default_value("workers")
+        .value_parser(BYS.as_slice())
+        .help("What has several values in a picture");
     Command::new(global, "bw_batch_bench")
         .about("Times batches on an index of many leaves beside an ordered map.")
         .after_help(AFTER)
@@ -112,7 +190,8 @@ fn program<'a>(global: Global) -> Result<Command<'a>, AllocError> {
             "How many operations a batch has, 1 to 65536",
         ))?
         .arg(number(global, "batches", "15", "How many batches are timed"))?
-        .arg(number(global, "seed", "20130408", "Where drawn numbers begin"))
+        .arg(number(global, "seed", "20130408", "Where drawn numbers begin"))?
+        .arg(by)
 }
 
 // An option whose value is a number.
