@@ -1,10 +1,14 @@
 -- All replies of a batch, from the answers to its parts.
 use Rattle.std.proofs.Common.{◌≡◌, ℕ, ◌<◌, List, [], ◌∷◌, length, sym, ap, ◌∙◌, subst}
 use Rattle.std.specs.List.{AllByRecursion, flat_map}
+use Rattle.std.specs.List.Sorted.{IsSortedBy}
+use Rattle.std.specs.Ordering.{is_lt}
+use Rattle.bw_key.specs.Order.{KeyBytes, key_cmp}
 use Rattle.bw_model.specs.declared.operations.Op.{Op}
 use Rattle.bw_model.specs.declared.operations.Reply.{Reply}
 use Rattle.bw_answer.specs.Parts.{places_in, elements_in}
-use Rattle.bw_group.specs.Points.{Entry, entries_from, places_of, scans_from, AreGrouped, GroupingView, HasRisingPlaces, IsScanOf}
+use Rattle.bw_group.specs.Points.{Entry, entries_at, entries_from, entries_of, places_of, scans_from, AreGrouped, GroupingView, HasRisingPlaces, IsPointOf, IsScanOf}
+use Rattle.bw_group.specs.declared.points.Point.{Point}
 use Rattle.bw_answer.specs.Replies.{ArePointsOf, ReaderView, contents_before, replies_to, answers_to, with_answers}
 use Rattle.bw_answer.specs.declared.parts.Part.{Part}
 use Rattle.bw_group.proofs.Entries.{entries_rise, places_within, rising_at, scan_within}
@@ -19,13 +23,15 @@ of_entries P [] all = tt
 of_entries P (e ∷ es) all = (all.0, of_entries P es all.1)
 
 -- the points of a batch, and its scans
-pub grouped_points : (batch : GroupingView) → AreGrouped batch → (ops : List Op) (points : List Entry) → ops ≡ batch.ops → points ≡ batch.points → ArePointsOf ops points
-grouped_points batch grouped ops points ops_are points_are =
-    subst (λ (l : List Op). ArePointsOf l points) (sym ops_are) (subst (ArePointsOf batch.ops) (sym points_are) (record {
-      sorted = grouped.sorted;
-      entries = batch_entries batch.ops batch.points grouped.same;
-      rising = λ key. subst (HasRisingPlaces 0) (sym (grouped.same key)) (rising_at key 0 (entries_from 0 batch.ops) (entries_rise 0 batch.ops));
-    }))
+pub grouped_points : (batch : GroupingView) → AreGrouped batch → (ops : List Op) (points : List Point) → ops ≡ batch.ops → entries_of points ≡ batch.points → AllByRecursion (IsPointOf batch.ops) points → ArePointsOf ops points
+grouped_points batch grouped ops points ops_are points_are gets =
+    let same = λ (key : KeyBytes). ap (entries_at key) points_are ∙ grouped.same key in
+    subst (λ (l : List Op). ArePointsOf l points) (sym ops_are) (record {
+      sorted = subst (IsSortedBy (λ d e. is_lt (key_cmp d.0 e.0))) (sym points_are) grouped.sorted;
+      entries = batch_entries batch.ops (entries_of points) same;
+      rising = λ key. subst (HasRisingPlaces 0) (sym (same key)) (rising_at key 0 (entries_from 0 batch.ops) (entries_rise 0 batch.ops));
+      gets = gets;
+    })
 
 pub grouped_scans : (batch : GroupingView) → AreGrouped batch → (ops : List Op) (scans : List ℕ) → ops ≡ batch.ops → scans ≡ batch.scans → AllByRecursion (IsScanOf ops) scans
 grouped_scans batch grouped ops scans ops_are scans_are = batch_scans ops scans (scans_are ∙ grouped.scans ∙ ap (scans_from 0) (sym ops_are))

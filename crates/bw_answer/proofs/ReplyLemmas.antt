@@ -1,11 +1,14 @@
 -- The reply to an operation on one key, by the writes as of its stamp, and lists of answers.
-use Rattle.std.proofs.Common.{◌≡◌, ℕ, zero, suc, ◌+◌, ◌-◌, ◌<◌, ◌≤◌, List, [], ◌∷◌, ◌++◌, length, take, drop, get_or, slice_get, Option, Some, None, refl, sym, ap, ◌∙◌, subst, arith}
+use Rattle.std.proofs.Common.{◌≡◌, ℕ, zero, suc, ◌+◌, ◌-◌, ◌<◌, ◌≤◌, true, false, List, [], ◌∷◌, ◌++◌, length, take, drop, get_or, slice_get, Option, Some, None, refl, sym, ap, ◌∙◌, subst, arith}
 use Rattle.std.specs.Option.{option_map}
+use Rattle.std.specs.FinMap.{get as get_at}
+use Rattle.bw_key.specs.Order.{KeyBytes}
 use Rattle.std.proofs.lemmas.List.{append_assoc, append-nil, take_more, take_all, map-append}
 use Rattle.bw_model.specs.Values.{ValueBytes}
 use Rattle.bw_model.specs.Contents.{Contents}
-use Rattle.bw_model.specs.Model.{reply_of, after, replies_of, contents_after}
+use Rattle.bw_model.specs.Model.{found, reply_of, after, replies_of, contents_after}
 use Rattle.bw_model.specs.declared.operations.Op.{Op}
+use Rattle.bw_model.specs.declared.operations.Op.TheVariants.{Get, Insert, Upsert, Update, Delete, SwapIf, Scan, Rscan}
 use Rattle.bw_model.specs.declared.operations.Reply.{Reply}
 use Rattle.bw_model.specs.declared.operations.Reply.TheVariants.{Absent}
 use Rattle.bw_delta.specs.Writes.{WriteView}
@@ -14,7 +17,7 @@ use Rattle.bw_delta.specs.Rising.{HasRisingStamps}
 use Rattle.bw_delta.specs.Readings.{from_stamp}
 use Rattle.bw_delta.proofs.Readings.{all_left, resumed, left_later}
 use Rattle.bw_tree.specs.View.{contents_at}
-use Rattle.bw_group.specs.Points.{Entry, entries_of, places_of, HasRisingPlaces}
+use Rattle.bw_group.specs.Points.{Entry, entries_of, is_get, places_of, HasRisingPlaces}
 use Rattle.bw_model.specs.Model.{key_of}
 use Rattle.bw_group.specs.declared.points.Point.{Point}
 use Rattle.bw_answer.specs.declared.batch_reader.Answer.{Answer}
@@ -22,6 +25,12 @@ use Rattle.bw_answer.specs.Replies.{ReaderView, IsReadInTurn, contents_before, r
 use Rattle.bw_model.specs.Model.{IsReplyAt}
 use Rattle.bw_group.proofs.Lists.{take_to}
 use Rattle.bw_answer.proofs.ListLemmas.{drop_next}
+
+no_get : false ≡ true → ⊥
+no_get e = cc
+
+same_key : {k l : KeyBytes} → Some k ≡ Some l → k ≡ l
+same_key e = cc
 
 -- a reply of a batch
 pub reply_at : (ops : List Op) (m : Contents ValueBytes) (i : ℕ) → slice_get (replies_of ops m) i ≡ option_map (λ op. reply_of op (contents_after (take i ops) m)) (slice_get ops i)
@@ -59,6 +68,17 @@ answer_there batch q place op reply is answers =
         same : {r' : Reply} → Some r ≡ Some r' → r ≡ r'
         same e = cc
     found (r ∷ rs) (suc i) e = found rs i e
+
+-- the reply to a get is the value at its key
+pub get_replied : (op : Op) (value : Option ValueBytes) (reply : Reply) → is_get op ≡ true → reply ≡ found value → IsReplyAt op value reply
+get_replied (Get k) value reply get is = λ m key has at. is ∙ ap found (sym at) ∙ ap (λ (x : KeyBytes). found (get_at m x)) (sym (same_key has))
+get_replied (Insert k v) value reply get is = absurd (no_get get)
+get_replied (Upsert k v) value reply get is = absurd (no_get get)
+get_replied (Update k v) value reply get is = absurd (no_get get)
+get_replied (Delete k) value reply get is = absurd (no_get get)
+get_replied (SwapIf k old new) value reply get is = absurd (no_get get)
+get_replied (Scan from to most) value reply get is = absurd (no_get get)
+get_replied (Rscan from to most) value reply get is = absurd (no_get get)
 
 -- answers with those of further places behind them
 pub more_answers : (batch : ReaderView) (before answers answers' : List Answer) (places more : List ℕ) → answers ≡ before ++ answers_to batch places →

@@ -1,5 +1,5 @@
 -- A batch whose writes stand in a tree, and the replies to it.
-use Rattle.std.specs.Prelude.{◌≡◌, ℕ, ◌+◌, ◌≤◌, ◌^◌, List, [], ◌∷◌, length, map, take, Option, slice_index_or}
+use Rattle.std.specs.Prelude.{◌≡◌, ℕ, ◌+◌, ◌≤◌, ◌^◌, List, [], ◌∷◌, length, map, take, Option, Some, slice_get, slice_index_or}
 use Rattle.std.specs.List.{AllByRecursion, slice_set}
 use Rattle.std.specs.List.Sorted.{IsSortedBy}
 use Rattle.std.specs.Ordering.{is_lt}
@@ -7,7 +7,7 @@ use Rattle.std.specs.FinMap.{get}
 use Rattle.bw_key.specs.Order.{KeyBytes, key_cmp}
 use Rattle.bw_model.specs.Contents.{Contents}
 use Rattle.bw_model.specs.Values.{ValueBytes}
-use Rattle.bw_model.specs.Model.{contents_after, replies_of}
+use Rattle.bw_model.specs.Model.{IsReplyAt, contents_after, replies_of}
 use Rattle.bw_model.specs.declared.operations.Op.{Op}
 use Rattle.bw_model.specs.declared.operations.Reply.{Reply}
 use Rattle.bw_model.specs.declared.operations.Reply.TheVariants.{Absent}
@@ -15,7 +15,7 @@ use Rattle.bw_delta.specs.Writes.{WriteView}
 use Rattle.bw_delta.specs.History.{history, action_at}
 use Rattle.bw_tree.specs.View.{TreeView, contents_at}
 use Rattle.bw_group.specs.Homes.{AreHomes, HomesView}
-use Rattle.bw_group.specs.Points.{Entry, entries_at, entries_of, places_of, HasRisingPlaces, IsEntryOf}
+use Rattle.bw_group.specs.Points.{entries_at, entries_of, places_of, HasRisingPlaces, IsEntryOf, IsPointOf}
 use Rattle.bw_group.specs.declared.points.Point.{Point}
 use Rattle.bw_answer.specs.declared.batch_reader.Answer.{Answer}
 
@@ -63,8 +63,13 @@ IsReadBy tree start writes key = (stamp : ℕ) → get (contents_at tree stamp) 
 abbrev pub point_places : List Point → List ℕ
 point_places points = places_of (entries_of points)
 
+-- the reply to the operation at this place, where its key has this value
+abbrev pub IsReplyThere : List Op → ℕ → Option ValueBytes → Reply → Type 0
+IsReplyThere ops place value reply = (op : Op) → slice_get ops place ≡ Some op → IsReplyAt op value reply
+
 -- Points of a batch in the order of their keys, those of one key in the order of the batch.
-pub record ArePointsOf (ops : List Op) (points : List Entry) : Type 0 where
-  pub sorted : IsSortedBy (λ d e. is_lt (key_cmp d.0 e.0)) points
-  pub entries : AllByRecursion (IsEntryOf ops) points
-  pub rising : (key : KeyBytes) → HasRisingPlaces 0 (entries_at key points)
+pub record ArePointsOf (ops : List Op) (points : List Point) : Type 0 where
+  pub sorted : IsSortedBy (λ d e. is_lt (key_cmp d.0 e.0)) (entries_of points)
+  pub entries : AllByRecursion (IsEntryOf ops) (entries_of points)
+  pub rising : (key : KeyBytes) → HasRisingPlaces 0 (entries_at key (entries_of points))
+  pub gets : AllByRecursion (IsPointOf ops) points

@@ -2,16 +2,14 @@
 ghost use Rattle.std.specs.Prelude.{◌≡◌, ◌<◌, ◌++◌, length, IfOk, OnOk, Some, None, is_some, true, slice_get, flat_map};
 ghost use Rattle.std.specs.List.{AllByRecursion, Contains};
 ghost use Rattle.std.specs.Option.{option_copied};
-ghost use Rattle.bw_model.specs.Model.{reply_of};
 ghost use Rattle.bw_delta.specs.History.{pointed_to};
 ghost use Rattle.bw_delta.specs.Rising.{HasRisingStamps};
 ghost use Rattle.bw_tree.specs.Levels.{IsHome, row};
 ghost use Rattle.bw_tree.specs.View.{contents_at};
-ghost use Rattle.bw_group.specs.Points.{entries_of, HasRisingPlaces, IsEntryOf, IsScanOf};
-ghost use Rattle.bw_model.specs.Model.{key_of};
+ghost use Rattle.bw_group.specs.Points.{entries_of, HasRisingPlaces, IsEntryOf, IsPointOf, IsScanOf};
+ghost use Rattle.bw_model.specs.Model.{found, key_of, reply_of};
 ghost use Rattle.bw_answer.specs.Parts.{IsPartOf, places_in};
-ghost use Rattle.bw_answer.specs.Replies.{answers_to, point_places, ArePointsOf, IsReadBy};
-ghost use Rattle.bw_model.specs.Model.{IsReplyAt};
+ghost use Rattle.bw_answer.specs.Replies.{answers_to, point_places, ArePointsOf, IsReadBy, IsReplyThere};
 
 use crate::parts::Part;
 use crate::write_groups::{group_of, writes_by_key};
@@ -68,7 +66,7 @@ impl<'a> BatchReader<'a> {
         scans: &[usize],
         parts: &[Part],
     ) -> Result<Vec<Vec<Answer, Alloc>, Alloc>, Memory>
-        requires points { ArePointsOf self.now.ops (entries_of points.now) }
+        requires points { ArePointsOf self.now.ops points.now }
         requires scans { AllByRecursion (IsScanOf self.now.ops) scans.now }
         requires within { AllByRecursion (IsPartOf (length points.now) (length scans.now)) parts.now }
         ensures { let places = flat_map (places_in (point_places points.now) scans.now) parts.now in
@@ -82,7 +80,7 @@ impl<'a> BatchReader<'a> {
             .with_min_len(1)
             .map(
                 move |part: &Part| -> Result<Vec<Answer, Alloc>, Memory>
-                    requires { ArePointsOf self.now.ops (entries_of points.now)
+                    requires { ArePointsOf self.now.ops points.now
                         × AllByRecursion (IsScanOf self.now.ops) scans.now
                         × IsPartOf (length points.now) (length scans.now) part.now }
                     ensures { let places = places_in (point_places points.entry.now) scans.entry.now part.entry.now in
@@ -100,7 +98,7 @@ impl<'a> BatchReader<'a> {
         scans: &[usize],
         part: Part,
     ) -> Result<Vec<Vec<Answer, Alloc>, Alloc>, Memory>
-        requires points { ArePointsOf self.now.ops (entries_of points.now) }
+        requires points { ArePointsOf self.now.ops points.now }
         requires scans { AllByRecursion (IsScanOf self.now.ops) scans.now }
         requires within { IsPartOf (length points.now) (length scans.now) part }
         ensures { let places = places_in (point_places points.now) scans.now part in
@@ -118,7 +116,7 @@ impl<'a> BatchReader<'a> {
         scans: &[usize],
         part: Part,
     ) -> Result<Vec<Answer, Alloc>, Memory>
-        requires points { ArePointsOf self.now.ops (entries_of points.now) }
+        requires points { ArePointsOf self.now.ops points.now }
         requires scans { AllByRecursion (IsScanOf self.now.ops) scans.now }
         requires within { IsPartOf (length points.now) (length scans.now) part }
         ensures { let places = places_in (point_places points.now) scans.now part in
@@ -126,7 +124,7 @@ impl<'a> BatchReader<'a> {
     {
         let points = &points[part.points.start..part.points.end];
         let scans = &scans[part.scans.start..part.scans.end];
-        let mut answers = Vec::new(alloc);
+        let mut answers = Vec::with_capacity(alloc, points.len() + scans.len())?;
         self.answer_points(alloc, points, &mut answers)?;
         self.answer_scans(alloc, scans, &mut answers)?;
         Ok(answers)
@@ -139,7 +137,7 @@ impl<'a> BatchReader<'a> {
         points: &[Point<'_>],
         answers: &mut Vec<Answer, Alloc>,
     ) -> Result<(), Memory>
-        requires points { ArePointsOf self.now.ops (entries_of points.now) }
+        requires points { ArePointsOf self.now.ops points.now }
         ensures { OnOk result (answers.new.items ≡ answers.old.items ++ answers_to self.now (point_places points.now)) }
     {
         let mut start = 0;
@@ -162,7 +160,7 @@ impl<'a> BatchReader<'a> {
         requires leaf { Contains (row self.now.tree.levels 0) page }
         requires homes { let tree = self.now.tree in
             AllByRecursion (λ e. IsHome tree.slots tree.levels e.0 page) (entries_of points.now) }
-        requires points { ArePointsOf self.now.ops (entries_of points.now) }
+        requires points { ArePointsOf self.now.ops points.now }
         ensures { OnOk result (answers.new.items ≡ answers.old.items ++ answers_to self.now (point_places points.now)) }
     {
         self.tree.know_homes();
@@ -192,17 +190,31 @@ impl<'a> BatchReader<'a> {
         requires reads { let is_read = IsReadBy self.now.tree (option_copied start) (pointed_to writes.now) in
             AllByRecursion (λ e. is_read e.0) (entries_of points.now) }
         requires entries { AllByRecursion (IsEntryOf self.now.ops) (entries_of points.now) }
+        requires gets { AllByRecursion (IsPointOf self.now.ops) points.now }
         requires rising { HasRisingPlaces 0 (entries_of points.now) }
         ensures { OnOk result (answers.new.items ≡ answers.old.items ++ answers_to self.now (point_places points.now)) }
     {
         let mut reading = Reading::new(start, writes);
         for point in points {
-            let place = point.place;
+            let place = point.place();
             reading.advance(self.base + place as u64);
-            let reply = op_at(self.ops, place).reply_at(reading.value())?;
+            let reply = self.reply_to(point, reading.value())?;
             answers.push(Answer { place, reply })?;
         }
         Ok(())
+    }
+
+    // The reply to an operation on one key, where the key has this value. A get's is the value: that operation isn't read.
+    fn reply_to(&self, point: &Point<'_>, value: Option<&Value>) -> Result<Reply, Memory>
+        requires entry { IsEntryOf self.now.ops (point.now.key.now, point.now.place) }
+        requires get { IsPointOf self.now.ops point.now }
+        ensures { IfOk result (IsReplyThere self.now.ops point.now.place (option_copied value.entry)) }
+    {
+        if point.is_get() {
+            get_reply(value)
+        } else {
+            op_at(self.ops, point.place()).reply_at(value)
+        }
     }
 
     // Adds the answers to scans. They are in the order of the batch, so the stamps of the reads rise.
@@ -224,6 +236,16 @@ impl<'a> BatchReader<'a> {
         }
         Ok(())
     }
+}
+
+// The reply to a get.
+fn get_reply(value: Option<&Value>) -> Result<Reply, Memory>
+    ensures { IfOk result (λ reply. reply ≡ found (option_copied value.entry)) }
+{
+    Ok(match value {
+        Some(value) => Reply::Found(value.copy()?),
+        None => Reply::Absent,
+    })
 }
 
 // The reply to a scan as of a stamp.

@@ -6,10 +6,10 @@ use Rattle.std.specs.List.Sorted.{IsSortedBy}
 use Rattle.std.specs.Ordering.{is_lt}
 use Rattle.std.proofs.lemmas.List.{append-nil, append_assoc, map-append, take-append-drop, take-map, get_or_default, get_or-map, get_or-take, length-take}
 use Rattle.std.proofs.lemmas.List.Elements.{filter-append}
-use Rattle.std.proofs.lemmas.Option.{slice_get_within}
+use Rattle.std.proofs.lemmas.Option.{slice_get_within, slice_get-get_or}
 use Rattle.bw_key.specs.Order.{KeyBytes, key_cmp, key_eq, key_eq_equiv}
 use Rattle.bw_model.specs.declared.operations.Op.{Op}
-use Rattle.bw_group.specs.Points.{Entry, entry_at, scan_place, scans_from, entries_from, entries_of, entries_at, places_of, HasKey, HasRisingPlaces, IsEntryOf, IsScanOf}
+use Rattle.bw_group.specs.Points.{Entry, entry_at, scan_place, scans_from, entries_from, entries_of, entries_at, is_get, places_of, HasKey, HasRisingPlaces, IsEntryOf, IsPointOf, IsScanOf}
 use Rattle.bw_model.specs.Model.{key_of}
 use Rattle.bw_group.specs.declared.points.Point.{Point}
 use Rattle.bw_group.proofs.Lists.{part_more, all_append, all_at, all_same, in_rest, seen_rest}
@@ -216,6 +216,17 @@ without_point old new before after key n is has so more =
     nothing_more [] = refl
     nothing_more (e ∷ es) = ap (λ l. e ∷ l) (nothing_more es)
 
+-- a point that was told whether its operation is a get, and one more of them
+pub point_there : (ops : List Op) (i : ℕ) (op : Op) (p : Point) → i < length ops → op ≡ get_or ops i op → p.place ≡ i → p.is_get ≡ is_get op → IsPointOf ops p
+point_there ops i op p lt is at told =
+    ap (λ (n : ℕ). option_map is_get (slice_get ops n)) at
+    ∙ ap (option_map is_get) (slice_get-get_or ops i op lt)
+    ∙ ap (λ (o : Op). Some (is_get o)) (sym is)
+    ∙ ap (λ (b : Bool). Some b) (sym told)
+
+pub points_more : (ops : List Op) (old new : List Point) (p : Point) → new ≡ old ++ p ∷ [] → IsPointOf ops p → AllByRecursion (IsPointOf ops) old → AllByRecursion (IsPointOf ops) new
+points_more ops old new p is here all = subst (AllByRecursion (IsPointOf ops)) (sym is) (all_append (IsPointOf ops) old (p ∷ []) all (here, tt))
+
 pub group_one : (ps : List Point) (n : ℕ) (d : Point) → n < length ps → IsOfKey (get_or ps n d).key.now (take (n + 1 - n) (drop n ps))
 group_one ps n d lt =
     let p = get_or ps n d in
@@ -289,6 +300,28 @@ pub entry_key : (ops : List Op) (e : Entry) (op : Op) → IsEntryOf ops e → sl
 entry_key ops e op entry is = one (sym (ap (option_map key_of) is) ∙ entry)
   where
     one : Some (key_of op) ≡ Some (Some e.0) → key_of op ≡ Some e.0
+    one e = cc
+
+-- it, and whether it is a get
+pub record HasOp (ops : List Op) (e : Entry) : Type 0 where
+  pub op : Op
+  pub is : slice_get ops e.1 ≡ Some op
+  pub key : key_of op ≡ Some e.0
+
+pub entry_op : (ops : List Op) (e : Entry) → IsEntryOf ops e → HasOp ops e
+entry_op ops e entry = go (slice_get ops e.1) refl
+  where
+    go : (o : Option Op) → slice_get ops e.1 ≡ o → HasOp ops e
+    go None is = absurd (none (sym (ap (option_map key_of) is) ∙ entry))
+      where
+        none : ◌≡◌ {A = Option (Option KeyBytes)} None (Some (Some e.0)) → ⊥
+        none e = cc
+    go (Some op) is = record { op = op; is = is; key = entry_key ops e op entry is }
+
+pub point_get : (ops : List Op) (p : Point) (op : Op) → IsPointOf ops p → slice_get ops p.place ≡ Some op → is_get op ≡ p.is_get
+point_get ops p op told is = one (sym (ap (option_map is_get) is) ∙ told)
+  where
+    one : Some (is_get op) ≡ Some p.is_get → is_get op ≡ p.is_get
     one e = cc
 
 -- the places of entries are those of operations

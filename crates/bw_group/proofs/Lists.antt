@@ -13,6 +13,20 @@ module _ {X : Type 0} (P : X → Type 0) where
   all_at (y ∷ ys) zero x lt is a = subst P (sym is) a.0
   all_at (y ∷ ys) (suc i) x lt is a = all_at ys i x (omega arith) is a.1
 
+  -- the elements of a part
+  pub all_part : (xs : List X) (n k : ℕ) → AllByRecursion P xs → AllByRecursion P (take k (drop n xs))
+  all_part xs n k all = front k (drop n xs) (rest n xs all)
+    where
+      rest : (n : ℕ) (xs : List X) → AllByRecursion P xs → AllByRecursion P (drop n xs)
+      rest zero xs all = all
+      rest (suc n) [] all = all
+      rest (suc n) (x ∷ xs) all = rest n xs all.1
+
+      front : (k : ℕ) (xs : List X) → AllByRecursion P xs → AllByRecursion P (take k xs)
+      front zero xs all = tt
+      front (suc k) [] all = tt
+      front (suc k) (x ∷ xs) all = (all.0, front k xs all.1)
+
 pub all_same : {X : Type 0} (P Q : X → Type 0) → ((x : X) → P x → Q x) → (xs : List X) → AllByRecursion P xs → AllByRecursion Q xs
 all_same P Q so [] a = tt
 all_same P Q so (x ∷ xs) a = (so x a.0, all_same P Q so xs a.1)

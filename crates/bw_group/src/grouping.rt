@@ -1,14 +1,14 @@
 // The operations of a batch, and those that read or write one key each.
-ghost use Rattle.std.specs.Prelude.{◌≡◌, ◌<◌, ◌≤◌, false, length, IfOk, OnOk};
+ghost use Rattle.std.specs.Prelude.{◌≡◌, ◌<◌, ◌≤◌, ◌^◌, false, length, IfOk};
 ghost use Rattle.std.specs.List.{AllByRecursion};
 ghost use Rattle.std.specs.List.Sorted.{IsSortedBy};
 ghost use Rattle.std.specs.Ordering.{is_lt};
 ghost use Rattle.std.specs.Option.{option_copied};
 ghost use Rattle.bw_key.specs.Order.{key_cmp, key_eq};
-ghost use Rattle.bw_group.specs.Points.{AreGrouped, HasKey, HaveSameOfKeys};
-ghost use Rattle.bw_group.specs.Points.{entries_from, entries_in, entries_of, key_at, scans_from};
-ghost use Rattle.bw_model.specs.Model.{key_of};
+ghost use Rattle.bw_group.specs.Points.{AreGrouped, HasKey, HaveSameOfKeys, IsPointOf};
+ghost use Rattle.bw_group.specs.Points.{entries_from, entries_in, entries_of, is_get, key_at, scans_from};
 ghost use Rattle.bw_group.specs.declared.points.Point.{Point};
+ghost use Rattle.bw_model.specs.Model.{key_of};
 
 use crate::points::Point;
 use bw_key::Memory;
@@ -35,24 +35,24 @@ impl Drop for Grouping<'_> {
 }
 
 impl<'a> Model for Grouping<'a> {
-    ghost use Rattle.bw_group.specs.Points.{AreGrouped, GroupingView, grouping_view};
+    ghost use Rattle.bw_group.specs.Points.{GroupingView, IsGrouping, grouping_view};
 
     ghost Value = { GroupingView };
 
     ghost view = { λ g. grouping_view g.ops.now g.points.items g.scans.items };
 
-    ghost invariant = { λ g. AreGrouped (grouping_view g.ops.now g.points.items g.scans.items) };
+    ghost invariant = { λ g. IsGrouping g.ops.now g.points.items g.scans.items };
 }
 
 impl<'a> Grouping<'a> {
     /// Groups the operations of a batch by key, in about n log2 n comparisons of numbers for n operations, and as many
-    /// of keys for those whose keys have the same first eight bytes. It copies no key. `Memory` is answered where a list
-    /// finds none.
+    /// of keys for those whose keys have the same first eight bytes and more behind them. It copies no key. `Memory` is
+    /// answered where a list finds none.
     pub fn new(alloc: Alloc, ops: &'a [Op]) -> Result<Grouping<'a>, Memory>
+        requires { length ops.now ≤ 2 ^ 32 }
         ensures { IfOk result (λ grouping. grouping.ops ≡ ops.now) }
     {
-        let mut points = points_of(alloc, ops)?;
-        group(&mut points)?;
+        let points = grouped_points(alloc, ops)?;
         let scans = scans_of(alloc, ops)?;
         Ok(Grouping { ops, points, scans })
     }
@@ -64,10 +64,12 @@ impl<'a> Grouping<'a> {
         self.ops
     }
 
-    /// The operations on one key each, in the order of their keys. Those on one key are in the order of the batch.
+    /// The operations on one key each, in the order of their keys. Those on one key are in the order of the batch. Each
+    /// point tells whether its operation is a get.
     pub fn points(&self) -> &[Point<'a>]
         ensures points { entries_of result.now ≡ self.now.points }
         ensures grouped { AreGrouped self.now }
+        ensures gets { AllByRecursion (IsPointOf self.now.ops) result.now }
     {
         &self.points
     }
@@ -80,18 +82,39 @@ impl<'a> Grouping<'a> {
     }
 }
 
+// The points of a batch, in the order of their keys. Those of one key are in the order of the batch.
+fn grouped_points<'a>(alloc: Alloc, ops: &'a [Op]) -> Result<Vec<Point<'a>, Alloc>, Memory>
+    requires { length ops.now ≤ 2 ^ 32 }
+    ensures sorted { IfOk result (λ points. IsSortedBy (λ d e. is_lt (key_cmp d.0 e.0)) (entries_of points.items)) }
+    ensures same { IfOk result (λ points. HaveSameOfKeys (entries_of points.items) (entries_from 0 ops.now)) }
+    ensures gets { IfOk result (λ points. AllByRecursion (IsPointOf ops.now) points.items) }
+{
+    let mut points = points_of(alloc, ops)?;
+    points.sort_by(|a, b| a.by_key(b))?;
+    Ok(points)
+}
+
 // The points of a batch, in its order.
 fn points_of<'a>(alloc: Alloc, ops: &'a [Op]) -> Result<Vec<Point<'a>, Alloc>, Memory>
-    ensures { IfOk result (λ points. entries_of points.items ≡ entries_from 0 ops.now) }
+    requires { length ops.now ≤ 2 ^ 32 }
+    ensures entries { IfOk result (λ points. entries_of points.items ≡ entries_from 0 ops.now) }
+    ensures gets { IfOk result (λ points. AllByRecursion (IsPointOf ops.now) points.items) }
 {
     let mut points = Vec::with_capacity(alloc, ops.len())?;
     for (place, op) in ops.iter().enumerate() {
         match op.key() {
-            Some(key) => points.push(Point::new(key, place))?,
+            Some(key) => points.push(Point::new(key, place, is_get(op)))?,
             None => {}
         }
     }
     Ok(points)
+}
+
+// Whether an operation is a get.
+fn is_get(op: &Op) -> bool
+    ensures { result ≡ is_get op.now }
+{
+    matches!(op, Op::Get(_))
 }
 
 // The places of the operations on no key of their own, in the order of the batch.
@@ -108,17 +131,8 @@ fn scans_of(alloc: Alloc, ops: &[Op]) -> Result<Vec<usize, Alloc>, Memory>
     Ok(scans)
 }
 
-// Groups points by key, in the order of the keys. Those of one key keep their order.
-fn group(points: &mut Vec<Point<'_>, Alloc>) -> Result<(), Memory>
-    ensures grouped { OnOk result (IsSortedBy (λ d e. is_lt (key_cmp d.0 e.0)) (entries_of points.new.items)) }
-    ensures same { OnOk result (HaveSameOfKeys (entries_of points.new.items) (entries_of points.old.items)) }
-{
-    points.sort_by(|a, b| a.by_key(b))?;
-    Ok(())
-}
-
 /// Where the group of points that begins at `start` ends: at the first point behind it with another key. It costs a
-/// comparison for each point of the group, of numbers and the lengths of keys where these have eight bytes or fewer.
+/// comparison for each point of the group, of numbers alone where the keys have eight bytes or fewer.
 pub fn group_end(points: &[Point<'_>], start: usize) -> usize
     requires { start < length points.now }
     ensures more { start < result }

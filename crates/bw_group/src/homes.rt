@@ -76,7 +76,7 @@ impl Homes {
         ensures whole { result.1 < length points.now → (d : Point) →
             number_of self.now (place_at points.now result.1 d) ≢ number_of self.now (place_at points.now start d) }
     {
-        let number = self.numbers[points[start].place];
+        let number = self.numbers[points[start].place as usize];
         (self.pages[number], self.run_end(points, start, number))
     }
 
@@ -93,7 +93,7 @@ impl Homes {
             number_of self.now (place_at points.now result d) ≢ number }
     {
         for end in start + 1..points.len() {
-            if self.numbers[points[end].place] != number {
+            if self.numbers[points[end].place as usize] != number {
                 return end;
             }
         }
@@ -139,7 +139,7 @@ fn set_numbers(numbers: &mut [usize], points: &[Point<'_>], number: usize)
     ensures { numbers.new ≡ with_number numbers.old (entries_of points.now) number }
 {
     for point in points {
-        numbers[point.place] = number;
+        numbers[point.place as usize] = number;
     }
 }
 

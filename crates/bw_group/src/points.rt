@@ -1,38 +1,85 @@
 // Operations on one key each.
-ghost use Rattle.std.specs.Prelude.{◌≡◌, not, IfSome};
+ghost use Rattle.std.specs.Prelude.{◌≡◌, ◌<◌, ◌^◌, length, not, IfSome};
 ghost use Rattle.std.specs.Option.{option_copied};
 ghost use Rattle.bw_key.specs.Order.{key_cmp, key_eq};
+ghost use Rattle.bw_key.specs.Prefixes.{key_prefix, IsBytes};
 ghost use Rattle.bw_model.specs.Contents.{is_below_end};
-ghost use Rattle.bw_key.specs.Prefixes.{key_prefix};
 
 use bw_key::{Key, compare_prefixed};
 use std::cmp::Ordering;
 
-/// An operation's key, and its place in the batch.
+// So many bytes of a key are in its prefix.
+const PREFIX_LEN: u8 = 8;
+
+/// An operation on one key: the key, and the operation's place in the batch. Sorted points lie in another order than their
+/// operations, so what is asked of each one stands here, in 24 bytes, and most keys and operations aren't read for it.
 #[derive(Drop)]
 pub struct Point<'a> {
     pub key: &'a Key,
-    pub place: usize,
-    // The first bytes of the key, so that comparisons read few keys.
+    // The first bytes of the key, and how many it has.
     pub(crate) prefix: u64,
+    pub(crate) place: u32,
+    pub(crate) len: u8,
+    pub(crate) is_get: bool,
     ghost alike: { prefix ≡ key_prefix key.now },
+    ghost long: { len ≡ length key.now },
 }
 
 impl<'a> Point<'a> {
-    /// The point of a key.
-    pub(crate) fn new(key: &'a Key, place: usize) -> Point<'a>
+    /// The point of an operation on a key.
+    pub(crate) fn new(key: &'a Key, place: usize, is_get: bool) -> Point<'a>
+        requires { place < 2 ^ 32 }
         ensures key { result.key.now ≡ key.now }
         ensures place { result.place ≡ place }
+        ensures get { result.is_get ≡ is_get }
     {
-        let prefix = key.prefix();
-        Point { key, place, prefix }
+        let (prefix, len) = (key.prefix(), key.bytes().len() as u8);
+        Point {
+            key,
+            prefix,
+            place: place as u32,
+            len,
+            is_get,
+        }
+    }
+
+    /// The operation's place in the batch.
+    pub fn place(&self) -> usize
+        ensures { result ≡ self.now.place }
+    {
+        self.place as usize
+    }
+
+    /// Whether the operation is a get, whose reply is known from the value at the key alone.
+    pub fn is_get(&self) -> bool
+        ensures { result ≡ self.now.is_get }
+    {
+        self.is_get
     }
 
     /// How two points stand by their keys: most are told apart by their prefixes.
     pub(crate) fn by_key(&self, other: &Point<'_>) -> Ordering
         ensures { result ≡ key_cmp self.now.key.now other.now.key.now }
     {
-        compare_prefixed(self.key, self.prefix, other.key, other.prefix)
+        if self.prefix == other.prefix {
+            self.by_length(other)
+        } else {
+            compare_prefixed(self.key, self.prefix, other.key, other.prefix)
+        }
+    }
+
+    // How two points of one prefix stand. Where the key of one ends within it, the lengths decide, and no key is read.
+    fn by_length(&self, other: &Point<'_>) -> Ordering
+        requires { self.now.prefix ≡ other.now.prefix }
+        ensures { result ≡ key_cmp self.now.key.now other.now.key.now }
+    {
+        know_bytes(self.key);
+        know_bytes(other.key);
+        if self.len <= PREFIX_LEN || other.len <= PREFIX_LEN {
+            self.len.cmp(&other.len)
+        } else {
+            compare_prefixed(self.key, self.prefix, other.key, other.prefix)
+        }
     }
 
     /// Whether two points have different keys.
@@ -52,4 +99,12 @@ impl<'a> Point<'a> {
             None => true,
         }
     }
+}
+
+// That the bytes of a key are bytes. It does nothing.
+fn know_bytes(key: &Key)
+    ensures { IsBytes key.now }
+{
+    let bytes = key.bytes();
+    let _len = bytes.len();
 }

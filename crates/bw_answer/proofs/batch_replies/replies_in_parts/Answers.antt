@@ -15,7 +15,7 @@ use Rattle.bw_answer.proofs.Replied.{grouped_points, grouped_scans, parts_replie
 use Rattle.bw_answer.proofs.batch_replies.replies_in_parts.Goals as goal
 
 pub answer_parts-requires-clause-points : goal.answer_parts-requires-clause-points
-answer_parts-requires-clause-points g c κs within = grouped_points c.args.batch.now c.points-points.ensures.grouped _ _ c.ops.ensures c.points-points.ensures.points
+answer_parts-requires-clause-points g c κs within = grouped_points c.args.batch.now c.points-points.ensures.grouped _ _ c.ops.ensures c.points-points.ensures.points c.points-points.ensures.gets
 
 pub answer_parts-requires-clause-scans : goal.answer_parts-requires-clause-scans
 answer_parts-requires-clause-scans g c κs within = grouped_scans c.args.batch.now c.points-points.ensures.grouped _ _ c.ops.ensures c.scans-scans.ensures

@@ -1,4 +1,4 @@
-use Rattle.std.proofs.Common.{◌≡◌, false, ◌-◌, ◌<◌, ◌++◌, ℕ, List, [], take, drop, length, refl, ap, sym, subst, ◌∙◌, arith}
+use Rattle.std.proofs.Common.{◌≡◌, false, ◌-◌, ◌<◌, ◌++◌, ℕ, List, [], take, drop, length, ap, sym, subst, ◌∙◌, arith}
 use Rattle.std.specs.List.{AllByRecursion}
 use Rattle.bw_model.specs.declared.operations.Op.{Op}
 use Rattle.bw_delta.proofs.Zips.{whole}
@@ -10,6 +10,7 @@ use Rattle.bw_group.specs.Homes.{with_number}
 use Rattle.bw_group.specs.Points.{GroupingView, IsEntryOf, entries_at, entries_from, entries_of, key_at}
 use Rattle.bw_group.specs.declared.points.Point.{Point}
 use Rattle.bw_group.proofs.Entries.{part_holds, places_within}
+use Rattle.bw_group.proofs.Groups.{point_of}
 use Rattle.bw_group.proofs.RunLemmas.{later_above}
 use Rattle.bw_group.proofs.Wholes.{batch_entries}
 use Rattle.bw_group.proofs.HomeLemmas.{IsRun, all_found, none_found, run_found, with_number_length}
@@ -24,7 +25,7 @@ loop-start-init c = record {
 
 pub set_numbers-requires : goal.set_numbers-requires
 set_numbers-requires c =
-    let entries = batch_entries c.batch.inside.ops.now (entries_of c.batch.inside.points.items) c.batch.invariant.same in
+    let entries = batch_entries c.batch.inside.ops.now (entries_of c.batch.inside.points.items) c.batch.invariant.grouped.same in
     let size : length c.batch.inside.ops.now ≡ length c.deref_mut.result.now = ap (λ (v : GroupingView). length v.ops) c.batch.view_is ∙ sym c.loop-start.invariant.found.count ∙ sym (ap length c.deref_mut.ensures.value) in
     subst (λ (l : List Point). AllByRecursion (λ e. e.1 < length c.deref_mut.result.now) (entries_of (take (c.find_run-page.result.1 - c.loop-start.start) (drop c.loop-start.start l)))) (sym c.deref-in-loop-start.ensures.value)
     (places_within c.batch.inside.ops.now _ _ size (part_holds (IsEntryOf c.batch.inside.ops.now) c.batch.inside.points.items c.loop-start.start (c.find_run-page.result.1 - c.loop-start.start) entries))
@@ -41,21 +42,21 @@ loop-start-preserved c =
     let numbers' = c.set_numbers.new.numbers in
     let number = length c.loop-start.pages.items in
     let count : c.len-in-loop-start.result ≡ number = omega (arith, c.len-in-loop-start.ensures, c.loop-start.pages.ok) in
-    let any : Point = record { key = record { ref_ptr = (0, 0); now = [] }; place = 0; prefix = 0; alike = refl } in
+    let any = point_of [] 0 in
     let part = λ (l : List Point). entries_of (take (m - n) (drop n l)) in
     let here = c.deref-in-loop-start.ensures.value in
     let listed : numbers' ≡ with_number numbers (part points) number =
     c.set_numbers.ensures ∙ ap (λ (k : ℕ). with_number c.deref_mut.result.now (part c.deref-in-loop-start.result.now) k) count ∙ ap (λ (l : List Point). with_number c.deref_mut.result.now (part l) number) here ∙ ap (λ (l : List ℕ). with_number l (part points) number) c.deref_mut.ensures.value in
     let size : length numbers' ≡ length numbers = ap length listed ∙ with_number_length numbers (part points) number in
     let back : take c.loop-start.numbers.len (numbers' ++ drop (length numbers') numbers) ≡ numbers' = whole c.loop-start.numbers.len numbers' (drop (length numbers') numbers) (omega (arith, size, c.loop-start.numbers.ok)) in
-    let entries = batch_entries ops (entries_of points) c.batch.invariant.same in
+    let entries = batch_entries ops (entries_of points) c.batch.invariant.grouped.same in
     let run : IsRun c.args.tree.now c.args.batch.now.ops points n m page = record {
       more = c.find_run-page.ensures.more;
       bound = omega (arith, c.find_run-page.ensures.bound, c.deref.ensures.len, c.batch.inside.points.ok);
       there = c.find_run-page.ensures.there;
       entries = subst (λ (l : List Op). AllByRecursion (IsEntryOf l) (part points)) same (part_holds (IsEntryOf ops) points n (m - n) entries);
       at_home = subst (λ (l : List Point). AllByRecursion (λ e. IsOneHome c.args.tree.now.slots c.args.tree.now.levels e.0 page) (part l)) c.deref.ensures.value c.find_run-page.ensures.homes;
-      sorted = λ d lt. later_above points n m d c.batch.invariant.sorted (omega (arith, c.find_run-page.ensures.more)) lt;
+      sorted = λ d lt. later_above points n m d c.batch.invariant.grouped.sorted (omega (arith, c.find_run-page.ensures.more)) lt;
       whole = λ d lt. subst (λ (l : List Point). m < length l → is_below_end (high_of (slot_at c.args.tree.now.slots page)) (key_at l m d) ≡ false) c.deref.ensures.value
           (λ (h : m < length c.deref.result.now). c.find_run-page.ensures.whole h d) lt;
     } in
@@ -67,4 +68,4 @@ loop-start-preserved c =
 pub returns : goal.returns
 returns c =
     all_found c.args.tree.now c.args.batch.now.ops c.batch.inside.points.items c.loop-start.start c.loop-start.pages.items c.loop-start.numbers.items (omega (arith, c.loop-start-test.false, c.len.ensures, c.batch.inside.points.ok)) c.loop-start.invariant.found
-    (subst (λ (v : GroupingView). (key : _) → entries_at key (entries_of c.batch.inside.points.items) ≡ entries_at key (entries_from 0 v.ops)) c.batch.view_is c.batch.invariant.same)
+    (subst (λ (v : GroupingView). (key : _) → entries_at key (entries_of c.batch.inside.points.items) ≡ entries_at key (entries_from 0 v.ops)) c.batch.view_is c.batch.invariant.grouped.same)

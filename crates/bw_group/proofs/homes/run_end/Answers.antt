@@ -1,14 +1,14 @@
-use Rattle.std.proofs.Common.{T, [], refl, arith}
+use Rattle.std.proofs.Common.{T, [], arith}
 use Rattle.std.specs.Option.{option_copied}
 use Rattle.bw_model.specs.Contents.{is_below_end}
 use Rattle.bw_group.specs.Points.{Entry}
-use Rattle.bw_group.specs.declared.points.Point.{Point}
+use Rattle.bw_group.proofs.Groups.{point_of}
 use Rattle.bw_group.proofs.RunLemmas.{run_more, run_one, is_under}
 use Rattle.bw_group.proofs.homes.run_end.Goals as goal
 
 pub loop-place-init : goal.loop-place-init
 loop-place-init c =
-    let any : Point = record { key = record { ref_ptr = (0, 0); now = [] }; place = 0; prefix = 0; alike = refl } in
+    let any = point_of [] 0 in
     run_one (λ (e : Entry). T (is_below_end (option_copied c.args.end) e.0)) c.args.points.now c.args.start any c.requires.start (c.requires.first any)
 
 pub loop-place-preserved : goal.loop-place-preserved

@@ -1,13 +1,13 @@
-use Rattle.std.proofs.Common.{◌≡◌, ◌+◌, ℕ, length, slice_get, Option, sym, ap, subst, ◌∙◌, arith}
+use Rattle.std.proofs.Common.{◌≡◌, ◌+◌, ◌++◌, ◌∷◌, [], ℕ, length, Option, ap, subst, ◌∙◌, arith}
 use Rattle.std.specs.Option.{option_copied}
-use Rattle.std.specs.Prelude.{is_some}
 use Rattle.bw_model.specs.Values.{ValueBytes}
 use Rattle.bw_delta.specs.History.{pointed_to, history, action_at}
 use Rattle.bw_delta.specs.Readings.{from_stamp}
 use Rattle.bw_answer.specs.Replies.{ReaderView, IsReadBy, IsReadInTurn}
 use Rattle.bw_model.specs.Model.{IsReplyAt}
-use Rattle.bw_group.specs.Points.{Entry, entries_of, IsEntryOf}
-use Rattle.bw_group.proofs.Entries.{seen_length, entry_is, entry_holds, entry_key, place_within}
+use Rattle.bw_group.specs.Points.{Entry, entries_of, IsEntryOf, IsPointOf}
+use Rattle.bw_group.proofs.Entries.{seen_length, entry_is, entry_holds, entry_op, place_within}
+use Rattle.bw_group.proofs.Lists.{all_at}
 use Rattle.bw_answer.proofs.ReplyLemmas.{all_answering, answering_none, answer_more}
 use Rattle.bw_answer.proofs.batch_reader.BatchReader.answer_group.Goals as goal
 
@@ -24,24 +24,13 @@ overflow_add-self-inside c =
     let entry = entry_holds (IsEntryOf batch.ops) c.args.points.now c.loop-point.point-index p c.loop-point-test.true c.point-item.is c.requires.entries in
     let within = place_within batch.ops (p.key.now, p.place) entry in
     let same : length c.self.inside.ops.now ≡ length batch.ops = ap (λ (v : ReaderView). length v.ops) c.self.view_is in
-    omega (arith, within, same, c.self.invariant.fits)
+    omega (arith, within, same, c.place-place.ensures, c.self.invariant.fits)
 
-pub op_at-requires : goal.op_at-requires
-op_at-requires c =
-    let batch = c.args.self.now in
-    let p = c.point-item.result in
-    let entry = entry_holds (IsEntryOf batch.ops) c.args.points.now c.loop-point.point-index p c.loop-point-test.true c.point-item.is c.requires.entries in
-    let within = place_within batch.ops (p.key.now, p.place) entry in
-    let same : length c.self.inside.ops.now ≡ length batch.ops = ap (λ (v : ReaderView). length v.ops) c.self.view_is in
-    omega (arith, within, same)
+pub reply_to-requires-clause-entry : goal.reply_to-requires-clause-entry
+reply_to-requires-clause-entry c = entry_holds (IsEntryOf c.args.self.now.ops) c.args.points.now c.loop-point.point-index c.point-item.result c.loop-point-test.true c.point-item.is c.requires.entries
 
-pub reply_at-requires : goal.reply_at-requires
-reply_at-requires c =
-    let batch = c.args.self.now in
-    let p = c.point-item.result in
-    let entry = entry_holds (IsEntryOf batch.ops) c.args.points.now c.loop-point.point-index p c.loop-point-test.true c.point-item.is c.requires.entries in
-    let op_is = ap (λ (v : ReaderView). slice_get v.ops p.place) (sym c.self.view_is) ∙ c.op_at.ensures in
-    ap is_some (entry_key batch.ops (p.key.now, p.place) c.op_at.result.now entry op_is)
+pub reply_to-requires-clause-get : goal.reply_to-requires-clause-get
+reply_to-requires-clause-get c = all_at (IsPointOf c.args.self.now.ops) c.args.points.now c.loop-point.point-index c.point-item.result c.loop-point-test.true c.point-item.is c.requires.gets
 
 pub loop-point-preserved : goal.loop-point-preserved
 loop-point-preserved c =
@@ -51,22 +40,22 @@ loop-point-preserved c =
     let points = c.args.points.now in
     let reading = c.advance.new.self in
     let old = c.loop-point.reading in
-    let op = c.op_at.result.now in
     let start = option_copied c.args.start in
     let writes = pointed_to c.args.writes.now in
     let here : Entry = (p.key.now, p.place) in
     let entry = entry_holds (IsEntryOf batch.ops) points at p c.loop-point-test.true c.point-item.is c.requires.entries in
+    let own = entry_op batch.ops here entry in
     let reads = entry_holds (λ e. IsReadBy batch.tree start writes e.0) points at p c.loop-point-test.true c.point-item.is c.requires.reads in
-    let op_is = ap (λ (v : ReaderView). slice_get v.ops p.place) (sym c.self.view_is) ∙ c.op_at.ensures in
-    let base = ap (λ (v : ReaderView). v.base + p.place) c.self.view_is in
+    let base = ap (λ (v : ReaderView). v.base + c.place-place.result) c.self.view_is ∙ ap (λ (n : ℕ). batch.base + n) c.place-place.ensures in
     let stamp = c.advance.ensures.stamp ∙ base in
     let value = c.advance.ensures.value ∙ ap (λ (n : ℕ). history old.value (action_at old.rest) n) base in
     let rest = c.advance.ensures.rest ∙ ap (λ (n : ℕ). from_stamp n old.rest) base in
-    let reply = subst (λ (v : Option ValueBytes). IsReplyAt op v c.in_ok-reply.reply) c.value.ensures c.in_ok-reply.ensures in
+    let reply = subst (λ (v : Option ValueBytes). IsReplyAt own.op v c.in_ok-reply.reply) c.value.ensures (c.in_ok-reply.ensures own.op own.is) in
+    let added = c.in_ok-push.ensures.items ∙ ap (λ (n : ℕ). c.loop-point.answers.items ++ record { place = n; reply = c.in_ok-reply.reply } ∷ []) c.place-place.ensures in
     rw stamp
-    (answer_more batch (subst IsReadInTurn c.self.view_is c.self.invariant) start writes c.requires.stamps (entries_of points) at c.args.answers.now.items c.loop-point.answers.items c.push.new.self.items old.stamp old.value old.rest here op
+    (answer_more batch (subst IsReadInTurn c.self.view_is c.self.invariant) start writes c.requires.stamps (entries_of points) at c.args.answers.now.items c.loop-point.answers.items c.push.new.self.items old.stamp old.value old.rest here own.op
     reading.value reading.rest c.in_ok-reply.reply (omega (arith, c.loop-point-test.true, seen_length points)) here (entry_is points at p here c.loop-point-test.true c.point-item.is)
-    op_is (entry_key batch.ops here op entry op_is) reads c.loop-point.invariant value rest reply c.in_ok-push.ensures.items)
+    own.is own.key reads c.loop-point.invariant value rest reply added)
 
 pub returns : goal.returns
 returns c =

@@ -2,11 +2,11 @@ use Rattle.std.proofs.Common.{◌-◌, take, drop, sym, subst, arith}
 use Rattle.std.specs.List.{AllByRecursion}
 use Rattle.bw_tree.specs.Levels.{IsHome, IsOneHome}
 use Rattle.bw_group.specs.Homes.{HasPageAt, IsPageAt}
-use Rattle.bw_group.specs.Points.{IsEntryOf, entries_of}
+use Rattle.bw_group.specs.Points.{IsEntryOf, IsPointOf, entries_of}
 use Rattle.bw_answer.specs.Replies.{IsReadInTurn, ReaderView}
 use Rattle.bw_group.proofs.Entries.{part_holds, part_rises, part_sorted}
 use Rattle.bw_group.proofs.HomeReads.{pages_listed, run_at_home}
-use Rattle.bw_group.proofs.Lists.{all_same}
+use Rattle.bw_group.proofs.Lists.{all_part, all_same}
 use Rattle.bw_answer.proofs.GroupReads.{first_home}
 use Rattle.bw_answer.proofs.ReplyLemmas.{all_answered, answered_none, part_answered}
 use Rattle.bw_answer.proofs.batch_reader.BatchReader.answer_points.Goals as goal
@@ -43,6 +43,7 @@ answer_run-requires-clause-points c =
       sorted = part_sorted points start len c.requires.points.sorted;
       entries = part_holds (IsEntryOf c.args.self.now.ops) points start len c.requires.points.entries;
       rising = part_rises points start len c.requires.points.rising;
+      gets = all_part (IsPointOf c.args.self.now.ops) points start len c.requires.points.gets;
     }
 
 pub loop-start-init : goal.loop-start-init

@@ -7,9 +7,10 @@ use Rattle.bw_delta.specs.Batches.{writes_to}
 use Rattle.bw_delta.specs.History.{pointed_to}
 use Rattle.bw_tree.specs.Levels.{IsHome, row}
 use Rattle.bw_tree.specs.View.{TreeView}
-use Rattle.bw_group.specs.Points.{IsEntryOf, entries_of}
+use Rattle.bw_group.specs.Points.{IsEntryOf, IsPointOf, entries_of}
 use Rattle.bw_answer.specs.Replies.{IsReadBy, ReaderView}
 use Rattle.bw_group.proofs.Entries.{group_rises, part_holds}
+use Rattle.bw_group.proofs.Lists.{all_part}
 use Rattle.bw_answer.proofs.ReplyLemmas.{all_answered, answered_none, part_answered}
 use Rattle.bw_answer.proofs.GroupReads.{group_read, group_reads}
 use Rattle.bw_answer.proofs.batch_reader.BatchReader.answer_run.Goals as goal
@@ -39,6 +40,9 @@ answer_group-requires-clause-reads c =
 
 pub answer_group-requires-clause-entries : goal.answer_group-requires-clause-entries
 answer_group-requires-clause-entries c = part_holds (IsEntryOf c.args.self.now.ops) c.args.points.now c.loop-start.start (c.group_end-end.result - c.loop-start.start) c.requires.points.entries
+
+pub answer_group-requires-clause-gets : goal.answer_group-requires-clause-gets
+answer_group-requires-clause-gets c = all_part (IsPointOf c.args.self.now.ops) c.args.points.now c.loop-start.start (c.group_end-end.result - c.loop-start.start) c.requires.points.gets
 
 pub answer_group-requires-clause-rising : goal.answer_group-requires-clause-rising
 answer_group-requires-clause-rising c =

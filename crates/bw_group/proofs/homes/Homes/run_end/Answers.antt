@@ -1,14 +1,15 @@
-use Rattle.std.proofs.Common.{◌≡◌, [], refl, sym, ap, ◌∙◌, arith}
+use Rattle.std.proofs.Common.{◌≡◌, [], sym, ap, ◌∙◌, arith}
 use Rattle.bw_group.specs.Homes.{HomesView, number_of}
 use Rattle.bw_group.specs.Points.{Entry}
 use Rattle.bw_group.specs.declared.points.Point.{Point}
+use Rattle.bw_group.proofs.Groups.{point_of}
 use Rattle.bw_group.proofs.NumberLemmas.{number_read, number_there}
 use Rattle.bw_group.proofs.RunLemmas.{run_more, run_one}
 use Rattle.bw_group.proofs.homes.Homes.run_end.Goals as goal
 
 pub loop-end-init : goal.loop-end-init
 loop-end-init c =
-    let any : Point = record { key = record { ref_ptr = (0, 0); now = [] }; place = 0; prefix = 0; alike = refl } in
+    let any = point_of [] 0 in
     run_one (λ (e : Entry). number_of c.args.self.now e.1 ≡ c.args.number) c.args.points.now c.args.start any c.requires.start (c.requires.first any)
 
 pub index-requires : goal.index-requires
