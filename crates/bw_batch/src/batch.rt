@@ -39,6 +39,7 @@ pub(crate) fn run_batch<R: Threads + Sync, G: Gate>(
     gate: &G,
 ) -> Result<Answered, Memory>
     requires none { tree.old.staged ≡ None }
+    requires few { length ops.now ≤ 65536 }
     requires fits { tree.old.next + length ops.now ≤ 2 ^ 40 }
     ensures replies { IfOk result (λ answered.
         answered.replies ≡ replies_of ops.now (contents_at tree.old tree.old.next)) }

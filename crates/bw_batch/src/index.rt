@@ -238,7 +238,8 @@ impl Index {
         ops: &[Op],
         gate: &G,
     ) -> Result<Answered, Memory>
-        requires { next_stamp_of self.old + length ops.now ≤ 2 ^ 40 }
+        requires few { length ops.now ≤ 65536 }
+        requires fits { next_stamp_of self.old + length ops.now ≤ 2 ^ 40 }
         ensures replies { IfOk result (λ answered. answered.replies ≡ replies_of ops.now (contents_of self.old)) }
         ensures lost { IfOk result (λ answered.
             answered.lost ≤ pairs_of (length (writes_of (next_stamp_of self.old) ops.now))) }
