@@ -9,7 +9,7 @@ ghost use Rattle.bw_trace.specs.Counts.{HasRisenBy};
 ghost use Rattle.bw_trace.specs.Faults.{IfLine, IsOfInput};
 ghost use Rattle.clap.specs.Words.{kind_of};
 
-use crate::counting::{Counting, Front};
+use crate::counting::{Counting, Front, Operations, no_operations};
 use crate::messages::{Stats, no_memory, report};
 use crate::request::{Request, request_in};
 use bw_batch::Options;
@@ -17,7 +17,6 @@ use bw_memory::Alloc;
 use bw_trace::{FromRead, Inlet, Job, Outlet, Source, Summary, TraceFault, run_trace, status};
 use clap::error::{Error, ErrorKind};
 use std::alloc::Global;
-use std::cell::Cell;
 use std::rt::Files;
 use std::thread::Threads;
 use std::time::{Clock, Duration, Instant};
@@ -61,7 +60,7 @@ pub fn run_words<
 }
 
 // Does a job.
-fn run_request<F: Files + Threads + Clock + Sync, R: Inlet, W: Outlet, E: Outlet>(
+fn run_request<F: Files + AllocGlobal + Threads + Clock + Sync, R: Inlet, W: Outlet, E: Outlet>(
     rt: &F,
     alloc: Alloc,
     request: &Request<'_>,
@@ -102,7 +101,7 @@ fn run_request<F: Files + Threads + Clock + Sync, R: Inlet, W: Outlet, E: Outlet
 }
 
 // Does a job on a trace that is read from an input, and reports its fault, or what it was where that is asked for.
-fn run_input<F: Threads + Clock + Sync, R: Inlet, W: Outlet, E: Outlet>(
+fn run_input<F: AllocGlobal + Threads + Clock + Sync, R: Inlet, W: Outlet, E: Outlet>(
     rt: &F,
     alloc: Alloc,
     input: R,
@@ -116,7 +115,9 @@ fn run_input<F: Threads + Clock + Sync, R: Inlet, W: Outlet, E: Outlet>(
         (W.contents output.old) (W.contents output.new)
         (W.failures output.old) (W.failures output.new) }
 {
-    if request.stats {
+    if request.stats
+        && let Some(counts) = no_operations(rt.alloc())
+    {
         return run_told(
             rt,
             alloc,
@@ -126,6 +127,7 @@ fn run_input<F: Threads + Clock + Sync, R: Inlet, W: Outlet, E: Outlet>(
             options,
             request.job,
             turns,
+            counts,
         );
     }
     let outcome = run(rt, alloc, input, output, options, request.job, turns);
@@ -145,15 +147,16 @@ fn run_told<F: Threads + Clock + Sync, R: Inlet, W: Outlet, E: Outlet>(
     options: Options,
     job: Job,
     turns: u64,
+    counts: (Operations, Operations),
 ) -> u8
     ensures { IsJobOutcome result options job (R.remaining input) (W.contents output.old) (W.contents output.new)
         (W.failures output.old) (W.failures output.new) }
 {
-    let operations = Cell::new(0);
+    let (operations, shared) = counts;
     let input = Counting {
         reader: input,
         front: Front::Blank,
-        operations: &operations,
+        operations: shared,
     };
     let start = Instant::now(rt);
     let outcome = run(rt, alloc, input, output, options, job, turns);

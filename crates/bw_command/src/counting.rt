@@ -1,6 +1,18 @@
 // How many operations a trace has, counted while it is read.
 use bw_trace::{Failed, Inlet};
+use std::alloc::Global;
 use std::cell::Cell;
+use std::rc::Rc;
+
+/// A count that a reader and those who ask for it share.
+pub type Operations = Rc<Cell<u64>, Global>;
+
+/// A count of no operations, twice: for a reader, and for who asks for it. None where memory runs out.
+pub fn no_operations(global: Global) -> Option<(Operations, Operations)> {
+    let operations = Rc::new(global, Cell::new(0)).ok()?;
+    let shared = operations.clone().ok()?;
+    Some((operations, shared))
+}
 
 /// What the bytes of a line that were read so far tell of it.
 ///
@@ -50,13 +62,13 @@ fn count(front: Front, bytes: &[u8], operations: &Cell<u64>) -> Front {
 /// A reader of a trace that counts its operations. Where the trace was read to its end and no line was faulty, all were
 /// counted and nothing else was.
 #[derive(Drop)]
-pub struct Counting<'a, R: Inlet> {
+pub struct Counting<R: Inlet> {
     pub reader: R,
     pub front: Front,
-    pub operations: &'a Cell<u64>,
+    pub operations: Operations,
 }
 
-impl<R: Inlet> Inlet for Counting<'_, R> {
+impl<R: Inlet> Inlet for Counting<R> {
     ghost remaining = { λ s. R.remaining s.reader };
 
     ghost calls = { λ s. R.calls s.reader };
@@ -68,7 +80,7 @@ impl<R: Inlet> Inlet for Counting<'_, R> {
     fn read(&mut self, buffer: &mut [u8]) -> Result<usize, Failed> {
         match self.reader.read(buffer) {
             Ok(n) => {
-                self.front = count(self.front, &buffer[..n], self.operations);
+                self.front = count(self.front, &buffer[..n], &self.operations);
                 Ok(n)
             }
             Err(failed) => Err(failed),
