@@ -108,6 +108,7 @@ pub fn post<R: Abort + Threads + Sync>(
         result.closed.heads result.closed.links }
 {
     tree.stage(ops).expect(rt, "memory");
+    assert!(rt; ops.len() <= 65536);
     let grouping = Grouping::new(alloc, ops).expect(rt, "memory");
     let posting = post_all(rt, alloc, tree, &grouping, piece, 1, &OpenGate);
     posting.expect(rt, "memory")
