@@ -36,10 +36,11 @@ fn falling_gets(alloc: Alloc) -> Result<Vec<Op, Alloc>, Memory> {
 fn keys_that_begin_alike_are_in_order(rt: HostRuntime) {
     let alloc = heap(rt.alloc()).expect(&rt, "memory");
     let ops = falling_gets(alloc).expect(&rt, "memory");
+    assert_eq!(rt; ops.len(), 24);
     let batch = Grouping::new(alloc, &ops).expect(&rt, "memory");
     assert_eq!(rt; batch.points().len(), 24);
     for (at, point) in batch.points().iter().enumerate() {
         assert!(rt; point.key.bytes() == RISING[at / 2]);
-        assert_eq!(rt; point.place, 11 - at / 2 + at % 2 * 12);
+        assert_eq!(rt; point.place(), 11 - at / 2 + at % 2 * 12);
     }
 }

@@ -137,6 +137,7 @@ pub fn replies_by_parts<R: Threads + Sync>(
 
 /// The homes of a batch.
 pub fn homes_of(alloc: Alloc, tree: &Tree, ops: &[Op]) -> Result<Homes, Memory>
+    requires { length ops.now ≤ 5000 }
     ensures { IfOk result (AreHomes tree.now ops.now) }
 {
     let batch = Grouping::new(alloc, ops)?;
