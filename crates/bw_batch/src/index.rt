@@ -250,6 +250,7 @@ impl Index {
         ensures recorded { OnOk result (self.new.records
             ≡ self.old.records + length (writes_of (next_stamp_of self.old) ops.now)) }
     {
+        // No memory holds so many keys.
         if ops.len() as u64 >= u64::MAX - self.len {
             return Err(Memory);
         }

@@ -46,8 +46,8 @@ impl<'a> Model for Grouping<'a> {
 
 impl<'a> Grouping<'a> {
     /// Groups the operations of a batch by key, in about n log2 n comparisons of numbers for n operations, and as many
-    /// of keys for those whose keys have the same first eight bytes and more behind them. It copies no key. `Memory` is
-    /// answered where a list finds none.
+    /// of keys for those whose keys have the same first eight bytes and more behind them. It copies no key. A batch has at
+    /// most 2^32 operations here. `Memory` is answered where a list finds none.
     pub fn new(alloc: Alloc, ops: &'a [Op]) -> Result<Grouping<'a>, Memory>
         requires { length ops.now ≤ 2 ^ 32 }
         ensures { IfOk result (λ grouping. grouping.ops ≡ ops.now) }

@@ -50,7 +50,7 @@ impl<'a> Point<'a> {
         self.place as usize
     }
 
-    /// Whether the operation is a get, whose reply is known from the value at the key alone.
+    /// Whether the operation is a get, whose reply is the value at the key, or none.
     pub fn is_get(&self) -> bool
         ensures { result ≡ self.now.is_get }
     {

@@ -144,9 +144,15 @@ impl Key {
 
 /// The copy comes from the allocator of the key, as that of `copy`, and takes the same memory.
 impl Clone for Key {
+    ghost is_clone = { λ key copy. copy ≡ key };
+
+    ghost is_infallible = { λ key. length key ≤ 24 };
+
     fn clone(&self) -> Result<Key, AllocError> {
-        let bytes = SmallVec::from_slice(*self.bytes.allocator(), self.bytes())?;
-        Ok(Key { bytes })
+        match self.copy() {
+            Ok(key) => Ok(key),
+            Err(_) => Err(AllocError),
+        }
     }
 }
 

@@ -3,7 +3,7 @@ use crate::operations::{Op, Reply};
 use bw_key::Key;
 use std::fmt;
 
-/// The line that a trace has for it, as `upsert ada 1815` or `scan a * 10`.
+/// The line that a trace of version 2 has for it, as `upsert ada 1815` or `scan a * 10`.
 impl fmt::Display for Op {
     fn fmt<W: fmt::Write>(&self, f: &mut fmt::Formatter<W>) -> fmt::Result {
         match self {

@@ -106,9 +106,15 @@ impl Value {
 
 /// The copy comes from the allocator of the value, as that of `copy`, and takes the same memory.
 impl Clone for Value {
+    ghost is_clone = { λ value copy. copy ≡ value };
+
+    ghost is_infallible = { λ value. length value ≤ 24 };
+
     fn clone(&self) -> Result<Value, AllocError> {
-        let bytes = SmallVec::from_slice(*self.bytes.allocator(), self.bytes())?;
-        Ok(Value { bytes })
+        match self.copy() {
+            Ok(value) => Ok(value),
+            Err(_) => Err(AllocError),
+        }
     }
 }
 

@@ -1,4 +1,6 @@
 // Operations and replies as they are shown, and their clones.
+ghost use Rattle.std.specs.Prelude.{◌≤◌};
+
 use super::making::{LONG, Maker};
 use bw_fixtures::{TextOp, TextReply, was_refused};
 use bw_model::{Op, Reply};
@@ -64,7 +66,9 @@ fn a_reply_is_shown_as_it_is_printed(rt: HostRuntime) {
 }
 
 // Clones with each growth refused in turn, until none is.
-fn is_cloned<R: Abort>(make: &Maker<'_, R>, rt: &R, op: &Op, growths: u64) {
+fn is_cloned<R: Abort>(make: &Maker<'_, R>, rt: &R, op: &Op, growths: u64)
+    requires { growths ≤ 3 }
+{
     for growth in 1..=growths {
         make.alloc.refuse(growth);
         assert!(rt; op.clone().is_err());
