@@ -171,7 +171,8 @@ impl<'a> BatchReader<'a> {
             let end = group_end(points, start);
             let key = points[start].key;
             let group = &points[start..end];
-            self.answer_group(leaf.base.find(key), group_of(&writes, key), group, answers)?;
+            let found = leaf.base.find(key);
+            self.answer_group(alloc, found, group_of(&writes, key), group, answers)?;
             start = end;
         }
         Ok(())
@@ -181,7 +182,8 @@ impl<'a> BatchReader<'a> {
     // has there.
     fn answer_group<'b>(
         &self,
-        start: Option<&'b Value>,
+        alloc: Alloc,
+        start: Option<&'b [u8]>,
         writes: &'b [&'b Write],
         points: &[Point<'_>],
         answers: &mut Vec<Answer, Alloc>,
@@ -198,22 +200,27 @@ impl<'a> BatchReader<'a> {
         for point in points {
             let place = point.place();
             reading.advance(self.base + place as u64);
-            let reply = self.reply_to(point, reading.value())?;
+            let reply = self.reply_to(alloc, point, reading.value())?;
             answers.push(Answer { place, reply })?;
         }
         Ok(())
     }
 
     // The reply to an operation on one key, where the key has this value. A get's is the value: that operation isn't read.
-    fn reply_to(&self, point: &Point<'_>, value: Option<&Value>) -> Result<Reply, Memory>
+    fn reply_to(
+        &self,
+        alloc: Alloc,
+        point: &Point<'_>,
+        value: Option<&[u8]>,
+    ) -> Result<Reply, Memory>
         requires entry { IsEntryOf self.now.ops (point.now.key.now, point.now.place) }
         requires get { IsPointOf self.now.ops point.now }
         ensures { IfOk result (IsReplyThere self.now.ops point.now.place (option_copied value.entry)) }
     {
         if point.is_get() {
-            get_reply(value)
+            get_reply(alloc, value)
         } else {
-            op_at(self.ops, point.place()).reply_at(value)
+            op_at(self.ops, point.place()).reply_at(alloc, value)
         }
     }
 
@@ -239,11 +246,11 @@ impl<'a> BatchReader<'a> {
 }
 
 // The reply to a get.
-fn get_reply(value: Option<&Value>) -> Result<Reply, Memory>
+fn get_reply(alloc: Alloc, value: Option<&[u8]>) -> Result<Reply, Memory>
     ensures { IfOk result (λ reply. reply ≡ found (option_copied value.entry)) }
 {
     Ok(match value {
-        Some(value) => Reply::Found(value.copy()?),
+        Some(value) => Reply::Found(Value::from_bytes(alloc, value)?),
         None => Reply::Absent,
     })
 }

@@ -325,7 +325,8 @@ impl Index {
         self.len == 0
     }
 
-    /// All pairs, in the order of their keys.
+    /// All pairs, in the order of their keys. `Memory` is answered where a growth is refused, and where there are 2^32 bytes
+    /// of keys and values or more.
     pub fn contents(&self) -> Result<Pairs, Memory>
         ensures { IfOk result (λ pairs. pairs ≡ entries (contents_of self.now)) }
     {
@@ -362,13 +363,16 @@ impl Index {
     }
 }
 
-// The pairs of a tree from a key on. A list has fewer than the most that a scan may answer, so it is whole.
+// The pairs of a tree from a key on. A list of as many as a scan may answer at the most might not be whole. None is so
+// long, but no clause says so.
 fn pairs_from(tree: &Tree, from: &Key) -> Result<Pairs, Memory>
     ensures { IfOk result (λ pairs. pairs ≡ pairs_of_range (contents_at tree.now tree.now.next) from.now None) }
 {
     let pairs = tree.scan_at(from, None, u64::MAX, tree.next_stamp())?;
-    let whole = pairs.into_vec();
-    Ok(Pairs::from_vec(whole))
+    if pairs.len() as u64 == u64::MAX {
+        return Err(Memory);
+    }
+    Ok(pairs)
 }
 
 // Whether so many more would pass the end.

@@ -36,11 +36,12 @@ pub struct Column {
 /// Prints the picture of some columns.
 pub fn print_chart<R: Print>(rt: &R, heading: &str, by: By, columns: &[Column]) -> Result<()> {
     let wide = COLUMN.saturating_mul(columns.len() as u64);
+    let scale = scale_of(columns);
     print_head(rt, heading, wide)?;
-    print_grid(rt, wide, scale_of(columns))?;
+    print_grid(rt, wide, scale)?;
     for (place, column) in columns.iter().enumerate() {
         let left = COLUMN.saturating_mul(place as u64).saturating_add(LEFT);
-        print_column(rt, left, by, *column, scale_of(columns))?;
+        print_column(rt, left, by, *column, scale)?;
     }
     print_axes(rt, wide, by)?;
     println!(rt; "</svg>")?;
@@ -112,21 +113,35 @@ fn print_grid<R: Print>(rt: &R, wide: u64, scale: Scale) -> Result<()> {
     Ok(())
 }
 
+/// A bar of a column: whose time it is, where it stands, how long that is, and its colour.
+#[derive(Clone, Copy)]
+struct Bar {
+    owner: &'static str,
+    x: u64,
+    nanoseconds: f64,
+    fill: &'static str,
+}
+
 // Both bars of a value.
 fn print_column<R: Print>(rt: &R, left: u64, by: By, column: Column, scale: Scale) -> Result<()> {
     let Column { value, index, map } = column;
-    let words = by.words();
-    let margin = COLUMN / 2 - BAR - 2;
-    println!(rt; "<g><title>index, {words} {value}: {index:.1} ns</title>")?;
-    print_bar(rt, left.saturating_add(margin), index, scale, INDEX_FILL)?;
-    println!(rt; "<g><title>map, {words} {value}: {map:.1} ns</title>")?;
-    print_bar(
-        rt,
-        left.saturating_add(COLUMN / 2 + 2),
-        map,
-        scale,
-        MAP_FILL,
-    )?;
+    let bars = [
+        Bar {
+            owner: "index",
+            x: left.saturating_add(COLUMN / 2 - BAR - 2),
+            nanoseconds: index,
+            fill: INDEX_FILL,
+        },
+        Bar {
+            owner: "map",
+            x: left.saturating_add(COLUMN / 2 + 2),
+            nanoseconds: map,
+            fill: MAP_FILL,
+        },
+    ];
+    for bar in bars {
+        print_bar(rt, by, value, bar, scale)?;
+    }
     println!(rt;
         "<text x=\"{}\" y=\"{}\" text-anchor=\"middle\">{value}</text>",
         left.saturating_add(COLUMN / 2),
@@ -135,10 +150,18 @@ fn print_column<R: Print>(rt: &R, left: u64, by: By, column: Column, scale: Scal
     Ok(())
 }
 
-// A bar with its number above it, and the end of its group.
-fn print_bar<R: Print>(rt: &R, x: u64, nanoseconds: f64, scale: Scale, fill: &str) -> Result<()> {
+// A bar with its number above it, and with its words for a pointer that rests on it.
+fn print_bar<R: Print>(rt: &R, by: By, value: u64, bar: Bar, scale: Scale) -> Result<()> {
+    let Bar {
+        owner,
+        x,
+        nanoseconds,
+        fill,
+    } = bar;
+    let words = by.words();
     let high = scale.pixels(nanoseconds);
     let y = nearest_u64_to_f64(BOTTOM) - high;
+    println!(rt; "<g><title>{owner}, {words} {value}: {nanoseconds:.1} ns</title>")?;
     println!(rt;
         "<rect x=\"{x}\" y=\"{y:.1}\" width=\"{BAR}\" height=\"{high:.1}\" fill=\"{fill}\"/>"
     )?;

@@ -72,7 +72,7 @@ pub fn leaves_for(alloc: Alloc, keys: u64) -> Result<Vec<Leaf, Alloc>>
     let mut place = (keys.saturating_sub(1) / LEAF).min(PLACE_MAX) as u32;
     let mut low = low_of(alloc, place)?;
     let mut leaves = Vec::new(alloc);
-    let none = Pairs::from_vec(Vec::new(alloc));
+    let none = Pairs::new(alloc);
     leaves.push(Leaf::from_pairs(low.copy()?, None, None, none))?;
     while place > 0 {
         let side = Some(PageId(place));
@@ -82,7 +82,7 @@ pub fn leaves_for(alloc: Alloc, keys: u64) -> Result<Vec<Leaf, Alloc>>
         if !(low < high) {
             bail!("leaves out of order");
         }
-        let none = Pairs::from_vec(Vec::new(alloc));
+        let none = Pairs::new(alloc);
         leaves.push(Leaf::from_pairs(low.copy()?, Some(high), side, none))?;
     }
     leaves.reverse();
@@ -177,11 +177,6 @@ fn read(key: Key, kind: Kind) -> Op {
     }
 }
 
-fn push_copy(pairs: &mut Vec<(Key, Value), Alloc>, key: &Key, value: &Value) -> Result<()> {
-    pairs.push((key.copy()?, value.copy()?))?;
-    Ok(())
-}
-
 // The first pairs of a map from a key on.
 fn scanned(
     alloc: Alloc,
@@ -189,14 +184,14 @@ fn scanned(
     from: &Key,
     most: u64,
 ) -> Result<Pairs> {
-    let mut pairs = Vec::new(alloc);
+    let mut pairs = Pairs::new(alloc);
     for (key, value) in map.range(from..) {
         if pairs.len() as u64 >= most {
             break;
         }
-        push_copy(&mut pairs, key, value)?;
+        pairs.push(key.bytes(), value.bytes())?;
     }
-    Ok(Pairs::from_vec(pairs))
+    Ok(pairs)
 }
 
 /// What the map answers to a get, an upsert or a scan without an end, after which it is changed.

@@ -13,7 +13,7 @@ ghost use Rattle.bw_delta.specs.declared.deltas.Delta.TheVariants.{AddChild, Spl
 use crate::chains::Chains;
 use bw_delta::Delta;
 use bw_key::Key;
-use bw_page::{Page, PageId};
+use bw_page::{Leaf, Page, PageId, place};
 
 impl Chains {
     /// How many writes a page has over its base page; an inner page has none. It costs a walk along them, and takes no
@@ -90,7 +90,7 @@ fn count_split(sep: &Key, base: &Page) -> usize
     ensures { (bases : Bases) → (to : ℕ) → result ≡ slot_entries (change bases (Split sep.now to) (plain base.now)) }
 {
     match base {
-        Page::Leaf(leaf) => count_below(leaf.pairs(), sep),
+        Page::Leaf(leaf) => count_pairs_below(leaf, sep),
         Page::Inner(inner) => count_below(inner.children(), sep),
         Page::Gone(_) => 0,
     }
@@ -108,13 +108,20 @@ fn count_with_child(sep: &Key, base: &Page) -> usize
     }
 }
 
-// How many entries have a key below this one, in about log2 n key comparisons.
-fn count_below<V>(entries: &[(Key, V)], key: &Key) -> usize
-    requires { T (is_sorted key_cmp entries.now) }
-    ensures value { result ≡ length (below key.now entries.now) }
-    ensures bound { result ≤ length entries.now }
+// How many pairs of a leaf have a key below this one, in about log2 n key comparisons.
+fn count_pairs_below(leaf: &Leaf, key: &Key) -> usize
+    ensures { result ≡ length (below key.now leaf.now.pairs) }
 {
-    entries.partition_point(|entry| entry.0 < *key)
+    place(&leaf.pairs().all(), key)
+}
+
+// How many children have a separator below this one, in about log2 n key comparisons.
+fn count_below(children: &[(Key, PageId)], key: &Key) -> usize
+    requires { T (is_sorted key_cmp children.now) }
+    ensures value { result ≡ length (below key.now children.now) }
+    ensures bound { result ≤ length children.now }
+{
+    children.partition_point(|entry| entry.0 < *key)
 }
 
 // How many children there are with one at this separator.

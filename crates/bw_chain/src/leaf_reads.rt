@@ -16,7 +16,6 @@ use crate::leaf_chain::LeafChain;
 use bw_delta::{Delta, Write};
 use bw_key::{Key, Memory};
 use bw_memory::Alloc;
-use bw_model::Value;
 use bw_page::{Leaf, Page, PageId};
 
 impl Chains {
@@ -48,7 +47,7 @@ impl Chains {
     }
 
     /// The value at a key under the writes of a leaf's chain.
-    pub fn base_value_at(&self, head: u64, key: &Key) -> Option<&Value>
+    pub fn base_value_at(&self, head: u64, key: &Key) -> Option<&[u8]>
         requires ends { IsChain self.now head }
         requires above { EndsAbove (page_at self.now head) key.now }
         ensures { option_copied result ≡ base_of (page_at self.now head) key.now }

@@ -16,9 +16,9 @@ impl Chains {
     /// others, and a record says where the page ends now, with the right neighbour `to`. Answers the words that name the
     /// record and the new base page.
     ///
-    /// The entries that go are moved. `Memory` is answered where their list finds none, the copy of a key that is a bound,
-    /// or a place in the lists of records and of base pages, and where there are 2^32 records or 2^32 - 1 base pages; all
-    /// is as before.
+    /// The entries that go are moved, those of a leaf as blocks. `Memory` is answered where their list finds none, the copy
+    /// of a key that is a bound, or a place in the lists of records and of base pages, and where there are 2^32 records or
+    /// 2^32 - 1 base pages; all is as before.
     pub fn split(&mut self, word: u64, keep: usize, to: PageId) -> Result<(u64, u64), Memory>
         requires ends { IsChain self.old word }
         requires plain { word < floor_word }
@@ -85,7 +85,7 @@ fn cut(base: &mut Page, keep: usize) -> Result<(Key, Page), Memory>
 {
     match base {
         Page::Leaf(leaf) => {
-            let sep = leaf.pairs()[keep].0.copy()?;
+            let sep = leaf.key_at(keep)?;
             Ok((sep, Page::Leaf(leaf.cut(keep)?)))
         }
         Page::Inner(inner) => {

@@ -76,7 +76,7 @@ const AFTER: &str = "The jobs:
            A HIGH of * is no end.
   picture  writes at the end a picture of these pages to standard output, an SVG text
 
-A trace has one operation on a line. Its reply is a line too, where w is the key's value:
+A trace has one operation on a line. `run` prints its reply, where w is the key's value:
 
                       does                                   prints: with w    with none
   upsert apple 7      puts the value 7 at the key apple      was w             new
@@ -90,11 +90,11 @@ A trace has one operation on a line. Its reply is a line too, where w is the key
                       Both print `scan M`, and then M lines `key value`. An end of * is none.
   go                  ends a batch: it is run, and its replies are printed
 
-A batch that is refused prints one line, `refused long OPS MOST` or `refused memory`.
+Of a refused batch `run` prints `refused long OPS MOST` or `refused memory` alone.
 A line that begins with # is a comment.
 
-A key has 0 to 64 bytes. It is spelled by letters, digits, _, . and -, or by % and
-hexadecimal digits; % alone is the empty key. A value is a number up to
+A key has 0 to 64 bytes. It is spelled by letters, digits, _, . and -, or by % and two
+hexadecimal digits for each byte; % alone is the empty key. A value is a number up to
 18446744073709551615. Behind a first line `bw 2` it has 0 to 1024 bytes, spelled as a key.
 
 --page-min has no effect yet: no page is merged.

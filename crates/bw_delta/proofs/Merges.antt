@@ -1,14 +1,14 @@
 -- Sorted pairs, merged with writes that are sorted by key, one key further.
-use Rattle.std.proofs.Common.{◌≡◌, ℕ, ◌+◌, Bool, true, false, cond, not, T, List, [], ◌∷◌, ◌++◌, take, drop, length, Option, Some, None, refl, sym, ap, ◌∙◌, subst, append_assoc, add-one, arith, Ordering, Less, Equal, Greater}
+use Rattle.std.proofs.Common.{◌≡◌, ℕ, ◌+◌, ◌<◌, ◌==◌, get_or, Bool, true, false, cond, not, T, List, [], ◌∷◌, ◌++◌, take, drop, length, Option, Some, None, refl, sym, ap, ◌∙◌, subst, append_assoc, add-one, arith, Ordering, Less, Equal, Greater}
+use Rattle.std.proofs.lemmas.Bool.Decides.{nat_tests}
 use Rattle.std.proofs.lemmas.List.{take-append-drop}
 use Rattle.std.specs.Ordering.{is_eq, is_lt}
 use Rattle.std.specs.FinMap.{find, is_sorted}
 use Rattle.std.specs.FinMap.Entries.{below_all}
 use Rattle.bw_key.specs.Order.{KeyBytes, key_cmp, key_eq, key_ties}
 use Rattle.bw_model.specs.Actions.{effect}
-use Rattle.bw_model.specs.Lists.{Pair}
+use Rattle.bw_model.specs.Values.{Pair, ValueBytes}
 use Rattle.bw_model.specs.Sorted.{place_of}
-use Rattle.bw_model.specs.Values.{ValueBytes}
 use Rattle.bw_page.proofs.KeyLemmas.{below_trans, below_upto, cmp_self, neither_below}
 use Rattle.bw_page.proofs.Search.{same_keys}
 use Rattle.bw_page.proofs.Truths.{both_of, holds, left_of, right_of, true_holds}
@@ -284,3 +284,14 @@ no_length (e ∷ es) none = absurd (omega (arith, none))
 pub turned : (a b : Bool) → not a ≡ b → a ≡ not b
 turned true b e = ap not e
 turned false b e = ap not e
+
+-- pairs that aren't none are the first and those behind it
+pub first_of_rest : (rest : List Pair) (d : Pair) → 0 < length rest → rest ≡ get_or rest 0 d ∷ drop 1 rest
+first_of_rest [] d some = absurd (omega (arith, some))
+first_of_rest (pair ∷ rest) d some = refl
+
+pub none_left : (rest : List Pair) (r : Bool) → r ≡ (length rest == 0) → r ≡ true → rest ≡ []
+none_left rest r is none = no_length rest (grind (arith, nat_tests, is, none))
+
+pub some_left : (rest : List Pair) (r : Bool) → r ≡ (length rest == 0) → r ≡ false → 0 < length rest
+some_left rest r is some = grind (arith, nat_tests, is, some)

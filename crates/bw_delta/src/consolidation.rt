@@ -1,12 +1,12 @@
 // The pairs of a page as of a stamp.
-ghost use Rattle.std.specs.Prelude.{◌≡◌, ◌≤◌, ◌++◌, T, true, false, [], ◌∷◌, drop, length, map, filter, IfOk, OnOk, Option, Some, None, if◌then◌else◌};
+ghost use Rattle.std.specs.Prelude.{◌≡◌, ◌≤◌, ◌<◌, ◌++◌, T, true, false, [], ◌∷◌, drop, length, slice_index_or, map, filter, IfOk, OnOk, Option, Some, None, if◌then◌else◌};
 ghost use Rattle.std.specs.Option.{option_copied, option_or};
 ghost use Rattle.std.specs.FinMap.{find, is_sorted};
 ghost use Rattle.std.specs.BTreeMap as tree;
 ghost use Rattle.bw_key.specs.Order.{KeyBytes, key_cmp, key_eq};
 ghost use Rattle.bw_model.specs.Contents.{is_in_range, is_pair_in_range};
 ghost use Rattle.bw_model.specs.Actions.{effect};
-ghost use Rattle.bw_model.specs.Values.{ValueBytes};
+ghost use Rattle.bw_model.specs.Values.{Pair, ValueBytes};
 ghost use Rattle.bw_delta.specs.Batches.{writes_to};
 ghost use Rattle.bw_delta.specs.History.{history, action_at, pointed_to, HasDistinctStamps};
 ghost use Rattle.bw_delta.specs.Merging.{after_writes, is_due, AreFrom};
@@ -28,9 +28,10 @@ use std::collections::BTreeMap;
 /// smaller stamp, applied in the order of their stamps. The slice of writes may have any order.
 ///
 /// The writes of the range below the stamp are sorted by key, and merged with the pairs of one part. For m of them and n
-/// pairs that takes about m log2 m + m log2 n key comparisons, and a pair outside the range none of its own. Each pair is
-/// copied once, with the last value of its key, into a list whose memory is taken at once. Several parts and the writes
-/// go through an ordered map, in about (n + m) log2 (n + m) key comparisons, with a copy for each value that is put.
+/// pairs that takes about m log2 m + m log2 n key comparisons, and a pair outside the range none of its own. The pairs
+/// between two written keys are copied as one block, into a list whose memory is taken at once, but where a longer value
+/// stays than the last write of its key puts. Several parts and the writes go through an ordered map, in about
+/// (n + m) log2 (n + m) key comparisons, with a copy for each value that is put, and one more for each that is answered.
 /// `Memory` is answered where a list, a map or a copy finds none.
 pub fn leaf_as_of(
     alloc: Alloc,
@@ -83,7 +84,7 @@ fn parts_under_writes(
     let ordered = in_order(alloc, writes)?;
     let mut values = BTreeMap::new(alloc);
     put_parts(&mut values, parts, low, high)?;
-    put_writes(&mut values, &ordered, stamp)?;
+    put_writes(alloc, &mut values, &ordered, stamp)?;
     in_range(alloc, values, low, high)
 }
 
@@ -156,50 +157,58 @@ pub(crate) fn put_parts(
         tree.get key_cmp values.new q ≡ tree.get key_cmp values.old q) }
 {
     for part in parts.iter().rev() {
-        put_pairs(values, part.pairs(), low, high)?;
+        put_pairs(values, part, low, high)?;
     }
     Ok(())
 }
 
-// Puts the pairs whose keys are in a range in a map, of two with one key the first.
+// Puts the pairs of a leaf whose keys are in a range in a map.
 fn put_pairs(
     values: &mut BTreeMap<Key, Value, Alloc>,
-    pairs: &[(Key, Value)],
+    leaf: &Leaf,
     low: &Key,
     high: Option<&Key>,
 ) -> Result<(), Memory>
     ensures inside { OnOk result ((q : KeyBytes) → is_in_range low.now (option_copied high.entry) q ≡ true →
-        tree.get key_cmp values.new q ≡ option_or (find key_cmp q pairs.now) (tree.get key_cmp values.old q)) }
+        tree.get key_cmp values.new q ≡ option_or (find key_cmp q leaf.now.pairs) (tree.get key_cmp values.old q)) }
     ensures outside { OnOk result ((q : KeyBytes) → is_in_range low.now (option_copied high.entry) q ≡ false →
         tree.get key_cmp values.new q ≡ tree.get key_cmp values.old q) }
 {
-    for pair in pairs.iter().rev() {
-        put_pair(values, pair, low, high)?;
+    let mut left = leaf.pairs().len();
+    while left > 0 {
+        left -= 1;
+        put_pair(values, leaf, left, low, high)?;
     }
     Ok(())
 }
 
-// Puts a pair in a map, where its key is in a range.
+// Puts the pair of a leaf at a place in a map, where its key is in a range.
 fn put_pair(
     values: &mut BTreeMap<Key, Value, Alloc>,
-    pair: &(Key, Value),
+    leaf: &Leaf,
+    place: usize,
     low: &Key,
     high: Option<&Key>,
 ) -> Result<(), Memory>
-    ensures inside { OnOk result ((q : KeyBytes) → is_in_range low.now (option_copied high.entry) q ≡ true →
-        tree.get key_cmp values.new q ≡ (if key_eq q pair.now.0 then Some pair.now.1
-        else tree.get key_cmp values.old q)) }
+    requires { place < length leaf.now.pairs }
+    ensures inside { (d : Pair) → OnOk result ((q : KeyBytes) → is_in_range low.now (option_copied high.entry) q ≡ true →
+        tree.get key_cmp values.new q ≡ (if key_eq q (slice_index_or leaf.now.pairs place d).0
+        then Some (slice_index_or leaf.now.pairs place d).1 else tree.get key_cmp values.old q)) }
     ensures outside { OnOk result ((q : KeyBytes) → is_in_range low.now (option_copied high.entry) q ≡ false →
         tree.get key_cmp values.new q ≡ tree.get key_cmp values.old q) }
 {
-    if !is_within(&pair.0, low, high) {
+    let key = leaf.key_at(place)?;
+    if !is_within(&key, low, high) {
         return Ok(());
     }
-    set(values, &pair.0, Some(pair.1.copy()?))
+    let pairs = leaf.pairs();
+    let value = Value::from_bytes(pairs.allocator(), pairs.value_at(place))?;
+    set(values, &key, Some(value))
 }
 
 /// Lets the writes below a stamp have their effects, and answers how many they are.
 pub(crate) fn put_writes(
+    alloc: Alloc,
     values: &mut BTreeMap<Key, Value, Alloc>,
     writes: &[&Write],
     stamp: u64,
@@ -216,19 +225,34 @@ pub(crate) fn put_writes(
         if write.stamp >= stamp {
             return Ok(at);
         }
-        put_write(values, write)?;
+        put_write(alloc, values, write)?;
     }
     Ok(writes.len())
 }
 
 // Lets a write have its effect.
-fn put_write(values: &mut BTreeMap<Key, Value, Alloc>, write: &Write) -> Result<(), Memory>
+fn put_write(
+    alloc: Alloc,
+    values: &mut BTreeMap<Key, Value, Alloc>,
+    write: &Write,
+) -> Result<(), Memory>
     ensures { OnOk result ((q : KeyBytes) → tree.get key_cmp values.new q ≡
         (if key_eq q write.now.key then effect write.now.action (tree.get key_cmp values.old q)
         else tree.get key_cmp values.old q)) }
 {
-    let left = copied(write.action.effect(values.get(&write.key)))?;
+    let before = bytes_at(values, &write.key);
+    let left = copied(alloc, write.action.effect(before))?;
     set(values, &write.key, left)
+}
+
+// The value at a key.
+fn bytes_at<'v>(values: &'v BTreeMap<Key, Value, Alloc>, key: &Key) -> Option<&'v [u8]>
+    ensures { option_copied result ≡ tree.get key_cmp values.now key.now }
+{
+    match values.get(key) {
+        Some(value) => Some(value.bytes()),
+        None => None,
+    }
 }
 
 // Puts a value at a key, or takes it away.
@@ -262,13 +286,13 @@ fn in_range(
     ensures values { IfOk result (λ pairs. (q : KeyBytes) → find key_cmp q pairs ≡
         (if is_in_range low.now (option_copied high.entry) q then tree.get key_cmp values.entry q else None)) }
 {
-    let mut pairs = Vec::new(alloc);
+    let mut pairs = Pairs::new(alloc);
     for (key, value) in values {
         if is_within(&key, low, high) {
-            pairs.push((key, value))?;
+            pairs.push(key.bytes(), value.bytes())?;
         }
     }
-    Ok(Pairs::from_vec(pairs))
+    Ok(pairs)
 }
 
 // Whether a key is from `low` on and below `high`.

@@ -3,127 +3,129 @@ ghost use Rattle.std.specs.Prelude.{◌≡◌, ◌≤◌, ◌<◌, ◌++◌, T, 
 ghost use Rattle.std.specs.Option.{option_copied};
 ghost use Rattle.std.specs.FinMap.{find, is_sorted};
 ghost use Rattle.bw_key.specs.Order.{KeyBytes, key_cmp, key_eq};
-ghost use Rattle.bw_model.specs.Sorted.{place_of};
 ghost use Rattle.bw_delta.specs.Batches.{writes_to};
 ghost use Rattle.bw_delta.specs.History.{pointed_to};
 ghost use Rattle.bw_delta.specs.Merging.{after_writes, merged_value, with_value, AreBehind, AreCutAt, AreFrom, IsMerging};
 
-use crate::entries::push_copy;
 use crate::writes::Write;
 use bw_key::{Key, Memory};
 use bw_memory::Alloc;
-use bw_model::{Pairs, Value};
+use bw_model::{Action, Pairs, Run};
+use bw_page::place;
 
 /// What writes that are sorted by key leave of sorted pairs, those of one key one after another.
 ///
 /// For n pairs and m writes it takes up to m log2 n + 2 m key comparisons: the pairs between two written keys are copied
-/// and not compared. It copies each pair that no write changes once, and of a written key the last value, if there is
-/// one, into a list with room for n pairs and one for each written key. `Memory` is answered where that list or a copy
-/// finds none.
+/// as one block, and not compared. It copies of a written key the last value, if there is one. From the start the list has
+/// room for n pairs and one for each written key with the value of its last write, and at the end it keeps no more than it
+/// needs. `Memory` is answered where it finds none.
 pub(crate) fn merged<'a>(
     alloc: Alloc,
-    pairs: &'a [(Key, Value)],
+    pairs: Run<'a>,
     writes: &'a [&'a Write],
 ) -> Result<Pairs, Memory>
-    requires sorted { T (is_sorted key_cmp pairs.now) }
+    requires sorted { T (is_sorted key_cmp pairs) }
     requires ordered { AreFrom [] (pointed_to writes.now) }
     ensures sorted { IfOk result (λ merged. T (is_sorted key_cmp merged)) }
     ensures values { IfOk result (λ merged. (q : KeyBytes) →
-        find key_cmp q merged ≡ merged_value pairs.now (pointed_to writes.now) q) }
+        find key_cmp q merged ≡ merged_value pairs.entry (pointed_to writes.now) q) }
 {
-    let mut merged = Vec::with_capacity(alloc, pairs.len() + count_keys(writes))?;
+    let (keys, bytes) = room_for(writes);
+    let count = pairs.len().saturating_add(keys);
+    let mut merged = Pairs::with_capacity(alloc, count, pairs.byte_count().saturating_add(bytes))?;
     let mut rest = pairs;
     let mut next = 0;
     while next < writes.len() {
-        let left = push_key(&mut merged, rest, writes[next], &writes[next + 1..])?;
+        let left = push_key(&mut merged, &rest, writes[next], &writes[next + 1..])?;
         rest = left.0;
         next += 1 + left.1;
     }
-    push_copies(&mut merged, rest)?;
-    Ok(Pairs::from_vec(merged))
+    merged.extend(&rest)?;
+    merged.shrink_to_fit();
+    Ok(merged)
 }
 
-// Of how many keys writes are that are sorted by key.
-fn count_keys(writes: &[&Write]) -> usize
-    ensures { result ≤ length writes.now }
-{
-    let mut count = 0;
+// Of how many keys writes are that are sorted by key, and how many bytes these keys and the last values put there have.
+fn room_for(writes: &[&Write]) -> (usize, usize) {
+    let (mut keys, mut bytes) = (0usize, 0usize);
     for place in 0..writes.len() {
-        if is_first_of_key(writes, place) {
-            count += 1;
+        if is_last_of_key(writes, place) {
+            keys = keys.saturating_add(1);
+            bytes = bytes.saturating_add(byte_count(writes[place]));
         }
     }
-    count
+    (keys, bytes)
 }
 
-// Whether no write before this one is of its key.
-fn is_first_of_key(writes: &[&Write], place: usize) -> bool
+// Whether no write behind this one is of its key.
+fn is_last_of_key(writes: &[&Write], place: usize) -> bool
     requires { place < length writes.now }
 {
-    if place == 0 {
+    if place + 1 == writes.len() {
         return true;
     }
-    let (before, write) = (writes[place - 1], writes[place]);
-    before.key != write.key
+    let (write, next) = (writes[place], writes[place + 1]);
+    next.key != write.key
+}
+
+// How many bytes the key of a write has, and the value that it puts.
+fn byte_count(write: &Write) -> usize {
+    let value = match &write.action {
+        Action::Insert(value)
+        | Action::Upsert(value)
+        | Action::Update(value)
+        | Action::SwapIf(_, value) => value.bytes().len(),
+        Action::Delete => 0,
+    };
+    write.key.bytes().len().saturating_add(value)
 }
 
 // Adds the pairs below the key of a write, and what this write and those behind it leave at the key. It answers the pairs
 // behind the key, and how many of the other writes are of the key.
 fn push_key<'a>(
-    merged: &mut Vec<(Key, Value), Alloc>,
-    pairs: &'a [(Key, Value)],
+    merged: &mut Pairs,
+    pairs: &Run<'a>,
     first: &'a Write,
     others: &'a [&'a Write],
-) -> Result<(&'a [(Key, Value)], usize), Memory>
-    requires { IsMerging merged.old.items pairs.now (first.now ∷ pointed_to others.now) }
+) -> Result<(Run<'a>, usize), Memory>
+    requires { IsMerging merged.old pairs.now (first.now ∷ pointed_to others.now) }
     ensures merging { IfOk result (λ left.
-        IsMerging merged.new.items left.0.now (pointed_to (drop left.1 others.now))) }
+        IsMerging merged.new left.0 (pointed_to (drop left.1 others.now))) }
     ensures values { IfOk result (λ left. (q : KeyBytes) →
-        merged_value (merged.new.items ++ left.0.now) (pointed_to (drop left.1 others.now)) q
-        ≡ merged_value (merged.old.items ++ pairs.now) (first.now ∷ pointed_to others.now) q) }
+        merged_value (merged.new ++ left.0) (pointed_to (drop left.1 others.now)) q
+        ≡ merged_value (merged.old ++ pairs.now) (first.now ∷ pointed_to others.now) q) }
     ensures bound { IfOk result (λ left. left.1 ≤ length others.now) }
 {
     let (before, start, behind) = parted(pairs, &first.key);
-    push_copies(merged, before)?;
+    merged.extend(&before)?;
     let (value, count) = passed(&first.key, first.action.effect(start), others);
     push_value(merged, &first.key, value)?;
     Ok((behind, count))
 }
 
 // Cuts sorted pairs into those below a key, its value, and those behind it, in about log2 n key comparisons.
-fn parted<'a>(
-    pairs: &'a [(Key, Value)],
-    key: &Key,
-) -> (&'a [(Key, Value)], Option<&'a Value>, &'a [(Key, Value)])
+fn parted<'a>(pairs: &Run<'a>, key: &Key) -> (Run<'a>, Option<&'a [u8]>, Run<'a>)
     requires { T (is_sorted key_cmp pairs.now) }
-    ensures { AreCutAt pairs.now key.now result.0.now (option_copied result.1) result.2.now }
+    ensures { AreCutAt pairs.now key.now result.0 (option_copied result.1) result.2 }
 {
     let (before, rest) = pairs.split_at(place(pairs, key));
-    let Some((pair, behind)) = rest.split_first() else {
+    if rest.is_empty() {
         return (before, None, rest);
-    };
-    if pair.0 == *key {
-        (before, Some(&pair.1), behind)
-    } else {
-        (before, None, rest)
     }
-}
-
-// How many pairs are below a key.
-fn place(pairs: &[(Key, Value)], key: &Key) -> usize
-    requires { T (is_sorted key_cmp pairs.now) }
-    ensures value { result ≡ place_of key.now pairs.now }
-    ensures bound { result ≤ length pairs.now }
-{
-    pairs.partition_point(|pair| pair.0 < *key)
+    if rest.key_at(0) != key.bytes() {
+        return (before, None, rest);
+    }
+    let value = rest.value_at(0);
+    let (_first, behind) = rest.split_at(1);
+    (before, Some(value), behind)
 }
 
 // The value once the first writes, which are those of a key, had their effects, and how many they are.
 fn passed<'a>(
     key: &Key,
-    start: Option<&'a Value>,
+    start: Option<&'a [u8]>,
     writes: &'a [&'a Write],
-) -> (Option<&'a Value>, usize)
+) -> (Option<&'a [u8]>, usize)
     requires { AreFrom key.now (pointed_to writes.now) }
     ensures value { option_copied result.0 ≡
         after_writes (option_copied start.entry) (writes_to key.now (pointed_to writes.now)) }
@@ -142,26 +144,12 @@ fn passed<'a>(
     (value, writes.len())
 }
 
-// Adds copies of pairs.
-fn push_copies(merged: &mut Vec<(Key, Value), Alloc>, pairs: &[(Key, Value)]) -> Result<(), Memory>
-    ensures { OnOk result (merged.new.items ≡ merged.old.items ++ pairs.now) }
-{
-    for pair in pairs {
-        push_copy(merged, &pair.0, &pair.1)?;
-    }
-    Ok(())
-}
-
-// Adds a copy of the value at a key, if there is one.
-fn push_value(
-    merged: &mut Vec<(Key, Value), Alloc>,
-    key: &Key,
-    value: Option<&Value>,
-) -> Result<(), Memory>
-    ensures { OnOk result (merged.new.items ≡ merged.old.items ++ with_value key.now (option_copied value.entry) []) }
+// Adds the value at a key, if there is one.
+fn push_value(merged: &mut Pairs, key: &Key, value: Option<&[u8]>) -> Result<(), Memory>
+    ensures { OnOk result (merged.new ≡ merged.old ++ with_value key.now (option_copied value.entry) []) }
 {
     match value {
-        Some(value) => push_copy(merged, key, value),
+        Some(value) => merged.push(key.bytes(), value),
         None => Ok(()),
     }
 }

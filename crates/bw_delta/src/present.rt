@@ -12,11 +12,11 @@ ghost use Rattle.bw_delta.specs.Readings.{from_stamp};
 ghost use Rattle.bw_delta.specs.Rising.{HasRisingStamps};
 
 use crate::consolidation::{put_parts, put_writes};
-use crate::entries::Entries;
+use crate::entries::{Entries, add_back, add_front};
 use crate::writes::Write;
 use bw_key::{Key, Memory};
 use bw_memory::Alloc;
-use bw_model::Value;
+use bw_model::{Pairs, Value};
 use bw_page::Leaf;
 use std::collections::BTreeMap;
 use std::collections::btree_map::Range;
@@ -78,7 +78,7 @@ impl<'a> Present<'a> {
             return Ok((self, 0));
         }
         let mut values = self.into_map(alloc)?;
-        let passed = put_writes(&mut values, writes, stamp)?;
+        let passed = put_writes(alloc, &mut values, writes, stamp)?;
         Ok((Present::InMap(values), passed))
     }
 
@@ -88,19 +88,20 @@ impl<'a> Present<'a> {
         low: &Key,
         high: Option<&Key>,
         most: u64,
-        read: &mut Vec<(Key, Value), Alloc>,
+        read: &mut Pairs,
     ) -> Result<(), Memory>
         ensures sorted { T (is_sorted key_cmp (present_pairs self.now)) }
-        ensures kept { take (length read.old.items) read.new.items ≡ read.old.items }
-        ensures added { OnOk result (read.new.items
-            ≡ read.old.items ++ take most (filter (is_pair_in_range low.now (option_copied high.entry))
+        ensures kept { take (length read.old) read.new ≡ read.old }
+        ensures added { OnOk result (read.new
+            ≡ read.old ++ take most (filter (is_pair_in_range low.now (option_copied high.entry))
             (present_pairs self.now))) }
     {
-        let entries = match self {
-            Present::OnLeaf(leaf) => Entries::OnLeaf(leaf.between(low, high).iter()),
-            Present::InMap(values) => Entries::InMap(range(values, low, high)),
-        };
-        entries.add_copies(most, read)
+        match self {
+            Present::OnLeaf(leaf) => add_front(&leaf.between(low, high), most, read),
+            Present::InMap(values) => Entries::Rising(range(values, low, high)).add_copies(
+                most, read,
+            ),
+        }
     }
 
     /// Adds the last pairs from `low` on and below `high` to a list, the greatest key first, no more than `most` of them.
@@ -109,19 +110,20 @@ impl<'a> Present<'a> {
         low: &Key,
         high: Option<&Key>,
         most: u64,
-        read: &mut Vec<(Key, Value), Alloc>,
+        read: &mut Pairs,
     ) -> Result<(), Memory>
         ensures sorted { T (is_sorted key_cmp (present_pairs self.now)) }
-        ensures kept { take (length read.old.items) read.new.items ≡ read.old.items }
-        ensures added { OnOk result (read.new.items
-            ≡ read.old.items ++ take most (reverse (filter (is_pair_in_range low.now (option_copied high.entry))
+        ensures kept { take (length read.old) read.new ≡ read.old }
+        ensures added { OnOk result (read.new
+            ≡ read.old ++ take most (reverse (filter (is_pair_in_range low.now (option_copied high.entry))
             (present_pairs self.now)))) }
     {
-        let entries = match self {
-            Present::OnLeaf(leaf) => Entries::BackOnLeaf(leaf.between(low, high).iter().rev()),
-            Present::InMap(values) => Entries::BackInMap(range(values, low, high).rev()),
-        };
-        entries.add_copies(most, read)
+        match self {
+            Present::OnLeaf(leaf) => add_back(&leaf.between(low, high), most, read),
+            Present::InMap(values) => Entries::Falling(range(values, low, high).rev()).add_copies(
+                most, read,
+            ),
+        }
     }
 }
 

@@ -17,7 +17,7 @@ use std::marker::Model;
 #[derive(Debug, Drop)]
 pub struct Reading<'a> {
     stamp: u64,
-    value: Option<&'a Value>,
+    value: Option<&'a [u8]>,
     rest: &'a [&'a Write],
 }
 
@@ -36,7 +36,7 @@ impl<'a> Model for Reading<'a> {
 
 impl<'a> Reading<'a> {
     /// As of stamp 0, where the value is `start`. The writes are in the order of their stamps.
-    pub fn new(start: Option<&'a Value>, writes: &'a [&'a Write]) -> Reading<'a>
+    pub fn new(start: Option<&'a [u8]>, writes: &'a [&'a Write]) -> Reading<'a>
         requires { HasRisingStamps 0 (pointed_to writes.now) }
         ensures stamp { result.stamp ≡ 0 }
         ensures value { result.value ≡ option_copied start.entry }
@@ -62,7 +62,7 @@ impl<'a> Reading<'a> {
     }
 
     /// The value as of the greatest stamp so far.
-    pub fn value(&self) -> Option<&'a Value>
+    pub fn value(&self) -> Option<&'a [u8]>
         ensures { option_copied result ≡ self.now.value }
     {
         self.value
@@ -71,10 +71,10 @@ impl<'a> Reading<'a> {
 
 // The value once the writes below a stamp have had their effects, and the writes that are left.
 fn passed<'a>(
-    start: Option<&'a Value>,
+    start: Option<&'a [u8]>,
     writes: &'a [&'a Write],
     stamp: u64,
-) -> (Option<&'a Value>, &'a [&'a Write])
+) -> (Option<&'a [u8]>, &'a [&'a Write])
     requires { HasRisingStamps 0 (pointed_to writes.now) }
     ensures value { option_copied result.0 ≡ history (option_copied start.entry)
         (action_at (pointed_to writes.now)) stamp }
@@ -97,7 +97,7 @@ fn passed<'a>(
 /// where a copy or the list to sort finds none.
 pub fn value_as_of(
     alloc: Alloc,
-    start: Option<&Value>,
+    start: Option<&[u8]>,
     writes: &[&Write],
     stamp: u64,
 ) -> Result<Option<Value>, Memory>
@@ -108,15 +108,15 @@ pub fn value_as_of(
     let ordered = in_order(alloc, writes)?;
     let mut reading = Reading::new(start, &ordered);
     reading.advance(stamp);
-    copied(reading.value())
+    copied(alloc, reading.value())
 }
 
-/// The same value again, if there is one.
-pub(crate) fn copied(value: Option<&Value>) -> Result<Option<Value>, Memory>
+/// The value of these bytes, if there are any.
+pub(crate) fn copied(alloc: Alloc, value: Option<&[u8]>) -> Result<Option<Value>, Memory>
     ensures { IfOk result (λ copy. copy ≡ option_copied value.entry) }
 {
     match value {
-        Some(value) => Ok(Some(value.copy()?)),
+        Some(value) => Ok(Some(Value::from_bytes(alloc, value)?)),
         None => Ok(None),
     }
 }

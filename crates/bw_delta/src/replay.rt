@@ -15,7 +15,7 @@ use crate::reading::in_order;
 use crate::writes::Write;
 use bw_key::{Key, Memory};
 use bw_memory::Alloc;
-use bw_model::Value;
+use bw_model::Pairs;
 use bw_page::Leaf;
 use std::marker::Model;
 
@@ -122,37 +122,37 @@ impl<'a> Replay<'a> {
         })
     }
 
-    /// Adds the first pairs from `low` on and below `high` to a list, no more than `most` of them: a search, and a copy for
-    /// each pair that is added. `Memory` is answered where the list or a copy finds none.
+    /// Adds the first pairs from `low` on and below `high` to a list, no more than `most` of them: a search, and a copy of one
+    /// block on a leaf, or of each pair in a map. `Memory` is answered where the list finds none.
     pub fn add_first(
         &self,
         low: &Key,
         high: Option<&Key>,
         most: u64,
-        read: &mut Vec<(Key, Value), Alloc>,
+        read: &mut Pairs,
     ) -> Result<(), Memory>
         ensures sorted { T (is_sorted key_cmp self.now.pairs) }
-        ensures kept { take (length read.old.items) read.new.items ≡ read.old.items }
-        ensures added { OnOk result (read.new.items
-            ≡ read.old.items ++ take most (filter (is_pair_in_range low.now
+        ensures kept { take (length read.old) read.new ≡ read.old }
+        ensures added { OnOk result (read.new
+            ≡ read.old ++ take most (filter (is_pair_in_range low.now
             (option_copied high.entry)) self.now.pairs)) }
     {
         self.present.add_first(low, high, most, read)
     }
 
     /// Adds the last pairs from `low` on and below `high` to a list, the greatest key first, no more than `most` of them.
-    /// The costs are those of `add_first`.
+    /// It costs a search, and a copy of each pair that is added.
     pub fn add_last(
         &self,
         low: &Key,
         high: Option<&Key>,
         most: u64,
-        read: &mut Vec<(Key, Value), Alloc>,
+        read: &mut Pairs,
     ) -> Result<(), Memory>
         ensures sorted { T (is_sorted key_cmp self.now.pairs) }
-        ensures kept { take (length read.old.items) read.new.items ≡ read.old.items }
-        ensures added { OnOk result (read.new.items
-            ≡ read.old.items ++ take most (reverse (filter
+        ensures kept { take (length read.old) read.new ≡ read.old }
+        ensures added { OnOk result (read.new
+            ≡ read.old ++ take most (reverse (filter
             (is_pair_in_range low.now (option_copied high.entry)) self.now.pairs))) }
     {
         self.present.add_last(low, high, most, read)

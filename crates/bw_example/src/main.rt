@@ -6,7 +6,7 @@ ghost use Rattle.std.specs.FinMap.{insert};
 ghost use Rattle.bw_batch.specs.View.{contents_of};
 
 use anyhow::Result;
-use bw_batch::{Index, Key, Op, OpenGate, Options, Reply, Value};
+use bw_batch::{Index, Key, Op, OpenGate, Options, Reply, Spelled, Value};
 use bw_memory::{Alloc, Heap};
 use std::thread::Threads;
 
@@ -25,8 +25,10 @@ fn main(rt: HostRuntime) -> Result<()> {
             println!(rt; "ada was born in {year}")?;
         }
     }
-    for (name, year) in index.contents()?.as_slice() {
-        println!(rt; "{name} {year}")?;
+    let pairs = index.contents()?;
+    for place in 0..pairs.len() {
+        let (name, year) = (pairs.key_at(place), pairs.value_at(place));
+        println!(rt; "{} {}", Spelled(name), Spelled(year))?;
     }
     Ok(())
 }

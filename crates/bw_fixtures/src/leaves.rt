@@ -7,7 +7,7 @@ use bw_key::Memory;
 use bw_memory::Alloc;
 use bw_page::{Leaf, PageId};
 
-/// The leaf up to `c`, with page 1 at its right: a 1, b 2. It takes one growth, and answers `Memory` where that is
+/// The leaf up to `c`, with page 1 at its right: a 1, b 2. It takes two growths, and answers `Memory` where one of them is
 /// refused.
 pub fn up_to_c(alloc: Alloc) -> Result<Leaf, Memory>
     ensures { IfOk result (λ leaf. leaf ≡ leaf_up_to_c) }
@@ -17,7 +17,7 @@ pub fn up_to_c(alloc: Alloc) -> Result<Leaf, Memory>
     Ok(Leaf::from_pairs(low, Some(high), Some(PageId(1)), pairs))
 }
 
-/// The leaf from `c` on and below `e`, with page 2 at its right: this value at `c`. It takes one growth, and one more for
+/// The leaf from `c` on and below `e`, with page 2 at its right: this value at `c`. It takes two growths, and one more for
 /// a value of more than 24 bytes, and answers `Memory` where one of them is refused.
 pub fn from_c(alloc: Alloc, bytes: &[u8]) -> Result<Leaf, Memory>
     ensures { IfOk result (λ leaf. leaf ≡ leaf_from_c bytes.now) }
@@ -27,7 +27,7 @@ pub fn from_c(alloc: Alloc, bytes: &[u8]) -> Result<Leaf, Memory>
     Ok(Leaf::from_pairs(low, Some(high), Some(PageId(2)), pairs))
 }
 
-/// The leaf from `e` on: e 5. It takes one growth, and answers `Memory` where that is refused.
+/// The leaf from `e` on: e 5. It takes two growths, and answers `Memory` where one of them is refused.
 pub fn from_e(alloc: Alloc) -> Result<Leaf, Memory>
     ensures { IfOk result (λ leaf. leaf ≡ leaf_from_e) }
 {
@@ -35,7 +35,7 @@ pub fn from_e(alloc: Alloc) -> Result<Leaf, Memory>
     Ok(Leaf::from_pairs(key(alloc, b"e")?, None, None, pairs))
 }
 
-/// Three leaves side by side, each page at its place: a 1 and b 2; this value at `c`; e 5. They take a growth each, one for
+/// Three leaves side by side, each page at its place: a 1 and b 2; this value at `c`; e 5. They take two growths each, one for
 /// their list, and one more for a value of more than 24 bytes. `Memory` is answered where one of them is refused.
 pub fn three_leaves(alloc: Alloc, bytes: &[u8]) -> Result<Vec<Leaf, Alloc>, Memory>
     ensures { IfOk result (λ leaves. leaves.items ≡ leaf_up_to_c ∷ leaf_from_c bytes.now ∷ leaf_from_e ∷ []) }
@@ -47,7 +47,7 @@ pub fn three_leaves(alloc: Alloc, bytes: &[u8]) -> Result<Vec<Leaf, Alloc>, Memo
     Ok(leaves)
 }
 
-/// The leaf of all keys, with this value at `a`. It takes one growth, and one more for a value of more than 24 bytes, and
+/// The leaf of all keys, with this value at `a`. It takes two growths, and one more for a value of more than 24 bytes, and
 /// answers `Memory` where one of them is refused.
 pub fn leaf_of(alloc: Alloc, bytes: &[u8]) -> Result<Leaf, Memory>
     ensures { IfOk result (λ leaf. leaf ≡ whole_leaf bytes.now) }

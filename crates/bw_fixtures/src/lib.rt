@@ -16,4 +16,4 @@ pub use numbers::Random;
 pub use operations::{
     TextOp, TextPair, TextReply, are_replies, end, have_texts, is_reply, op, ops, text_pairs,
 };
-pub use pairs::{LONG, are, key, one, pair, two, value};
+pub use pairs::{LONG, are, is_run_of, key, one, pair, pairs_of, two, value};

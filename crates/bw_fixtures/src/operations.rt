@@ -95,20 +95,20 @@ pub fn ops(alloc: Alloc, texts: &[TextOp]) -> Result<Vec<Op, Alloc>, Memory> {
 
 /// The pairs of these texts. `Memory` is answered where one of them, or their list, finds none.
 pub fn text_pairs(alloc: Alloc, texts: &[TextPair]) -> Result<Pairs, Memory> {
-    let mut pairs = Vec::with_capacity(alloc, texts.len())?;
+    let mut pairs = Pairs::new(alloc);
     for (at, text) in texts {
-        pairs.push(pair(alloc, at.as_bytes(), text.as_bytes())?)?;
+        pairs.push(at.as_bytes(), text.as_bytes())?;
     }
-    Ok(Pairs::from_vec(pairs))
+    Ok(pairs)
 }
 
 /// Whether pairs have these texts.
-pub fn have_texts(pairs: &[(Key, Value)], texts: &[TextPair]) -> bool {
+pub fn have_texts(pairs: &Pairs, texts: &[TextPair]) -> bool {
     if pairs.len() != texts.len() {
         return false;
     }
-    for (pair, (at, text)) in pairs.iter().zip(texts) {
-        if pair.0.bytes() != at.as_bytes() || pair.1.bytes() != text.as_bytes() {
+    for (place, (at, text)) in texts.iter().enumerate() {
+        if pairs.key_at(place) != at.as_bytes() || pairs.value_at(place) != text.as_bytes() {
             return false;
         }
     }
@@ -125,7 +125,7 @@ pub fn is_reply(reply: &Reply, text: TextReply) -> bool {
         TextReply::New => matches!(reply, Reply::New),
         TextReply::Was(text) => matches!(reply, Reply::Was(value) if is_value(value, text)),
         TextReply::Pairs(texts) => {
-            matches!(reply, Reply::Pairs(pairs) if have_texts(pairs.as_slice(), texts))
+            matches!(reply, Reply::Pairs(pairs) if have_texts(pairs, texts))
         }
     }
 }

@@ -1,9 +1,9 @@
 // Keys, values and pairs from bytes.
-ghost use Rattle.std.specs.Prelude.{◌≡◌, ◌≤◌, [], ◌∷◌, length, IfOk, IsOk};
+ghost use Rattle.std.specs.Prelude.{◌≡◌, ◌≤◌, ◌++◌, [], ◌∷◌, length, IfOk, IsOk, OnOk};
 
 use bw_key::{Key, Memory};
 use bw_memory::Alloc;
-use bw_model::{Pairs, Value};
+use bw_model::{Pairs, Run, Value};
 
 /// Longer than a key or a value that takes no memory.
 pub const LONG: &[u8] = b"a text of more than 24 bytes";
@@ -35,27 +35,51 @@ pub fn pair(alloc: Alloc, at: &[u8], bytes: &[u8]) -> Result<(Key, Value), Memor
     Ok((key, value(alloc, bytes)?))
 }
 
-/// A list of one pair. It takes one growth, and answers `Memory` where that is refused.
+/// A list of one pair. It takes two growths, and answers `Memory` where one is refused.
 pub fn one(alloc: Alloc, pair: (Key, Value)) -> Result<Pairs, Memory>
     ensures { IfOk result (λ pairs. pairs ≡ pair ∷ []) }
 {
-    Ok(Pairs::from_vec(vec![in alloc; pair]?))
+    let mut pairs = Pairs::new(alloc);
+    push(&mut pairs, &pair)?;
+    Ok(pairs)
 }
 
-/// A list of two pairs. It takes one growth, and answers `Memory` where that is refused.
+/// A list of two pairs. Short ones take two growths; it answers `Memory` where one is refused.
 pub fn two(alloc: Alloc, first: (Key, Value), second: (Key, Value)) -> Result<Pairs, Memory>
     ensures { IfOk result (λ pairs. pairs ≡ first ∷ second ∷ []) }
 {
-    Ok(Pairs::from_vec(vec![in alloc; first, second]?))
+    let mut pairs = one(alloc, first)?;
+    push(&mut pairs, &second)?;
+    Ok(pairs)
+}
+
+/// A list of these pairs. It answers `Memory` where a growth is refused.
+pub fn pairs_of(alloc: Alloc, pairs: &[(Key, Value)]) -> Result<Pairs, Memory> {
+    let mut packed = Pairs::new(alloc);
+    for pair in pairs {
+        push(&mut packed, pair)?;
+    }
+    Ok(packed)
+}
+
+fn push(pairs: &mut Pairs, pair: &(Key, Value)) -> Result<(), Memory>
+    ensures { OnOk result (pairs.new ≡ pairs.old ++ pair.now ∷ []) }
+{
+    pairs.push(pair.0.bytes(), pair.1.bytes())
 }
 
 /// Whether pairs have these bytes.
-pub fn are(pairs: &[(Key, Value)], wanted: &[(&'static [u8], &'static [u8])]) -> bool {
-    if pairs.len() != wanted.len() {
+pub fn are(pairs: &Pairs, wanted: &[(&'static [u8], &'static [u8])]) -> bool {
+    is_run_of(&pairs.all(), wanted)
+}
+
+/// Whether the pairs of a run have these bytes.
+pub fn is_run_of(run: &Run<'_>, wanted: &[(&'static [u8], &'static [u8])]) -> bool {
+    if run.len() != wanted.len() {
         return false;
     }
-    for (pair, (key, value)) in pairs.iter().zip(wanted) {
-        if pair.0.bytes() != *key || pair.1.bytes() != *value {
+    for (place, (key, value)) in wanted.iter().enumerate() {
+        if run.key_at(place) != *key || run.value_at(place) != *value {
             return false;
         }
     }

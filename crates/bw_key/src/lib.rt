@@ -107,6 +107,18 @@ impl Key {
         Ok(Key { bytes })
     }
 
+    /// The key of bytes that a key had before, as those in a page are. It takes memory as `new` does; `Memory` is
+    /// answered for more than 64 bytes too, which no key has.
+    pub fn from_bytes(alloc: Alloc, bytes: &[u8]) -> Result<Key, Memory>
+        ensures ok { IfOk result (λ key. key ≡ bytes.now) }
+        ensures short { length bytes.now ≤ 24 → IsOk result }
+    {
+        match Key::new(alloc, bytes) {
+            Ok(key) => Ok(key),
+            Err(_) => Err(Memory),
+        }
+    }
+
     /// An equal key, from the allocator of this one. 0 to 24 bytes take no memory and always have a copy. 25 to 64
     /// bytes take one growth, and answer `Memory` where that is refused.
     pub fn copy(&self) -> Result<Key, Memory>

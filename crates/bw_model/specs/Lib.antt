@@ -1,5 +1,4 @@
 pub mod Values
-pub mod Lists
 pub mod Contents
 pub mod Codes
 pub mod Actions

@@ -13,7 +13,7 @@ mod sorted;
 mod values;
 mod verbs;
 
-pub use lists::{Pairs, Replies};
+pub use lists::Replies;
 pub use operations::{Action, Op, Reply};
 pub use outcomes::Refusal;
 pub use ranges::is_below;
@@ -22,3 +22,5 @@ pub use values::{VALUE_INLINE, VALUE_MAX, Value, ValueFault};
 
 /// Out of memory.
 pub use bw_key::Memory;
+/// Lists of keys and their values, and runs of them.
+pub use bw_packed::{Pairs, Run};

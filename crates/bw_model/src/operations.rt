@@ -6,10 +6,11 @@ ghost use Rattle.bw_model.specs.Model.{key_of, IsReplyAt};
 ghost use Rattle.bw_model.specs.Values.{ValueBytes};
 ghost use Rattle.bw_model.specs.Verbs.{IsReplyTo};
 
-use crate::lists::Pairs;
 use crate::values::Value;
 use crate::verbs::Verb;
 use bw_key::{Key, Memory};
+use bw_memory::Alloc;
+use bw_packed::Pairs;
 
 /// An operation on the index. Operations of a batch take effect in its order.
 #[derive(Clone, Debug, Drop, PartialEq, Eq)]
@@ -108,33 +109,37 @@ impl Op {
     }
 
     /// The reply to this operation where its key has the value `before`, whatever else there is. It isn't a scan.
-    /// `Memory` is answered where a copy of that value finds none.
-    pub fn reply_at(&self, before: Option<&Value>) -> Result<Reply, Memory>
+    /// `Memory` is answered where a copy of that value finds none in `alloc`.
+    pub fn reply_at(&self, alloc: Alloc, before: Option<&[u8]>) -> Result<Reply, Memory>
         requires { is_some (key_of self.now) ≡ true }
         ensures { IfOk result (IsReplyAt self.now (option_copied before.entry)) }
     {
-        self.verb().reply(before)
+        self.verb().reply(alloc, before)
     }
 }
 
 impl Action {
     /// The value that this write leaves at a key that had the value `before`. It takes no memory.
-    pub fn effect<'a>(&'a self, before: Option<&'a Value>) -> Option<&'a Value>
+    pub fn effect<'a>(&'a self, before: Option<&'a [u8]>) -> Option<&'a [u8]>
         ensures { option_copied result ≡ effect self.now (option_copied before.entry) }
     {
         match self {
             Action::Insert(value) => match before {
                 Some(held) => Some(held),
-                None => Some(value),
+                None => Some(value.bytes()),
             },
-            Action::Upsert(value) => Some(value),
+            Action::Upsert(value) => Some(value.bytes()),
             Action::Update(value) => match before {
-                Some(_) => Some(value),
+                Some(_) => Some(value.bytes()),
                 None => None,
             },
             Action::Delete => None,
             Action::SwapIf(old, new) => match before {
-                Some(held) => Some(if *held == *old { new } else { held }),
+                Some(held) => Some(if held == old.bytes() {
+                    new.bytes()
+                } else {
+                    held
+                }),
                 None => None,
             },
         }
@@ -155,10 +160,10 @@ impl Action {
     }
 
     /// The reply to this write at a key that had the value `before`. `Memory` is answered where a copy of that
-    /// value finds none.
-    pub fn answer(&self, before: Option<&Value>) -> Result<Reply, Memory>
+    /// value finds none in `alloc`.
+    pub fn answer(&self, alloc: Alloc, before: Option<&[u8]>) -> Result<Reply, Memory>
         ensures { IfOk result (λ reply. reply ≡ answer self.now (option_copied before.entry)) }
     {
-        self.verb().reply(before)
+        self.verb().reply(alloc, before)
     }
 }

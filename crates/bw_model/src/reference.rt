@@ -5,12 +5,13 @@ ghost use Rattle.std.specs.FinMap as map;
 ghost use Rattle.bw_model.specs.Contents.{set_at, first_of_range, last_of_range};
 ghost use Rattle.bw_model.specs.Model.{answer_at, written_at, found, reply_of, after, replies_of, contents_after};
 
-use crate::lists::{Pairs, Replies};
+use crate::lists::Replies;
 use crate::operations::{Action, Op, Reply};
 use crate::sorted;
 use crate::values::Value;
 use bw_key::{Key, Memory};
 use bw_memory::Alloc;
+use bw_packed::Pairs;
 use std::marker::Model;
 
 /// An ordered map from keys to values, kept as one sorted list of pairs: the plain program that says what an index
@@ -61,12 +62,11 @@ impl ReferenceMap {
     pub fn entries(&self) -> Result<Pairs, Memory>
         ensures { IfOk result (λ pairs. pairs ≡ map.entries self.now) }
     {
-        let pairs = sorted::copy_of(*self.pairs.allocator(), &self.pairs)?;
-        Ok(Pairs::from_vec(pairs))
+        sorted::packed(*self.pairs.allocator(), &self.pairs)
     }
 
     /// The value at a key. It takes no memory.
-    pub fn get(&self, key: &Key) -> Option<&Value>
+    pub fn get(&self, key: &Key) -> Option<&[u8]>
         ensures { option_copied result ≡ map.get self.now key.now }
     {
         sorted::value_at(&self.pairs, key)
@@ -76,16 +76,14 @@ impl ReferenceMap {
     pub fn scan(&self, from: &Key, to: Option<&Key>, most: u64) -> Result<Pairs, Memory>
         ensures { IfOk result (λ pairs. pairs ≡ first_of_range self.now from.now (option_copied to.entry) most) }
     {
-        let pairs = sorted::first_of(*self.pairs.allocator(), &self.pairs, from, to, most)?;
-        Ok(Pairs::from_vec(pairs))
+        sorted::first_of(*self.pairs.allocator(), &self.pairs, from, to, most)
     }
 
     /// The last pairs from the key `from` on and below `to`, the greatest key first, `most` at the most.
     pub fn rscan(&self, from: &Key, to: Option<&Key>, most: u64) -> Result<Pairs, Memory>
         ensures { IfOk result (λ pairs. pairs ≡ last_of_range self.now from.now (option_copied to.entry) most) }
     {
-        let pairs = sorted::last_of(*self.pairs.allocator(), &self.pairs, from, to, most)?;
-        Ok(Pairs::from_vec(pairs))
+        sorted::last_of(*self.pairs.allocator(), &self.pairs, from, to, most)
     }
 
     // Puts a value at a key, or takes it away.
@@ -106,10 +104,11 @@ impl ReferenceMap {
         ensures ok { OnOk result (self.new ≡ written_at self.old key.now action.now) }
         ensures err { OnErr result (self.new ≡ self.old) }
     {
+        let alloc = *self.pairs.allocator();
         let before = self.get(key);
-        let reply = action.answer(before)?;
+        let reply = action.answer(alloc, before)?;
         let left = match action.effect(before) {
-            Some(value) => Some(value.copy()?),
+            Some(value) => Some(Value::from_bytes(alloc, value)?),
             None => None,
         };
         self.set(key, left)?;
@@ -130,7 +129,10 @@ impl ReferenceMap {
         ensures { IfOk result (λ reply. reply ≡ found (map.get self.now key.now)) }
     {
         match self.get(key) {
-            Some(value) => Ok(Reply::Found(value.copy()?)),
+            Some(value) => {
+                let found = Value::from_bytes(*self.pairs.allocator(), value)?;
+                Ok(Reply::Found(found))
+            }
             None => Ok(Reply::Absent),
         }
     }

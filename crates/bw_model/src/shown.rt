@@ -1,6 +1,6 @@
 // How operations and replies are shown.
 use crate::operations::{Op, Reply};
-use bw_key::Key;
+use bw_key::{Key, Spelled};
 use std::fmt;
 
 /// The line that a trace of version 2 has for it, as `upsert ada 1815` or `scan a * 10`.
@@ -44,9 +44,10 @@ impl fmt::Display for Reply {
             Reply::New => f.write_str("new"),
             Reply::Was(value) => write!(f, "was {value}"),
             Reply::Pairs(pairs) => {
-                write!(f, "scan {}", pairs.as_slice().len())?;
-                for (key, value) in pairs.as_slice() {
-                    write!(f, "\n{key} {value}")?;
+                write!(f, "scan {}", pairs.len())?;
+                for at in 0..pairs.len() {
+                    let (key, value) = (pairs.key_at(at), pairs.value_at(at));
+                    write!(f, "\n{} {}", Spelled(key), Spelled(value))?;
                 }
                 Ok(())
             }

@@ -10,14 +10,15 @@ use crate::ranges::is_below;
 use crate::values::Value;
 use bw_key::{Key, Memory};
 use bw_memory::Alloc;
+use bw_packed::Pairs;
 
 /// The value at a key.
-pub(crate) fn value_at<'a>(pairs: &'a [(Key, Value)], key: &Key) -> Option<&'a Value>
+pub(crate) fn value_at<'a>(pairs: &'a [(Key, Value)], key: &Key) -> Option<&'a [u8]>
     ensures { option_copied result ≡ find key_cmp key.now pairs.now }
 {
     for pair in pairs {
         if *key == pair.0 {
-            return Some(&pair.1);
+            return Some(pair.1.bytes());
         }
     }
     None
@@ -73,17 +74,17 @@ fn is_within(key: &Key, from: &Key, to: Option<&Key>) -> bool
 
 /// Adds a copy of the pair, where it is in the range and the list has less than `most`.
 fn pick(
-    list: &mut Vec<(Key, Value), Alloc>,
+    list: &mut Pairs,
     pair: &(Key, Value),
     from: &Key,
     to: Option<&Key>,
     most: u64,
 ) -> Result<(), Memory>
-    ensures { OnOk result (list.new.items ≡
-        with_pick (is_pair_in_range from.now (option_copied to.entry)) most list.old.items pair.now) }
+    ensures { OnOk result (list.new ≡
+        with_pick (is_pair_in_range from.now (option_copied to.entry)) most list.old pair.now) }
 {
     if (list.len() as u64) < most && is_within(&pair.0, from, to) {
-        list.push((pair.0.copy()?, pair.1.copy()?))?;
+        list.push(pair.0.bytes(), pair.1.bytes())?;
     }
     Ok(())
 }
@@ -95,11 +96,11 @@ pub(crate) fn first_of(
     from: &Key,
     to: Option<&Key>,
     most: u64,
-) -> Result<Vec<(Key, Value), Alloc>, Memory>
-    ensures { IfOk result (λ list. list.items ≡
+) -> Result<Pairs, Memory>
+    ensures { IfOk result (λ list. list ≡
         take most (filter (is_pair_in_range from.now (option_copied to.entry)) pairs.now)) }
 {
-    let mut list = Vec::new(alloc);
+    let mut list = Pairs::new(alloc);
     for pair in pairs {
         pick(&mut list, pair, from, to, most)?;
     }
@@ -113,11 +114,11 @@ pub(crate) fn last_of(
     from: &Key,
     to: Option<&Key>,
     most: u64,
-) -> Result<Vec<(Key, Value), Alloc>, Memory>
-    ensures { IfOk result (λ list. list.items ≡
+) -> Result<Pairs, Memory>
+    ensures { IfOk result (λ list. list ≡
         take most (reverse (filter (is_pair_in_range from.now (option_copied to.entry)) pairs.now))) }
 {
-    let mut list = Vec::new(alloc);
+    let mut list = Pairs::new(alloc);
     for pair in pairs.iter().rev() {
         pick(&mut list, pair, from, to, most)?;
     }
@@ -134,6 +135,17 @@ pub(crate) fn copy_of(
     let mut copy = Vec::with_capacity(alloc, pairs.len())?;
     for pair in pairs {
         copy.push((pair.0.copy()?, pair.1.copy()?))?;
+    }
+    Ok(copy)
+}
+
+/// The same pairs again, packed.
+pub(crate) fn packed(alloc: Alloc, pairs: &[(Key, Value)]) -> Result<Pairs, Memory>
+    ensures { IfOk result (λ copy. copy ≡ pairs.now) }
+{
+    let mut copy = Pairs::new(alloc);
+    for pair in pairs {
+        copy.push(pair.0.bytes(), pair.1.bytes())?;
     }
     Ok(copy)
 }

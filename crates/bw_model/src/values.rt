@@ -75,6 +75,18 @@ impl Value {
         }
     }
 
+    /// The value of bytes that a value had before, as those in a page are. It takes memory as `new` does; `Memory` is
+    /// answered for more than 1,024 bytes too, which no value has.
+    pub fn from_bytes(alloc: Alloc, bytes: &[u8]) -> Result<Value, Memory>
+        ensures ok { IfOk result (λ value. value ≡ bytes.now) }
+        ensures short { length bytes.now ≤ 24 → IsOk result }
+    {
+        match Value::new(alloc, bytes) {
+            Ok(value) => Ok(value),
+            Err(_) => Err(Memory),
+        }
+    }
+
     /// An equal value, from the allocator of this one. Up to 24 bytes take no memory, and more take one growth; `Memory`
     /// is answered where that is refused.
     pub fn copy(&self) -> Result<Value, Memory>

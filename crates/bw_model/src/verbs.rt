@@ -6,6 +6,7 @@ ghost use Rattle.bw_model.specs.Verbs.{IsReplyTo};
 use crate::operations::Reply;
 use crate::values::Value;
 use bw_key::Memory;
+use bw_memory::Alloc;
 
 /// What an operation does at its key, as far as its reply tells it.
 #[derive(Drop)]
@@ -21,7 +22,7 @@ pub(crate) enum Verb<'a> {
 
 impl Verb<'_> {
     /// The reply at a key that had the value `before`. `Memory` is answered where a copy of that value finds none.
-    pub(crate) fn reply(self, before: Option<&Value>) -> Result<Reply, Memory>
+    pub(crate) fn reply(self, alloc: Alloc, before: Option<&[u8]>) -> Result<Reply, Memory>
         ensures { IfOk result (IsReplyTo self.entry (option_copied before.entry)) }
     {
         let Some(held) = before else {
@@ -31,7 +32,7 @@ impl Verb<'_> {
                 Verb::Get | Verb::Update | Verb::Delete | Verb::SwapIf(_) => Reply::Absent,
             });
         };
-        let held = held.copy()?;
+        let held = Value::from_bytes(alloc, held)?;
         Ok(match self {
             Verb::Get => Reply::Found(held),
             Verb::Insert => Reply::Held(held),

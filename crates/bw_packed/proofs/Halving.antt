@@ -1,7 +1,9 @@
 -- A search by halves for the end of the elements that pass a test, in a list in which these come first.
-use Rattle.std.proofs.Common.{◌≡◌, ℕ, ◌+◌, ◌-◌, ◌<◌, ◌≤◌, Bool, true, false, List, length, get_or, refl, sym, ◌∙◌, arith}
+use Rattle.std.proofs.Common.{◌≡◌, ℕ, ◌+◌, ◌-◌, ◌<◌, ◌≤◌, Bool, true, false, List, length, get_or, slice_range, refl, sym, ap, ◌∙◌, arith}
 use Rattle.std.specs.List.{AllWithin}
 use Rattle.std.specs.List.Sorted.{IsPartitionedBy}
+use Rattle.bw_packed.specs.Search.{EndsAt}
+use Rattle.bw_packed.proofs.RunLemmas.{length_run, run_at}
 
 -- Where the elements that pass come first, their end is at one of `size` elements from `base` on, or right behind these.
 pub record IsWithin {X : Type 0} (p : X → Bool) (xs : List X) (base size : ℕ) : Type 0 where
@@ -43,3 +45,33 @@ module _ {X : Type 0} (p : X → Bool) where
     front = within.front;
     behind = λ parted k d lower upper. fails_behind xs (base + half) k r d parted (omega arith) upper answers fails;
   }
+
+  -- at one element that is left, the test of it decides
+  ends_behind : (xs : List X) (base size : ℕ) (r : Bool) → IsWithin p xs base size → size ≤ 1 → Answers p xs base r → r ≡ true → EndsAt p xs (base + 1)
+  ends_behind xs base size r within last answers passes parted = (
+    (λ k d lower upper. passes_before xs k base r d parted (omega (arith, upper)) (omega (arith, within.some, within.inside)) answers passes),
+    (λ k d lower upper. within.behind parted k d (omega (arith, lower, last)) upper),
+  )
+
+  ends_there : (xs : List X) (base size : ℕ) (r : Bool) → IsWithin p xs base size → Answers p xs base r → r ≡ false → EndsAt p xs base
+  ends_there xs base size r within answers fails parted = (within.front parted, (λ k d lower upper. fails_behind xs base k r d parted lower upper answers fails))
+
+  -- what is answered of an element of a list is answered of it in a run
+  pub answers_in_run : (xs : List X) (i j n : ℕ) (r : Bool) → n < j - i → Answers p xs (i + n) r → Answers p (slice_range xs i j) n r
+  answers_in_run xs i j n r lt answers d = answers d ∙ ap p (sym (run_at xs i j n d lt))
+
+  -- of a run, by what is answered of the list
+  last_there : (xs : List X) (i j base size : ℕ) (r : Bool) → IsWithin p (slice_range xs i j) base size → i ≤ j → j ≤ length xs → Answers p xs (i + base) r →
+      Answers p (slice_range xs i j) base r
+  last_there xs i j base size r within rising inside answers =
+      answers_in_run xs i j base r (omega (arith, within.some, within.inside, length_run xs i j rising inside)) answers
+
+  pub run_ends_behind : (xs : List X) (i j base size : ℕ) (r : Bool) → IsWithin p (slice_range xs i j) base size → size ≤ 1 → i ≤ j → j ≤ length xs → Answers p xs (i + base) r → r ≡ true →
+      EndsAt p (slice_range xs i j) (base + 1)
+  run_ends_behind xs i j base size r within last rising inside answers passes =
+      ends_behind (slice_range xs i j) base size r within last (last_there xs i j base size r within rising inside answers) passes
+
+  pub run_ends_there : (xs : List X) (i j base size : ℕ) (r : Bool) → IsWithin p (slice_range xs i j) base size → i ≤ j → j ≤ length xs → Answers p xs (i + base) r → r ≡ false →
+      EndsAt p (slice_range xs i j) base
+  run_ends_there xs i j base size r within rising inside answers fails =
+      ends_there (slice_range xs i j) base size r within (last_there xs i j base size r within rising inside answers) fails

@@ -1,3 +1,5 @@
+pub mod RunLemmas
+pub mod PairsLemmas
 pub mod ListsLemmas
 pub mod Packings
 pub mod Halving

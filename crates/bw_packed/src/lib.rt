@@ -5,11 +5,13 @@
 #![tactic(auto)]
 
 mod list;
-mod packed_pairs;
+mod pairs;
+mod runs;
 mod sorted_search;
 
 pub use list::Packed;
-pub use packed_pairs::PackedPairs;
+pub use pairs::Pairs;
+pub use runs::Run;
 pub use sorted_search::Keyed;
 
 /// The most bytes of all entries of a list together: 2^32 - 1.

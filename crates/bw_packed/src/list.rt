@@ -70,6 +70,11 @@ impl<E: Copy> Packed<E> {
         })
     }
 
+    /// What the list takes its memory from.
+    pub fn allocator(&self) -> Alloc {
+        *self.bytes.allocator()
+    }
+
     /// How many entries there are.
     pub fn len(&self) -> usize
         ensures { result ≡ length self.now }

@@ -1,10 +1,11 @@
 // Sorted lists, searched by halves.
-ghost use Rattle.std.specs.Prelude.{◌≡◌, ℕ, ◌<◌, ◌≤◌, List, length, slice_index_or};
+ghost use Rattle.std.specs.Prelude.{◌≡◌, ℕ, ◌-◌, ◌<◌, ◌≤◌, List, length, slice_index_or, slice_range};
 ghost use Rattle.std.specs.Ordering.{is_lt};
-ghost use Rattle.bw_key.specs.Order.{key_cmp, key_eq};
-ghost use Rattle.bw_packed.specs.Search.{EndsAt, IsSearched};
+ghost use Rattle.bw_key.specs.Order.{key_cmp};
+ghost use Rattle.bw_packed.specs.Search.{EndsAt};
 
 use crate::list::Packed;
+use std::ops::Range;
 
 /// A tag that tells what of its entry's bytes is the entry's key.
 pub trait Keyed: Copy {
@@ -24,13 +25,17 @@ impl<E: Keyed> Packed<E> {
         self.tag_at(place).key(self.bytes_at(place))
     }
 
-    /// How many entries have a key below the given one, where these come first, in about log2 n key comparisons for n
-    /// entries.
-    pub fn place(&self, key: &[u8]) -> usize
-        ensures bound { result ≤ length self.now }
-        ensures parts { EndsAt (λ e. is_lt (key_cmp (E.key e.1 e.0) key.now)) self.now result }
+    /// How many entries of a range of places have a key below the given one, where these come first in it, in about log2 n
+    /// key comparisons for n entries.
+    pub fn place(&self, range: Range<usize>, key: &[u8]) -> usize
+        requires ordered { range.start ≤ range.end }
+        requires within { range.end ≤ length self.now }
+        ensures bound { result ≤ range.end - range.start }
+        ensures parts { EndsAt (λ e. is_lt (key_cmp (E.key e.1 e.0) key.now))
+            (slice_range self.now range.start range.end) result }
     {
-        let mut size = self.len();
+        let Range { start, end } = range;
+        let mut size = end - start;
         if size == 0 {
             return 0;
         }
@@ -38,31 +43,17 @@ impl<E: Keyed> Packed<E> {
         while size > 1 {
             let half = size / 2;
             let middle = base + half;
-            base = if self.is_below(middle, key) {
+            base = if self.is_below(start + middle, key) {
                 middle
             } else {
                 base
             };
             size -= half;
         }
-        if self.is_below(base, key) {
+        if self.is_below(start + base, key) {
             base + 1
         } else {
             base
-        }
-    }
-
-    /// The place of the entry with a key, or else, in `Err`, the place where it would stand, in about log2 n key comparisons
-    /// for n entries. Their keys rise.
-    pub fn binary_search(&self, key: &[u8]) -> Result<usize, usize>
-        ensures { IsSearched (λ e. is_lt (key_cmp (E.key e.1 e.0) key.now)) (λ e. key_eq (E.key e.1 e.0) key.now)
-            self.now result }
-    {
-        let place = self.place(key);
-        if place < self.len() && self.key_at(place) == key {
-            Ok(place)
-        } else {
-            Err(place)
         }
     }
 

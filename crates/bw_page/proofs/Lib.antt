@@ -1,3 +1,4 @@
+pub mod LeafLemmas
 pub mod Truths
 pub mod KeyLemmas
 pub mod Search

@@ -1,5 +1,5 @@
 -- Entries put among others.
-use Rattle.std.proofs.Common.{◌≡◌, ◌≢◌, ℕ, zero, suc, ◌+◌, ◌-◌, ◌<◌, ◌≤◌, true, false, cond, T, List, [], ◌∷◌, ◌++◌, length, get_or, take, drop, Option, refl, sym, ap, ◌∙◌, subst, append_assoc, add-one, arith, length-drop, Ordering}
+use Rattle.std.proofs.Common.{◌≡◌, ℕ, zero, suc, ◌+◌, ◌-◌, ◌<◌, ◌≤◌, true, false, cond, T, List, [], ◌∷◌, ◌++◌, length, get_or, take, drop, Option, refl, sym, ap, ◌∙◌, subst, append_assoc, add-one, arith, length-drop, Ordering}
 use Rattle.std.proofs.lemmas.List.{drop-drop}
 use Rattle.std.specs.List.{list_all}
 use Rattle.std.specs.Ordering.{is_lt, ordering_reverse}
@@ -9,7 +9,7 @@ use Rattle.std.specs.declared.cmp.Ordering.TheVariants.{Less, Equal, Greater}
 use Rattle.bw_key.specs.Order.{KeyBytes, key_cmp, key_cmp_total}
 use Rattle.bw_model.specs.Contents.{is_pair_in_range}
 use Rattle.bw_model.specs.Sorted.{place_of}
-use Rattle.bw_page.specs.Inners.{InnerView, IsInner}
+use Rattle.bw_page.specs.Inners.{IsInner}
 use Rattle.bw_page.specs.Merging.{AreBefore, HasAdded, put_all}
 use Rattle.bw_page.proofs.Entries.{put_inner_page, sorted_drop}
 use Rattle.bw_page.proofs.KeyLemmas.{below_trans}

@@ -1,6 +1,5 @@
 -- The entries of a range of keys in a sorted list are those between two places.
-use Rattle.std.proofs.Common.{◌≡◌, ℕ, ◌+◌, ◌-◌, Bool, true, false, cond, not, ◌&&◌, List, [], ◌∷◌, drop, take, length, length-drop, filter, Some, None, T, refl, sym, ap, ◌∙◌, add-one, arith}
-use Rattle.std.proofs.lemmas.List.{take_all}
+use Rattle.std.proofs.Common.{◌≡◌, ◌+◌, Bool, true, false, cond, not, ◌&&◌, List, [], ◌∷◌, drop, take, filter, Some, None, T, refl, sym, ap, ◌∙◌, add-one}
 use Rattle.std.specs.Ordering.{is_lt}
 use Rattle.std.specs.FinMap.{is_sorted}
 use Rattle.std.specs.FinMap.Entries.{below_all}
@@ -67,10 +66,6 @@ module _ {X : Type 0} where
           cond b (e ∷ filter (is_before q) es) (filter (is_before q) es) ≡ take (cond b (place_of q es + 1) 0) (e ∷ es)
       step more true is = ap (λ xs. e ∷ xs) more ∙ ap (λ n. take n (e ∷ es)) (sym (add-one (place_of q es)))
       step more false is = none_before q e.0 es is (true_holds _ (both _ _ h).0)
-
-  -- a slice from a place on
-  pub rest_of : (n : ℕ) (es : List (KeyBytes × X)) → take (length es - n) (drop n es) ≡ drop n es
-  rest_of n es = take_all (length es - n) (drop n es) (omega (arith, length-drop n es))
 
   pub range_from : (low : KeyBytes) (es : List (KeyBytes × X)) → T (is_sorted key_cmp es) → filter (is_pair_in_range low None) es ≡ drop (place_of low es) es
   range_from low es h = sym (filter_filter (is_from low) (λ e. true) es) ∙ filter_always (filter (is_from low) es) ∙ from_place low es h

@@ -163,6 +163,14 @@ find_there_at {X} q es n x y at lt is same = ap (λ (z : KeyBytes × X). Some z.
 pub find_missing_at : {X : Type 0} (q : KeyBytes) (es : List (KeyBytes × X)) (n : ℕ) → n ≡ place_of q es → T (is_sorted key_cmp es) → Misses q es n → None ≡ find key_cmp q es
 find_missing_at {X} q es n at sorted other = sym (find_missing q es sorted (subst (Misses {X = X} q es) at other))
 
+-- the entry that is read at a place, at any default
+pub read_at : {X : Type 0} (es : List (KeyBytes × X)) (n : ℕ) (d : KeyBytes × X) → n < length es → get_or es n d ≡ get_or es n (get_or es n d)
+read_at es n d lt = get_or_default es n d (get_or es n d) lt
+
+-- what a comparison of bytes says of the entry whose key they are
+pub reads_key : {X : Type 0} (q : KeyBytes) (x : KeyBytes × X) (k p : KeyBytes) (r b : Bool) → k ≡ x.0 → p ≡ q → r ≡ key_eq k p → r ≡ b → key_eq x.0 q ≡ b
+reads_key q x k p r b key_is is answers taken = ap (λ (y : KeyBytes). key_eq y q) (sym key_is) ∙ ap (key_eq k) (sym is) ∙ sym answers ∙ taken
+
 -- whether an entry's key is below another
 abbrev pub is_before : {X : Type 0} → KeyBytes → KeyBytes × X → Bool
 is_before q e = is_lt (key_cmp e.0 q)

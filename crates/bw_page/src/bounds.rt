@@ -70,12 +70,13 @@ impl Bounds {
         }
     }
 
-    /// Bounds that begin at this key, and end where these do. `Memory` is answered where a copy of a key finds none.
-    pub(crate) fn with_low(&self, low: &Key) -> Result<Bounds, Memory>
-        ensures { IfOk result (λ bounds. bounds ≡ record self.now { low = low.now }) }
+    /// Bounds that begin at this key, and end where these do. `Memory` is answered where a copy of their end finds
+    /// none.
+    pub(crate) fn with_low(&self, low: Key) -> Result<Bounds, Memory>
+        ensures { IfOk result (λ bounds. bounds ≡ record self.now { low = low }) }
     {
         Ok(Bounds {
-            low: low.copy()?,
+            low,
             high: sorted_entries::copy_end(&self.high)?,
             side: self.side,
         })

@@ -145,7 +145,7 @@ impl Inner {
     {
         Ok(Inner {
             level: self.level,
-            bounds: self.bounds.with_low(&self.children[keep].0)?,
+            bounds: self.bounds.with_low(self.children[keep].0.copy()?)?,
             children: sorted_entries::copy_from(*self.children.allocator(), &self.children, keep)?,
         })
     }
@@ -164,7 +164,7 @@ impl Inner {
         ensures kept { OnOk result (self.new ≡ lower_inner self.old keep) }
         ensures err { OnErr result (self.new ≡ self.old) }
     {
-        let bounds = self.bounds.with_low(&self.children[keep].0)?;
+        let bounds = self.bounds.with_low(self.children[keep].0.copy()?)?;
         let children = sorted_entries::cut(&mut self.children, keep)?;
         Ok(Inner {
             level: self.level,
@@ -193,7 +193,7 @@ impl Inner {
     {
         Ok(Inner {
             level: self.level,
-            bounds: right.bounds.with_low(self.bounds.low())?,
+            bounds: right.bounds.with_low(self.bounds.low().copy()?)?,
             children: sorted_entries::join(
                 *self.children.allocator(),
                 &self.children,
@@ -209,7 +209,7 @@ impl Inner {
     {
         Ok(Inner {
             level: self.level,
-            bounds: self.bounds.with_low(self.bounds.low())?,
+            bounds: self.bounds.with_low(self.bounds.low().copy()?)?,
             children,
         })
     }

@@ -1,18 +1,19 @@
 // Leaf pages.
-ghost use Rattle.std.specs.Prelude.{◌≡◌, ◌<◌, filter, length, [], Some, None, IfOk, OnErr, OnOk, MatchOption, T, true, false};
+ghost use Rattle.std.specs.Prelude.{◌≡◌, ◌<◌, filter, length, slice_index_or, [], Some, None, IfOk, OnErr, OnOk, MatchOption, T, true, false};
 ghost use Rattle.std.specs.FinMap.{find};
 ghost use Rattle.std.specs.Option.{option_copied};
 ghost use Rattle.bw_key.specs.Order.{key_cmp};
 ghost use Rattle.bw_model.specs.Contents.{is_below_end, is_pair_in_range};
+ghost use Rattle.bw_model.specs.Values.{Pair};
 ghost use Rattle.bw_page.specs.Leaves.{joined_leaf, lower_leaf, narrowed_leaf, upper_leaf};
 ghost use Rattle.bw_page.specs.Pages.{BeginsAt, IsPage};
 
 use crate::bounds::Bounds;
+use crate::leaf_pairs;
 use crate::pages::PageId;
-use crate::sorted_entries;
 use bw_key::{Key, Memory};
 use bw_memory::Alloc;
-use bw_model::{Pairs, Value};
+use bw_model::{Pairs, Run};
 use std::marker::Model;
 
 /// A leaf: the pairs of a range of keys. Their keys strictly rise, and lie from `low` on and below `high`.
@@ -22,7 +23,7 @@ use std::marker::Model;
 #[derive(Debug)]
 pub struct Leaf {
     bounds: Bounds,
-    pairs: Vec<(Key, Value), Alloc>,
+    pairs: Pairs,
 }
 
 // Not derived: whoever drops one calls this, and its proof is spared the parts.
@@ -49,10 +50,10 @@ impl Model for Leaf {
       low = l.bounds.low;
       high = l.bounds.high;
       side = l.bounds.side;
-      pairs = l.pairs.items;
+      pairs = l.pairs;
     } };
 
-    ghost invariant = { λ l. IsPage l.bounds.low l.bounds.high l.bounds.side l.pairs.items };
+    ghost invariant = { λ l. IsPage l.bounds.low l.bounds.high l.bounds.side l.pairs };
 }
 
 impl Leaf {
@@ -65,7 +66,7 @@ impl Leaf {
     {
         Leaf {
             bounds: Bounds::new(Key::new(alloc, &[]).unwrap(), None, None),
-            pairs: Vec::new(alloc),
+            pairs: Pairs::new(alloc),
         }
     }
 
@@ -79,7 +80,7 @@ impl Leaf {
     {
         Leaf {
             bounds: Bounds::new(low, high, side),
-            pairs: pairs.into_vec(),
+            pairs,
         }
     }
 
@@ -106,27 +107,36 @@ impl Leaf {
     }
 
     /// The pairs, in the order of their keys.
-    pub fn pairs(&self) -> &[(Key, Value)]
+    pub fn pairs(&self) -> &Pairs
         ensures value { result.now ≡ self.now.pairs }
         ensures rules { IsPage self.now.low self.now.high self.now.side self.now.pairs }
     {
-        self.pairs.as_slice()
+        &self.pairs
     }
 
     /// The pairs from `low` on and below `high`, in the order of their keys, in about 2 log2 n key comparisons for n
     /// pairs. It copies nothing.
-    pub fn between(&self, low: &Key, high: Option<&Key>) -> &[(Key, Value)]
-        ensures value { result.now ≡ filter (is_pair_in_range low.now (option_copied high.entry)) self.now.pairs }
+    pub fn between(&self, low: &Key, high: Option<&Key>) -> Run<'_>
+        ensures value { result ≡ filter (is_pair_in_range low.now (option_copied high.entry)) self.now.pairs }
         ensures rules { IsPage self.now.low self.now.high self.now.side self.now.pairs }
     {
-        sorted_entries::between(&self.pairs, low, high)
+        leaf_pairs::between(&self.pairs, low, high)
     }
 
     /// The value at a key, in about log2 n key comparisons for n pairs. It copies nothing.
-    pub fn find(&self, key: &Key) -> Option<&Value>
+    pub fn find(&self, key: &Key) -> Option<&[u8]>
         ensures { option_copied result ≡ find key_cmp key.now self.now.pairs }
     {
-        sorted_entries::value_at(&self.pairs, key)
+        leaf_pairs::value_at(&self.pairs, key)
+    }
+
+    /// The key at a place, as one of its own: one growth where it has more than 24 bytes, and `Memory` where that is
+    /// refused.
+    pub fn key_at(&self, place: usize) -> Result<Key, Memory>
+        requires { place < length self.now.pairs }
+        ensures { (d : Pair) → IfOk result (λ key. key ≡ (slice_index_or self.now.pairs place d).0) }
+    {
+        Key::from_bytes(self.pairs.allocator(), self.pairs.key_at(place))
     }
 
     /// The right neighbour, where the key is past the end of the range: there a search goes on, as in a B-link tree.
@@ -140,33 +150,33 @@ impl Leaf {
     /// The pairs from place `keep` on, as a leaf that begins at the first of their keys and ends where this one does.
     /// `keep` is less than the number of pairs.
     ///
-    /// It copies those pairs, in one growth for their list and one for each key or value of more than 24 bytes, the
-    /// bounds among them. `Memory` is answered where one of them is refused. This leaf stays as it is.
+    /// It copies those pairs as one block of bytes and one of ends, in a growth for each, and one for each bound of more than
+    /// 24 bytes. `Memory` is answered where one of them is refused. This leaf stays as it is.
     pub fn upper_half(&self, keep: usize) -> Result<Leaf, Memory>
         requires { keep < length self.now.pairs }
         ensures value { IfOk result (λ half. half ≡ upper_leaf self.now keep) }
         ensures kept { IfOk result (λ half. BeginsAt half.low half.pairs) }
     {
         Ok(Leaf {
-            bounds: self.bounds.with_low(&self.pairs[keep].0)?,
-            pairs: sorted_entries::copy_from(*self.pairs.allocator(), &self.pairs, keep)?,
+            bounds: self.bounds.with_low(self.key_at(keep)?)?,
+            pairs: leaf_pairs::copy_from(&self.pairs, keep)?,
         })
     }
 
     /// Cuts the leaf in its place: its pairs from place `keep` on move to a leaf that begins at the first of their keys
     /// and ends where this one did, and this one keeps the others and its bounds. `keep` is less than the number of pairs.
     ///
-    /// No pair is copied. It takes one growth for the list of the pairs that move, and one for each bound of their leaf
-    /// that has more than 24 bytes. `Memory` is answered where one of them is refused, and this leaf is as before. A last
-    /// growth, to a smaller block, gives back the room that the pairs leave; where that is refused the room stays.
+    /// The pairs that move are copied as one block of bytes and one of ends, in a growth for each, and one for each bound of
+    /// their leaf that has more than 24 bytes. `Memory` is answered where one of them is refused, and this leaf is as before.
+    /// Two last growths, to smaller blocks, give back the room that the pairs leave; where one is refused the room stays.
     pub fn cut(&mut self, keep: usize) -> Result<Leaf, Memory>
         requires { keep < length self.old.pairs }
         ensures half { IfOk result (λ half. half ≡ upper_leaf self.old keep) }
         ensures kept { OnOk result (self.new ≡ lower_leaf self.old keep) }
         ensures err { OnErr result (self.new ≡ self.old) }
     {
-        let bounds = self.bounds.with_low(&self.pairs[keep].0)?;
-        let pairs = sorted_entries::cut(&mut self.pairs, keep)?;
+        let bounds = self.bounds.with_low(self.key_at(keep)?)?;
+        let pairs = leaf_pairs::cut(&mut self.pairs, keep)?;
         Ok(Leaf { bounds, pairs })
     }
 
@@ -176,22 +186,22 @@ impl Leaf {
         requires { T (is_below_end (Some high) self.old.low) }
         ensures { self.new ≡ narrowed_leaf self.old high side }
     {
-        sorted_entries::keep_below(&mut self.pairs, &high);
+        leaf_pairs::keep_below(&mut self.pairs, &high);
         self.bounds.narrow(high, side);
     }
 
     /// This leaf and its right neighbour as one: the pairs of both, up to the neighbour's end and with its neighbour.
     /// The right leaf begins where this one ends.
     ///
-    /// It copies all pairs, in one growth for their list and one for each key or value of more than 24 bytes, the bounds
-    /// among them. `Memory` is answered where one of them is refused. Both leaves stay as they are.
+    /// It copies all pairs by blocks, in one growth for their bytes, one for their ends, and one for each bound of more than
+    /// 24 bytes. `Memory` is answered where one of them is refused. Both leaves stay as they are.
     pub fn joined(&self, right: &Leaf) -> Result<Leaf, Memory>
         requires { self.now.high ≡ Some right.now.low }
         ensures { IfOk result (λ leaf. leaf ≡ joined_leaf self.now right.now) }
     {
         Ok(Leaf {
-            bounds: right.bounds.with_low(self.bounds.low())?,
-            pairs: sorted_entries::join(*self.pairs.allocator(), &self.pairs, &right.pairs)?,
+            bounds: right.bounds.with_low(self.bounds.low().copy()?)?,
+            pairs: leaf_pairs::join(self.pairs.allocator(), &self.pairs, &right.pairs)?,
         })
     }
 }

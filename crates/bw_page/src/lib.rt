@@ -6,11 +6,13 @@
 mod bounds;
 mod inner;
 mod leaf;
+mod leaf_pairs;
 mod pages;
 mod sorted_entries;
 
 pub use inner::Inner;
 pub use leaf::Leaf;
+pub use leaf_pairs::place;
 pub use pages::{Page, PageId};
 
 /// The values of an index.

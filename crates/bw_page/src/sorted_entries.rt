@@ -1,9 +1,7 @@
 // Sorted lists of entries: searched by halves, copied, and cut.
 ghost use Rattle.std.specs.Prelude.{◌≡◌, ◌<◌, ◌≤◌, [], ◌∷◌, ◌++◌, drop, filter, length, not, take, IfOk, OnErr, OnOk, T};
-ghost use Rattle.std.specs.FinMap.{find, is_sorted, put};
-ghost use Rattle.std.specs.Option.{option_copied};
+ghost use Rattle.std.specs.FinMap.{is_sorted, put};
 ghost use Rattle.bw_key.specs.Order.{key_cmp, key_eq};
-ghost use Rattle.bw_model.specs.Contents.{is_pair_in_range};
 ghost use Rattle.bw_model.specs.Sorted.{place_of};
 ghost use Rattle.bw_page.specs.Inners.{IsLastUpto, IsUpto};
 ghost use Rattle.bw_page.specs.Merging.{HasAdded, put_all};
@@ -12,19 +10,12 @@ ghost use Rattle.bw_page.specs.Pages.{below, first_key};
 use crate::pages::PageId;
 use bw_key::{Key, Memory};
 use bw_memory::Alloc;
-use bw_model::Value;
 
 /// What an entry has at its key.
 pub(crate) trait Copied: Sized {
     /// The same again.
     fn copied(&self) -> Result<Self, Memory>
         ensures { IfOk result (λ copy. copy ≡ self.now) };
-}
-
-impl Copied for Value {
-    fn copied(&self) -> Result<Value, Memory> {
-        self.copy()
-    }
 }
 
 impl Copied for PageId {
@@ -40,35 +31,6 @@ pub(crate) fn place<V>(entries: &[(Key, V)], key: &Key) -> usize
     ensures bound { result ≤ length entries.now }
 {
     entries.partition_point(|entry| entry.0 < *key)
-}
-
-/// The value at a key.
-pub(crate) fn value_at<'a, V>(entries: &'a [(Key, V)], key: &Key) -> Option<&'a V>
-    requires { T (is_sorted key_cmp entries.now) }
-    ensures { option_copied result ≡ find key_cmp key.now entries.now }
-{
-    let at = place(entries, key);
-    if at < entries.len() && entries[at].0 == *key {
-        Some(&entries[at].1)
-    } else {
-        None
-    }
-}
-
-/// The entries from a key on and below an end, in about 2 log2 n key comparisons.
-pub(crate) fn between<'a, V>(
-    entries: &'a [(Key, V)],
-    low: &Key,
-    high: Option<&Key>,
-) -> &'a [(Key, V)]
-    requires { T (is_sorted key_cmp entries.now) }
-    ensures { result.now ≡ filter (is_pair_in_range low.now (option_copied high.entry)) entries.now }
-{
-    let rest = &entries[place(entries, low)..];
-    match high {
-        Some(high) => &rest[..place(rest, high)],
-        None => rest,
-    }
 }
 
 /// What the last entry has whose key isn't above the given one, in about log2 n key comparisons. The first isn't.

@@ -59,8 +59,8 @@ pub(crate) fn lose_chain(tree: &mut Tree, page: PageId, level: u32) -> Result<()
 /// needed where the page has a record, has no more than `keep` entries or stands on no level, and where `keep` is 0. No
 /// batch is staged.
 ///
-/// It costs a search; the entries that go are moved, and the key at which they begin is copied. After `Memory` the tree is
-/// as before.
+/// It costs a search; the entries that go are moved, those of a leaf as blocks, and the key at which they begin is copied.
+/// After `Memory` the tree is as before.
 pub fn split(tree: &mut Tree, page: PageId, keep: usize) -> Result<Did, Memory>
     requires { tree.old.staged ≡ None }
     ensures ok { IfOk result (IsSplitStep tree.old tree.new page keep) }

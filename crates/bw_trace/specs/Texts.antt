@@ -2,7 +2,7 @@
 use Rattle.std.specs.Prelude.{ℕ, List, [], ◌∷◌, ◌++◌, length, codes, Ok, Err}
 use Rattle.std.specs.List.{flat_map}
 use Rattle.std.specs.Fmt.{decimal}
-use Rattle.bw_model.specs.Lists.{Pair}
+use Rattle.bw_model.specs.Values.{Pair}
 use Rattle.bw_model.specs.Runs.{Outcome}
 use Rattle.bw_model.specs.declared.operations.Reply.{Reply}
 use Rattle.bw_model.specs.declared.operations.Reply.TheVariants.{Found, Absent, Inserted, Held, New, Was, Pairs}

@@ -24,7 +24,7 @@ pub(crate) fn end_text(
         Job::Run => Ok(Vec::new(alloc)),
         Job::Dump => {
             let pairs = index.contents()?;
-            contents_text(alloc, pairs.as_slice())
+            contents_text(alloc, &pairs)
         }
         Job::Shape => {
             let pages = index.shape()?;

@@ -12,7 +12,7 @@ ghost use Rattle.bw_trace.specs.Writing.{IsFront, TakesFront};
 use crate::faults::TraceFault;
 use crate::ports::Outlet;
 use crate::spelling::push_spelled;
-use bw_batch::{Key, Memory, Refusal, Reply, Value};
+use bw_batch::{Memory, Pairs, Refusal, Reply, Value};
 use bw_memory::Alloc;
 
 // A text is handed on once it has this many bytes.
@@ -80,7 +80,7 @@ fn push_reply(text: &mut Vec<u8, Alloc>, reply: &Reply) -> Result<(), Memory>
         Reply::Held(value) => push_value_line(text, b"held ", value),
         Reply::New => Ok(text.extend_from_slice(b"new\n")?),
         Reply::Was(value) => push_value_line(text, b"was ", value),
-        Reply::Pairs(pairs) => push_pairs(text, b"scan ", pairs.as_slice()),
+        Reply::Pairs(pairs) => push_pairs(text, b"scan ", pairs),
     }
 }
 
@@ -93,24 +93,24 @@ fn push_value_line(text: &mut Vec<u8, Alloc>, word: &[u8], value: &Value) -> Res
     Ok(())
 }
 
-fn push_pairs(text: &mut Vec<u8, Alloc>, word: &[u8], pairs: &[(Key, Value)]) -> Result<(), Memory>
+fn push_pairs(text: &mut Vec<u8, Alloc>, word: &[u8], pairs: &Pairs) -> Result<(), Memory>
     ensures { OnOk result (text.new.items ≡ text.old.items ++ pairs_text word.now pairs.now) }
 {
     text.extend_from_slice(word)?;
     push_number(text, pairs.len() as u64)?;
     text.push(b'\n')?;
-    for pair in pairs {
-        push_pair(text, pair)?;
+    for place in 0..pairs.len() {
+        push_pair(text, pairs.key_at(place), pairs.value_at(place))?;
     }
     Ok(())
 }
 
-fn push_pair(text: &mut Vec<u8, Alloc>, pair: &(Key, Value)) -> Result<(), Memory>
-    ensures { OnOk result (text.new.items ≡ text.old.items ++ pair_text pair.now) }
+fn push_pair(text: &mut Vec<u8, Alloc>, key: &[u8], value: &[u8]) -> Result<(), Memory>
+    ensures { OnOk result (text.new.items ≡ text.old.items ++ pair_text (key.now, value.now)) }
 {
-    push_spelled(text, pair.0.bytes())?;
+    push_spelled(text, key)?;
     text.push(b' ')?;
-    push_spelled(text, pair.1.bytes())?;
+    push_spelled(text, value)?;
     text.push(b'\n')?;
     Ok(())
 }
@@ -125,7 +125,7 @@ pub(crate) fn push_number(text: &mut Vec<u8, Alloc>, number: u64) -> Result<(), 
 }
 
 /// How many pairs there are, and a line for each.
-pub(crate) fn contents_text(alloc: Alloc, pairs: &[(Key, Value)]) -> Result<Vec<u8, Alloc>, Memory>
+pub(crate) fn contents_text(alloc: Alloc, pairs: &Pairs) -> Result<Vec<u8, Alloc>, Memory>
     ensures { IfOk result (λ text. text.items ≡ contents_text pairs.now) }
 {
     let mut text = Vec::new(alloc);

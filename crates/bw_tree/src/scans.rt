@@ -17,7 +17,7 @@ use bw_chain::{lower_end, reaches};
 use bw_delta::Replay;
 use bw_key::{Key, Memory};
 use bw_memory::Alloc;
-use bw_model::{Pairs, Value, is_below};
+use bw_model::{Pairs, is_below};
 use bw_page::PageId;
 use std::collections::BTreeMap;
 use std::marker::Model;
@@ -151,18 +151,18 @@ impl<'a> Scans<'a> {
         ensures pairs { IfOk result (λ pairs. pairs
             ≡ first_pairs self.old.tree from.now (option_copied to.entry) most stamp) }
     {
-        let mut read = Vec::new(self.alloc);
+        let mut read = Pairs::new(self.alloc);
         if asks_for_none(from, to, most) {
-            return Ok(Pairs::from_vec(read));
+            return Ok(read);
         }
         self.tree.know_levels();
         let mut page = self.route(from);
         loop {
             let Some(next) = self.read_leaf(page, from, to, most, stamp, &mut read)? else {
-                return Ok(Pairs::from_vec(read));
+                return Ok(read);
             };
             if read.len() as u64 >= most {
-                return Ok(Pairs::from_vec(read));
+                return Ok(read);
             }
             page = next;
         }
@@ -181,19 +181,19 @@ impl<'a> Scans<'a> {
         ensures pairs { IfOk result (λ pairs. pairs
             ≡ last_pairs self.old.tree from.now (option_copied to.entry) most stamp) }
     {
-        let mut read = Vec::new(self.alloc);
+        let mut read = Pairs::new(self.alloc);
         if asks_for_none(from, to, most) {
-            return Ok(Pairs::from_vec(read));
+            return Ok(read);
         }
         let mut end = to;
         loop {
             let page = self.route_before(end);
             let low = self.read_leaf_back(page, from, end, most, stamp, &mut read)?;
             if *low <= *from {
-                return Ok(Pairs::from_vec(read));
+                return Ok(read);
             }
             if read.len() as u64 >= most {
-                return Ok(Pairs::from_vec(read));
+                return Ok(read);
             }
             end = Some(low);
         }
@@ -208,12 +208,12 @@ impl<'a> Scans<'a> {
         to: Option<&Key>,
         most: u64,
         stamp: u64,
-        read: &mut Vec<(Key, Value), Alloc>,
+        read: &mut Pairs,
     ) -> Result<Option<PageId>, Memory>
         requires { Contains (row self.old.tree.levels 0) page }
         ensures tree { self.new.tree ≡ self.old.tree }
         ensures read { let there = pairs_on self.old.tree stamp from.now (option_copied to.entry) page in
-            OnOk result (read.new.items ≡ filled most read.old.items there) }
+            OnOk result (read.new ≡ filled most read.old there) }
         ensures next { IfOk result (IsAfter (slot_at self.old.tree.slots page) (option_copied to.entry)) }
     {
         self.tree.know_levels();
@@ -237,12 +237,12 @@ impl<'a> Scans<'a> {
         to: Option<&Key>,
         most: u64,
         stamp: u64,
-        read: &mut Vec<(Key, Value), Alloc>,
+        read: &mut Pairs,
     ) -> Result<&'a Key, Memory>
         requires { Contains (row self.old.tree.levels 0) page }
         ensures tree { self.new.tree ≡ self.old.tree }
         ensures read { let there = pairs_on self.old.tree stamp from.now (option_copied to.entry) page in
-            OnOk result (read.new.items ≡ filled most read.old.items (reverse there)) }
+            OnOk result (read.new ≡ filled most read.old (reverse there)) }
         ensures low { IfOk result (λ low. low.now ≡ low_of (slot_at self.old.tree.slots page)) }
     {
         let order = Order::Falling;
@@ -260,12 +260,12 @@ impl<'a> Scans<'a> {
         page: PageId,
         from: &Key,
         to: Option<&Key>,
-        read: &mut Vec<(Key, Value), Alloc>,
+        read: &mut Pairs,
     ) -> Result<ReadLeaf<'a>, Memory>
         requires { Contains (row self.old.tree.levels 0) page }
         ensures tree { self.new.tree ≡ self.old.tree }
         ensures read { let there = wanted_on self.old.tree scan from.now (option_copied to.entry) page in
-            OnOk result (read.new.items ≡ filled scan.most read.old.items there) }
+            OnOk result (read.new ≡ filled scan.most read.old there) }
         ensures leaf { IfOk result (IsReadLeaf (slot_at self.old.tree.slots page)) }
     {
         self.tree.know_levels();
@@ -387,11 +387,11 @@ fn add_pairs(
     low: &Key,
     high: Option<&Key>,
     most: u64,
-    read: &mut Vec<(Key, Value), Alloc>,
+    read: &mut Pairs,
 ) -> Result<(), Memory>
     ensures sorted { T (is_sorted key_cmp replay.now.pairs) }
     ensures added { let there = filter (is_pair_in_range low.now (option_copied high.entry)) replay.now.pairs in
-        OnOk result (read.new.items ≡ read.old.items ++ take most (in_order order there)) }
+        OnOk result (read.new ≡ read.old ++ take most (in_order order there)) }
 {
     match order {
         Order::Rising => replay.add_first(low, high, most, read),

@@ -6,11 +6,11 @@ ghost use Rattle.bw_group.specs.Homes.{AreHomes};
 ghost use Rattle.bw_tree.specs.View.{contents_at};
 
 use bw_answer::{replies, replies_in_parts};
-use bw_fixtures::{LONG, key, pair, three_leaves, value};
+use bw_fixtures::{LONG, key, pair, three_leaves, two, value};
 use bw_group::{Grouping, Homes, find_homes};
-use bw_key::{Key, Memory};
+use bw_key::Memory;
 use bw_memory::Alloc;
-use bw_model::{Op, Pairs, Replies, Reply, Value};
+use bw_model::{Op, Pairs, Replies, Reply};
 use bw_tree::Tree;
 use std::process::Abort;
 use std::thread::Threads;
@@ -45,26 +45,29 @@ pub fn six_reads<R: Abort>(rt: &R, alloc: Alloc) -> [Op; 6]
     ]
 }
 
-// The pairs b 2 and c.
-fn b_and_c<R: Abort>(rt: &R, alloc: Alloc) -> Vec<(Key, Value), Alloc> {
-    let pairs = vec![in alloc;
+// The pairs b 2 and c, in this order or in the other.
+fn b_and_c<R: Abort>(rt: &R, alloc: Alloc, is_rising: bool) -> Pairs {
+    let (b, c) = (
         pair(alloc, b"b", b"2").expect(rt, "memory"),
         pair(alloc, b"c", LONG).expect(rt, "memory"),
-    ];
+    );
+    let pairs = if is_rising {
+        two(alloc, b, c)
+    } else {
+        two(alloc, c, b)
+    };
     pairs.expect(rt, "the pairs")
 }
 
 /// The replies to the six reads.
 pub fn six_replies<R: Abort>(rt: &R, alloc: Alloc) -> [Reply; 6] {
-    let mut back = b_and_c(rt, alloc);
-    back.reverse();
     [
         Reply::Found(value(alloc, b"5").expect(rt, "memory")),
         Reply::Found(value(alloc, b"1").expect(rt, "memory")),
-        Reply::Pairs(Pairs::from_vec(b_and_c(rt, alloc))),
+        Reply::Pairs(b_and_c(rt, alloc, true)),
         Reply::Absent,
         Reply::Found(value(alloc, LONG).expect(rt, "memory")),
-        Reply::Pairs(Pairs::from_vec(back)),
+        Reply::Pairs(b_and_c(rt, alloc, false)),
     ]
 }
 

@@ -99,7 +99,7 @@ pub fn refusal_of_texts<R: Abort + Threads + Sync>(
 /// Compares the pairs of an index, and their number.
 pub fn holds<R: Abort>(rt: &R, index: &Index, pairs: &[TextPair]) {
     let contents = index.contents().expect(rt, "memory");
-    assert!(rt; have_texts(contents.as_slice(), pairs));
+    assert!(rt; have_texts(&contents, pairs));
     assert_eq!(rt; index.len(), pairs.len() as u64);
     assert!(rt; index.is_empty() == pairs.is_empty());
 }

@@ -46,8 +46,8 @@ pub fn update<R: Abort>(rt: &R, alloc: Alloc, stamp: u64, bytes: &[u8]) -> Write
 /// Whether `a` alone is left, with the wanted value, or nothing where none is wanted.
 pub fn is_left(pairs: &Pairs, wanted: Option<&'static [u8]>) -> bool {
     match wanted {
-        Some(value) => are(pairs.as_slice(), &[(b"a", value)]),
-        None => are(pairs.as_slice(), &[]),
+        Some(value) => are(pairs, &[(b"a", value)]),
+        None => are(pairs, &[]),
     }
 }
 
@@ -63,7 +63,7 @@ pub fn are_apart(a: &Write, b: &Write, c: &Write) -> bool
 pub fn value_of<R: Abort>(
     rt: &R,
     alloc: Alloc,
-    start: Option<&Value>,
+    start: Option<&[u8]>,
     (a, b, c): (&Write, &Write, &Write),
     stamp: u64,
 ) -> Result<Option<Value>, Memory> {

@@ -182,12 +182,12 @@ fn writes_over_an_empty_leaf_are_those_of_a_map(rt: HostRuntime) {
 }
 
 #[test]
-fn a_leaf_without_writes_is_copied_in_one_growth(rt: HostRuntime) {
+fn a_leaf_without_writes_is_copied_in_two_growths(rt: HostRuntime) {
     let alloc = heap(rt.alloc()).expect(&rt, "memory");
     let leaf = leaf_of(alloc, b"1").expect(&rt, "memory");
     let least = key(alloc, b"").expect(&rt, "memory");
-    alloc.refuse(2);
+    alloc.refuse(3);
     let pairs = read(&rt, alloc, &[&leaf], (&least, None), &[], 9);
     assert_eq!(rt; alloc.left(), 1);
-    assert!(rt; are(pairs.as_slice(), &[(b"a", b"1")]));
+    assert!(rt; are(&pairs, &[(b"a", b"1")]));
 }

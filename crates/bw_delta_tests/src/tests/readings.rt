@@ -29,9 +29,8 @@ fn is(value: Option<&Value>, wanted: Option<&'static [u8]>) -> bool {
 
 // Compares what the writes leave over a 4, in this order of the slice.
 fn compare<R: Abort>(rt: &R, alloc: Alloc, order: (&Write, &Write, &Write)) {
-    let start = value(alloc, b"4").expect(rt, "memory");
     for (stamp, wanted) in LEFT {
-        let left = value_of(rt, alloc, Some(&start), order, stamp).expect(rt, "memory");
+        let left = value_of(rt, alloc, Some(b"4"), order, stamp).expect(rt, "memory");
         assert!(rt; is(left.as_ref(), wanted));
     }
 }
@@ -104,7 +103,7 @@ fn compare_range<R: Abort>(
     let (c, a, d) = three_writes(rt, alloc);
     let pairs = pairs_of(rt, alloc, &[&first, &second], range, (&c, &a, &d), stamp);
     let pairs = pairs.expect(rt, "memory");
-    assert!(rt; are(pairs.as_slice(), wanted));
+    assert!(rt; are(&pairs, wanted));
 }
 
 #[test]

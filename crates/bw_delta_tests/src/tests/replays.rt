@@ -12,17 +12,17 @@ use std::process::Abort;
 
 // The first pairs of a replay from a key on.
 fn first(alloc: Alloc, replay: &Replay, low: &Key, most: u64) -> Result<Pairs, Memory> {
-    let mut read = Vec::new(alloc);
+    let mut read = Pairs::new(alloc);
     replay.add_first(low, None, most, &mut read)?;
-    Ok(Pairs::from_vec(read))
+    Ok(read)
 }
 
 // The last pairs of a replay below a key.
 fn last(alloc: Alloc, replay: &Replay, high: &Key, most: u64) -> Result<Pairs, Memory> {
     let low = key(alloc, b"")?;
-    let mut read = Vec::new(alloc);
+    let mut read = Pairs::new(alloc);
     replay.add_last(&low, Some(high), most, &mut read)?;
-    Ok(Pairs::from_vec(read))
+    Ok(read)
 }
 
 // Compares the first pairs of a leaf of all keys with a 1 and b 2.
@@ -32,13 +32,13 @@ fn compare_firsts<R: Abort>(rt: &R, alloc: Alloc, replay: &Replay) {
         key(alloc, b"b").expect(rt, "memory"),
     );
     let pairs = first(alloc, replay, &a, 9).expect(rt, "memory");
-    assert!(rt; are(pairs.as_slice(), &[(b"a", b"1"), (b"b", b"2")]));
+    assert!(rt; are(&pairs, &[(b"a", b"1"), (b"b", b"2")]));
     let pairs = first(alloc, replay, &a, 1).expect(rt, "memory");
-    assert!(rt; are(pairs.as_slice(), &[(b"a", b"1")]));
+    assert!(rt; are(&pairs, &[(b"a", b"1")]));
     let pairs = first(alloc, replay, &b, 9).expect(rt, "memory");
-    assert!(rt; are(pairs.as_slice(), &[(b"b", b"2")]));
+    assert!(rt; are(&pairs, &[(b"b", b"2")]));
     let pairs = first(alloc, replay, &b, 0).expect(rt, "memory");
-    assert!(rt; are(pairs.as_slice(), &[]));
+    assert!(rt; are(&pairs, &[]));
 }
 
 // Compares the last pairs of that leaf.
@@ -48,11 +48,11 @@ fn compare_lasts<R: Abort>(rt: &R, alloc: Alloc, replay: &Replay) {
         key(alloc, b"c").expect(rt, "memory"),
     );
     let pairs = last(alloc, replay, &c, 9).expect(rt, "memory");
-    assert!(rt; are(pairs.as_slice(), &[(b"b", b"2"), (b"a", b"1")]));
+    assert!(rt; are(&pairs, &[(b"b", b"2"), (b"a", b"1")]));
     let pairs = last(alloc, replay, &b, 9).expect(rt, "memory");
-    assert!(rt; are(pairs.as_slice(), &[(b"a", b"1")]));
+    assert!(rt; are(&pairs, &[(b"a", b"1")]));
     let pairs = last(alloc, replay, &c, 1).expect(rt, "memory");
-    assert!(rt; are(pairs.as_slice(), &[(b"b", b"2")]));
+    assert!(rt; are(&pairs, &[(b"b", b"2")]));
 }
 
 // The leaf of all keys: a 1, b 2.
@@ -117,7 +117,7 @@ fn of_two_parts_the_first_has_the_value(rt: HostRuntime) {
     let pairs = first(alloc, &replay, &key(alloc, b"").expect(&rt, "memory"), 9).expect(
         &rt, "memory",
     );
-    assert!(rt; are(pairs.as_slice(), &[(b"a", b"9"), (b"b", b"2")]));
+    assert!(rt; are(&pairs, &[(b"a", b"9"), (b"b", b"2")]));
 }
 
 // A leaf may reach past the end of its page.
@@ -129,7 +129,7 @@ fn below_its_end_a_leaf_is_read_with_its_writes(rt: HostRuntime) {
     let replay = Replay::new(alloc, &[&leaf], Some(&end), &[&insert]).expect(&rt, "memory");
     let replay = replay.advance(1).expect(&rt, "memory");
     let pairs = last(alloc, &replay, &end, 9).expect(&rt, "memory");
-    assert!(rt; are(pairs.as_slice(), &[(b"aa", b"3"), (b"a", b"1")]));
+    assert!(rt; are(&pairs, &[(b"aa", b"3"), (b"a", b"1")]));
 }
 
 #[test]
@@ -142,7 +142,7 @@ fn below_their_end_two_parts_are_read(rt: HostRuntime) {
     let end = key(alloc, b"b").expect(&rt, "memory");
     let replay = Replay::new(alloc, &[&above, &below], Some(&end), &[]).expect(&rt, "memory");
     let pairs = last(alloc, &replay, &end, 9).expect(&rt, "memory");
-    assert!(rt; are(pairs.as_slice(), &[(b"a", b"9")]));
+    assert!(rt; are(&pairs, &[(b"a", b"9")]));
 }
 
 // What an update to 3 at 7, a delete at 2 and an insert of 9 at 5 leave of a 4 at `a`, as of stamps that rise.
@@ -233,7 +233,7 @@ fn each_growth_of_a_replay_is_refused(rt: HostRuntime) {
         let left = read_leaf(&rt, alloc, growth);
         if !was_refused(alloc, growth) {
             let pairs = left.expect(&rt, "memory");
-            assert!(rt; are(pairs.as_slice(), &[(b"a", LONG), (LONG, LONG)]));
+            assert!(rt; are(&pairs, &[(b"a", LONG), (LONG, LONG)]));
             assert!(rt; growth > 5);
             return;
         }

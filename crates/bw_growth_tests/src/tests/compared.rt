@@ -61,7 +61,7 @@ pub fn has_pairs<R: Abort>(rt: &R, map: &ReferenceMap, pairs: &Pairs) {
 fn are_same<R: Abort>(rt: &R, both: &Compared) {
     let pairs = both.index.contents().expect(rt, "memory");
     has_pairs(rt, &both.map, &pairs);
-    assert_eq!(rt; both.index.len(), pairs.as_slice().len() as u64);
+    assert_eq!(rt; both.index.len(), pairs.len() as u64);
 }
 
 /// Runs a batch by both, and compares the replies and the pairs after it. Why it was refused, if it was: then the plain

@@ -62,8 +62,8 @@ fn is_answered<R: Abort>(rt: &R, op: &Op, reply: &Reply) {
     match (op, reply) {
         (Op::Upsert(_, _), reply) => assert!(rt; *reply == Reply::New),
         (Op::Scan { from, .. }, Reply::Pairs(pairs)) => {
-            assert!(rt; pairs.as_slice().len() == 1);
-            assert!(rt; pairs.as_slice().first().is_some_and(|pair| pair.0 == *from));
+            assert!(rt; pairs.len() == 1);
+            assert!(rt; pairs.key_at(0) == from.bytes());
         }
         _ => panic!(rt; "another reply"),
     }

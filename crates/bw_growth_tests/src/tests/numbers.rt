@@ -42,17 +42,15 @@ pub fn count_new(replies: &[Reply]) -> usize {
 
 /// How many pairs the index holds.
 pub fn held<R: Abort>(rt: &R, index: &Index) -> usize {
-    index.contents().expect(rt, "memory").as_slice().len()
+    index.contents().expect(rt, "memory").len()
 }
 
 /// Compares the value of the greatest key, and how many pairs the index holds.
 pub fn holds<R: Abort>(rt: &R, index: &Index, count: usize, last: u32) {
     let pairs = index.contents().expect(rt, "memory");
-    assert_eq!(rt; pairs.as_slice().len(), count);
-    match pairs.as_slice().last() {
-        Some(pair) => assert!(rt; pair.1.bytes() == last.to_be_bytes().as_slice()),
-        None => panic!(rt; "no pair"),
-    }
+    assert_eq!(rt; pairs.len(), count);
+    assert!(rt; pairs.len() > 0, "no pair");
+    assert!(rt; pairs.value_at(pairs.len() - 1) == last.to_be_bytes().as_slice());
 }
 
 /// Runs a batch, which has a reply for each operation. How many of its keys were new.

@@ -97,7 +97,7 @@ fn filled<R: Abort + Threads + Sync>(
 // Compares the pairs of an index.
 fn holds<R: Abort>(rt: &R, index: &Index, pairs: &[TextPair]) {
     let contents = index.contents().expect(rt, "memory");
-    assert!(rt; have_texts(contents.as_slice(), pairs));
+    assert!(rt; have_texts(&contents, pairs));
 }
 
 // Makes an index where this growth is refused. Whether it was.
@@ -136,7 +136,7 @@ fn is_read_refused<R: Abort>(rt: &R, alloc: Alloc, index: &Index, growth: u64) -
         Ok(pairs) => {
             assert!(rt; !was_refused);
             assert!(rt; growth > 2);
-            assert!(rt; have_texts(pairs.as_slice(), BEFORE));
+            assert!(rt; have_texts(&pairs, BEFORE));
         }
         Err(Memory) => assert!(rt; was_refused),
     }

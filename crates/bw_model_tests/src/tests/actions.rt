@@ -4,7 +4,7 @@ ghost use Rattle.bw_model.specs.Model.{key_of};
 
 use super::making::Maker;
 use bw_fixtures::{TextOp, TextReply, is_reply};
-use bw_model::{Action, Op, Value};
+use bw_model::{Action, Op};
 use std::process::Abort;
 
 // What an operation does with the value at its key, if it writes.
@@ -30,16 +30,16 @@ type Row = (
 // Compares what a write answers and leaves.
 fn compare<R: Abort>(rt: &R, make: &Maker<R>, (text, before, reply, after): Row) {
     let action = action_of(rt, make, text);
-    let before = make.value_or_none(before);
-    let answer = action.answer(before.as_ref()).expect(rt, "memory");
+    let before = before.map(|text| text.as_bytes());
+    let answer = action.answer(make.alloc, before).expect(rt, "memory");
     assert!(rt; is_reply(&answer, reply));
-    assert!(rt; is(action.effect(before.as_ref()), after));
+    assert!(rt; is(action.effect(before), after));
 }
 
 // Whether a value is that of a text, or there is none.
-fn is(value: Option<&Value>, text: Option<&'static str>) -> bool {
+fn is(value: Option<&[u8]>, text: Option<&'static str>) -> bool {
     match (value, text) {
-        (Some(value), Some(text)) => value.bytes() == text.as_bytes(),
+        (Some(value), Some(text)) => value == text.as_bytes(),
         (None, None) => true,
         _ => false,
     }
@@ -103,32 +103,31 @@ fn each_write_where_there_is_no_value(rt: HostRuntime) {
 }
 
 // Compares what an operation answers at a key with this value, or with none.
-fn has_reply<R: Abort>(rt: &R, op: &Op, value: Option<&Value>, reply: TextReply)
+fn has_reply<R: Abort>(rt: &R, make: &Maker<R>, op: &Op, value: Option<&[u8]>, reply: TextReply)
     requires { is_some (key_of op.now) ≡ true }
 {
-    let answer = op.reply_at(value).expect(rt, "memory");
+    let answer = op.reply_at(make.alloc, value).expect(rt, "memory");
     assert!(rt; is_reply(&answer, reply));
 }
 
 // Compares what an operation on `k` answers where that has a 1, and where it has no value.
 fn compare_replies<R: Abort>(
     rt: &R,
+    make: &Maker<R>,
     op: &Op,
-    one: &Value,
     (there, absent): (TextReply, TextReply),
 ) {
     let Some(key) = op.key() else {
         panic!(rt; "an operation on a key");
     };
     assert!(rt; key.bytes() == b"k".as_slice());
-    has_reply(rt, op, Some(one), there);
-    has_reply(rt, op, None, absent);
+    has_reply(rt, make, op, Some(b"1"), there);
+    has_reply(rt, make, op, None, absent);
 }
 
 #[test]
 fn each_operation_answers_by_the_value_at_its_key(rt: HostRuntime) {
     let make = Maker::new(&rt, rt.alloc());
-    let one = make.value("1");
     let rows = [
         (TextOp::Get("k"), TextReply::Found("1"), TextReply::Absent),
         (
@@ -149,7 +148,7 @@ fn each_operation_answers_by_the_value_at_its_key(rt: HostRuntime) {
         ),
     ];
     for (text, there, absent) in rows {
-        compare_replies(&rt, &make.op(text), &one, (there, absent));
+        compare_replies(&rt, &make, &make.op(text), (there, absent));
     }
 }
 

@@ -36,13 +36,6 @@ impl<'a, R: Abort> Maker<'a, R> {
         value(self.alloc, text.as_bytes()).expect(self.rt, "a value")
     }
 
-    pub fn value_or_none(&self, text: Option<&'static str>) -> Option<Value> {
-        match text {
-            Some(text) => Some(self.value(text)),
-            None => None,
-        }
-    }
-
     pub fn pairs(&self, texts: &[Pair]) -> Pairs {
         text_pairs(self.alloc, texts).expect(self.rt, "the pairs")
     }

@@ -37,7 +37,7 @@ fn answers<R: Abort>(
 /// Compares the pairs of a map.
 pub fn holds<R: Abort>(rt: &R, map: &ReferenceMap, pairs: &[Pair]) {
     let entries = map.entries().expect(rt, "memory");
-    assert!(rt; have_texts(entries.as_slice(), pairs));
+    assert!(rt; have_texts(&entries, pairs));
 }
 
 // An operation, its reply, and the pairs afterwards.
@@ -110,7 +110,7 @@ fn swaps<R: Abort>(rt: &R, make: &Maker<R>, map: &mut ReferenceMap, key: &Key) {
 // Whether a map has this text at a key.
 fn has_at(map: &ReferenceMap, key: &Key, text: &str) -> bool {
     match map.get(key) {
-        Some(value) => value.bytes() == text.as_bytes(),
+        Some(value) => value == text.as_bytes(),
         None => false,
     }
 }
@@ -143,7 +143,7 @@ fn scans<R: Abort>(
     pairs: &[Pair],
 ) {
     let scanned = map.scan(from, to, most).expect(rt, "memory");
-    assert!(rt; have_texts(scanned.as_slice(), pairs));
+    assert!(rt; have_texts(&scanned, pairs));
 }
 
 // And the last ones, the last one first.
@@ -155,7 +155,7 @@ fn scans_back<R: Abort>(
     pairs: &[Pair],
 ) {
     let scanned = map.rscan(from, to, most).expect(rt, "memory");
-    assert!(rt; have_texts(scanned.as_slice(), pairs));
+    assert!(rt; have_texts(&scanned, pairs));
 }
 
 // Compares the first pairs of a range, and the last ones, up to this many.
@@ -292,12 +292,12 @@ fn pairs_are_equal_where_each_key_and_value_is(rt: HostRuntime) {
 }
 
 #[test]
-fn lists_give_back_what_they_were_made_of(rt: HostRuntime) {
+fn pairs_give_back_what_they_were_made_of(rt: HostRuntime) {
     let make = Maker::new(&rt, rt.alloc());
     let pairs = make.pairs(&[("a", "1"), ("b", "2")]);
-    assert!(rt; have_texts(pairs.as_slice(), &[("a", "1"), ("b", "2")]));
-    let pairs = Pairs::from_vec(pairs.into_vec());
-    assert!(rt; have_texts(pairs.as_slice(), &[("a", "1"), ("b", "2")]));
+    assert!(rt; have_texts(&pairs, &[("a", "1"), ("b", "2")]));
+    let pairs = pairs.copy().expect(&rt, "memory");
+    assert!(rt; have_texts(&pairs, &[("a", "1"), ("b", "2")]));
 }
 
 #[test]

@@ -114,7 +114,7 @@ fn drop_value<R: Abort>(rt: &R, alloc: Alloc) {
 
 // Makes lists, and drops them.
 fn drop_lists<R: Abort>(rt: &R, alloc: Alloc) {
-    let pairs = Pairs::from_vec(Vec::with_capacity(alloc, 1).expect(rt, "memory"));
+    let pairs = Pairs::with_capacity(alloc, 1, 1).expect(rt, "memory");
     assert!(rt; alloc.used() > 0);
     drop(pairs);
     let mut replies = Vec::new(alloc);
@@ -149,4 +149,22 @@ fn faults_have_texts(rt: HostRuntime) {
     assert!(rt; memory == Refusal::Memory);
     let text = format!(in alloc; "{memory}").expect(&rt, "a text");
     assert!(rt; text.as_str() == "out of memory");
+}
+
+// Whether no value is made of these bytes, of which there are too many or no memory for.
+fn lacks_memory(alloc: Alloc, bytes: &[u8]) -> bool {
+    Value::from_bytes(alloc, bytes).is_err()
+}
+
+#[test]
+fn bytes_of_a_page_become_a_value_again(rt: HostRuntime) -> Result<(), Fail> {
+    let alloc = Heap::counted(rt.alloc()).leak(rt.alloc())?;
+    let bytes = [118u8; 1025];
+    assert!(rt; lacks_memory(alloc, &bytes));
+    alloc.refuse(1);
+    assert!(rt; !lacks_memory(alloc, &bytes[..24]));
+    assert!(rt; alloc.left() == 1);
+    assert!(rt; lacks_memory(alloc, &bytes[..25]));
+    assert!(rt; !lacks_memory(alloc, &bytes[..1024]));
+    Ok(())
 }

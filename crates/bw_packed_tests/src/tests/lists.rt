@@ -71,10 +71,14 @@ fn a_place_is_behind_the_smaller_keys(rt: HostRuntime) {
     let alloc = heap(&rt, rt.alloc());
     let rising: [&[u8]; 5] = [b"", b"a", b"ab", b"b", KEY];
     let list = list_of(&rt, alloc, &rising);
+    assert!(rt; list.len() == 5);
     for (place, key) in rising.iter().enumerate() {
-        assert!(rt; list.place(key) == place);
+        assert!(rt; list.place(0..5, key) == place);
     }
-    assert!(rt; list.place(b"aa") == 2);
-    assert!(rt; list.place(b"l") == 5);
-    assert!(rt; list_of(&rt, alloc, &[]).place(b"a") == 0);
+    assert!(rt; list.place(0..5, b"aa") == 2);
+    assert!(rt; list.place(0..5, b"l") == 5);
+    assert!(rt; list.place(1..4, b"aa") == 1);
+    assert!(rt; list.place(1..4, b"l") == 3);
+    assert!(rt; list.place(2..2, b"l") == 0);
+    assert!(rt; list_of(&rt, alloc, &[]).place(0..0, b"a") == 0);
 }

@@ -1,7 +1,7 @@
 // Lists of pairs.
 use super::making::{KEY, heap};
 use bw_memory::{Alloc, Heap};
-use bw_packed::PackedPairs;
+use bw_packed::{Pairs, Run};
 use std::process::Abort;
 use std::test::Fail;
 
@@ -10,8 +10,8 @@ const KEYS: [&[u8]; 4] = [b"", b"a", b"ab", KEY];
 const VALUES: [&[u8]; 4] = [b"none", b"", &[118; 1024], b"v"];
 
 // All pairs, with room for just these.
-fn all_pairs<R: Abort>(rt: &R, alloc: Alloc) -> PackedPairs {
-    let mut pairs = PackedPairs::with_capacity(alloc, 4, 1096).expect(rt, "memory");
+fn all_pairs<R: Abort>(rt: &R, alloc: Alloc) -> Pairs {
+    let mut pairs = Pairs::with_capacity(alloc, 4, 1096).expect(rt, "memory");
     for place in 0..4 {
         pairs.push(KEYS[place], VALUES[place]).expect(rt, "memory");
     }
@@ -19,7 +19,7 @@ fn all_pairs<R: Abort>(rt: &R, alloc: Alloc) -> PackedPairs {
 }
 
 // Whether these are all pairs.
-fn are_all(pairs: &PackedPairs) -> bool {
+fn are_all(pairs: &Pairs) -> bool {
     if pairs.len() != 4 {
         return false;
     }
@@ -46,22 +46,22 @@ fn runs_of_pairs_are_copied(rt: HostRuntime) {
     let alloc = heap(&rt, rt.alloc());
     let pairs = all_pairs(&rt, alloc);
     assert!(rt; pairs.len() == 4);
-    let mut copy = PackedPairs::new(alloc);
-    copy.extend(&pairs, 0..1).expect(&rt, "memory");
-    copy.extend(&pairs, 1..1).expect(&rt, "memory");
-    copy.extend(&pairs, 1..4).expect(&rt, "memory");
+    let mut copy = Pairs::new(alloc);
+    copy.extend(&pairs.run(0..1)).expect(&rt, "memory");
+    copy.extend(&pairs.run(1..1)).expect(&rt, "memory");
+    copy.extend(&pairs.run(1..4)).expect(&rt, "memory");
     assert!(rt; are_all(&copy));
 }
 
-fn finds(pairs: &PackedPairs, key: &[u8], place: usize) -> bool {
-    match pairs.binary_search(key) {
+fn finds(run: &Run<'_>, key: &[u8], place: usize) -> bool {
+    match run.binary_search(key) {
         Ok(found) => found == place,
         Err(_) => false,
     }
 }
 
-fn lacks(pairs: &PackedPairs, key: &[u8], place: usize) -> bool {
-    match pairs.binary_search(key) {
+fn lacks(run: &Run<'_>, key: &[u8], place: usize) -> bool {
+    match run.binary_search(key) {
         Ok(_) => false,
         Err(end) => end == place,
     }
@@ -72,20 +72,122 @@ fn a_place_is_behind_the_pairs_with_smaller_keys(rt: HostRuntime) {
     let alloc = heap(&rt, rt.alloc());
     let mut pairs = all_pairs(&rt, alloc);
     for (place, key) in KEYS.iter().enumerate() {
-        assert!(rt; pairs.place(key) == place);
-        assert!(rt; finds(&pairs, key, place));
+        assert!(rt; pairs.all().place(key) == place);
+        assert!(rt; finds(&pairs.all(), key, place));
     }
-    assert!(rt; pairs.place(b"aa") == 2);
-    assert!(rt; lacks(&pairs, b"aa", 2));
-    assert!(rt; pairs.place(b"l") == 4);
+    assert!(rt; pairs.all().place(b"aa") == 2);
+    assert!(rt; lacks(&pairs.all(), b"aa", 2));
+    assert!(rt; pairs.all().place(b"l") == 4);
     pairs.truncate(1);
-    assert!(rt; pairs.place(b"l") == 1);
-    assert!(rt; PackedPairs::new(alloc).place(b"a") == 0);
+    assert!(rt; pairs.all().place(b"l") == 1);
+    assert!(rt; Pairs::new(alloc).all().place(b"a") == 0);
+}
+
+// Whether a run has the pairs that stand from this place on in the list of all.
+fn are_from(run: &Run<'_>, first: usize) -> bool {
+    if first > 4 || run.len() > 4 - first {
+        return false;
+    }
+    for place in 0..run.len() {
+        let at = first + place;
+        if run.key_at(place) != KEYS[at] || run.value_at(place) != VALUES[at] {
+            return false;
+        }
+    }
+    true
+}
+
+#[test]
+fn a_run_is_searched_from_its_own_first_pair_on(rt: HostRuntime) {
+    let pairs = all_pairs(&rt, heap(&rt, rt.alloc()));
+    assert!(rt; pairs.len() == 4);
+    let run = pairs.run(1..4);
+    assert!(rt; are_from(&run, 1));
+    assert!(rt; run.place(b"") == 0);
+    assert!(rt; run.place(b"ab") == 1);
+    assert!(rt; run.place(b"l") == 3);
+    assert!(rt; finds(&run, b"a", 0));
+    assert!(rt; finds(&run, KEY, 2));
+    assert!(rt; lacks(&run, b"", 0));
+    assert!(rt; lacks(&run, b"aa", 1));
+    assert!(rt; lacks(&run, b"l", 3));
+}
+
+#[test]
+fn a_run_splits_into_two(rt: HostRuntime) {
+    let pairs = all_pairs(&rt, heap(&rt, rt.alloc()));
+    assert!(rt; pairs.len() == 4);
+    let run = pairs.run(1..4);
+    assert!(rt; run.len() == 3);
+    for middle in 0..4 {
+        let (front, back) = run.split_at(middle);
+        assert!(rt; front.len() == middle);
+        assert!(rt; back.len() == 3 - middle);
+        assert!(rt; are_from(&front, 1));
+        assert!(rt; are_from(&back, 1 + middle));
+    }
+}
+
+#[test]
+fn a_run_has_the_bytes_of_its_pairs(rt: HostRuntime) {
+    let pairs = all_pairs(&rt, heap(&rt, rt.alloc()));
+    assert!(rt; pairs.len() == 4);
+    assert!(rt; pairs.all().byte_count() == 1096);
+    assert!(rt; pairs.run(1..3).byte_count() == 1027);
+    assert!(rt; pairs.run(4..4).byte_count() == 0);
+    assert!(rt; pairs.run(4..4).is_empty());
+    assert!(rt; !pairs.run(3..4).is_empty());
+}
+
+#[test]
+fn a_copy_is_equal(rt: HostRuntime) {
+    let pairs = all_pairs(&rt, heap(&rt, rt.alloc()));
+    let copy = pairs.copy().expect(&rt, "memory");
+    assert!(rt; are_all(&copy));
+    assert!(rt; copy == pairs);
+    let clone = pairs.clone().expect(&rt, "memory");
+    assert!(rt; are_all(&clone));
+    assert!(rt; clone == pairs);
+}
+
+// Whether pairs equal these.
+fn equal<R: Abort>(
+    rt: &R,
+    alloc: Alloc,
+    pairs: &Pairs,
+    others: &[(&'static [u8], &'static [u8])],
+) -> bool {
+    let mut list = Pairs::new(alloc);
+    for (key, value) in others {
+        list.push(key, value).expect(rt, "memory");
+    }
+    *pairs == list
+}
+
+#[test]
+fn pairs_are_equal_where_each_key_and_value_is(rt: HostRuntime) {
+    let alloc = heap(&rt, rt.alloc());
+    let mut pairs = Pairs::new(alloc);
+    pairs.push(b"a", b"12").expect(&rt, "memory");
+    pairs.push(b"b", b"3").expect(&rt, "memory");
+    assert!(rt; equal(&rt, alloc, &pairs, &[(b"a", b"12"), (b"b", b"3")]));
+    assert!(rt; !equal(&rt, alloc, &pairs, &[(b"a", b"12"), (b"c", b"3")]));
+    assert!(rt; !equal(&rt, alloc, &pairs, &[(b"a", b"12"), (b"b", b"4")]));
+    assert!(rt; !equal(&rt, alloc, &pairs, &[(b"a1", b"2"), (b"b", b"3")]));
+    assert!(rt; !equal(&rt, alloc, &pairs, &[(b"a", b"12")]));
+    assert!(rt;
+        !equal(
+            &rt,
+            alloc,
+            &pairs,
+            &[(b"a", b"12"), (b"b", b"3"), (b"c", b"4")]
+        )
+    );
 }
 
 // Makes pairs with more room than they need, and gives back what isn't used: a pair takes its bytes and eight more.
 fn keep_what_they_use<R: Abort>(rt: &R, alloc: Alloc) {
-    let mut pairs = PackedPairs::with_capacity(alloc, 10, 100).expect(rt, "memory");
+    let mut pairs = Pairs::with_capacity(alloc, 10, 100).expect(rt, "memory");
     pairs.push(b"key", b"value").expect(rt, "memory");
     assert!(rt; alloc.used() == 180);
     pairs.shrink_to_fit();
@@ -101,10 +203,10 @@ fn what_is_dropped_gives_its_memory_back(rt: HostRuntime) -> Result<(), Fail> {
 }
 
 // Adds a pair and a run to no pairs, with this growth refused from then on. Answers whether either was refused.
-fn lacks_memory(alloc: Alloc, other: &PackedPairs, growth: u64) -> bool {
-    let mut pairs = PackedPairs::new(alloc);
+fn lacks_memory(alloc: Alloc, other: &Pairs, growth: u64) -> bool {
+    let mut pairs = Pairs::new(alloc);
     alloc.refuse(growth);
-    pairs.push(b"key", b"value").is_err() || pairs.extend(other, 0..other.len()).is_err()
+    pairs.push(b"key", b"value").is_err() || pairs.extend(&other.all()).is_err()
 }
 
 #[test]
@@ -115,5 +217,33 @@ fn each_growth_is_refused_in_turn(rt: HostRuntime) -> Result<(), Fail> {
         assert!(rt; lacks_memory(alloc, &other, growth));
         assert!(rt; alloc.left() == 0);
     }
+    Ok(())
+}
+
+// Whether a run isn't copied where this growth is refused.
+fn lacks_copy(alloc: Alloc, run: &Run<'_>, growth: u64) -> bool {
+    alloc.refuse(growth);
+    run.copy(alloc).is_err()
+}
+
+// Whether the copy of a run takes two growths, and not a third.
+fn is_copied(alloc: Alloc, run: &Run<'_>) -> bool {
+    alloc.refuse(3);
+    match run.copy(alloc) {
+        Ok(copy) => copy.all().is_same(run) && alloc.left() == 1,
+        Err(_) => false,
+    }
+}
+
+#[test]
+fn each_growth_of_a_copy_is_refused_in_turn(rt: HostRuntime) -> Result<(), Fail> {
+    let alloc = Heap::counted(rt.alloc()).leak(rt.alloc())?;
+    let pairs = all_pairs(&rt, heap(&rt, rt.alloc()));
+    assert!(rt; pairs.len() == 4);
+    for growth in 1..3 {
+        assert!(rt; lacks_copy(alloc, &pairs.run(1..4), growth));
+        assert!(rt; alloc.left() == 0);
+    }
+    assert!(rt; is_copied(alloc, &pairs.run(1..4)));
     Ok(())
 }

@@ -2,7 +2,7 @@
 ghost use Rattle.std.specs.Prelude.{◌≡◌, [], length};
 
 use super::making::from_start_and_c;
-use bw_fixtures::{LONG, are, heap, key, pair};
+use bw_fixtures::{LONG, are, heap, key, was_refused};
 use bw_memory::Alloc;
 use bw_model::Pairs;
 use bw_page::{Inner, Leaf, PageId};
@@ -13,16 +13,14 @@ fn three<R: Abort>(rt: &R, alloc: Alloc) -> Leaf
     ensures low { result.low ≡ [] }
     ensures pairs { length result.pairs ≡ 3 }
 {
-    let (a, long, b) = (
-        pair(alloc, b"a", b"1").expect(rt, "memory"),
-        pair(alloc, LONG, LONG).expect(rt, "memory"),
-        pair(alloc, b"b", b"3").expect(rt, "memory"),
-    );
+    let mut pairs = Pairs::new(alloc);
+    pairs.push(b"a", b"1").expect(rt, "memory");
+    pairs.push(LONG, LONG).expect(rt, "memory");
+    pairs.push(b"b", b"3").expect(rt, "memory");
     let (low, high) = (
         key(alloc, b"").expect(rt, "memory"),
         key(alloc, b"c").expect(rt, "memory"),
     );
-    let pairs = Pairs::from_vec(vec![in alloc; a, long, b].expect(rt, "the pairs"));
     Leaf::from_pairs(low, Some(high), Some(PageId(1)), pairs)
 }
 
@@ -72,13 +70,13 @@ fn leaf_refused<R: Abort>(rt: &R, alloc: Alloc, leaf: &mut Leaf, growth: u64) {
     is_whole(rt, leaf);
 }
 
-// Cuts it where only the room that the pairs leave isn't given back.
-fn leaf_keeps_room<R: Abort>(rt: &R, alloc: Alloc, leaf: &mut Leaf) {
-    assert!(rt; leaf.pairs().len() == 3);
-    alloc.refuse(3);
+// Cuts it where only room that the pairs leave, for their bytes or their ends, isn't given back.
+fn leaf_keeps_room<R: Abort>(rt: &R, alloc: Alloc, growth: u64) {
+    let mut leaf = three(rt, alloc);
+    alloc.refuse(growth);
     assert!(rt; leaf.cut(1).is_ok());
-    assert_eq!(rt; alloc.left(), 0);
-    is_leaf(rt, leaf, b"", b"c", 1, &[(b"a", b"1")]);
+    assert!(rt; was_refused(alloc, growth));
+    is_leaf(rt, &leaf, b"", b"c", 1, &[(b"a", b"1")]);
 }
 
 #[test]
@@ -87,7 +85,9 @@ fn a_leaf_is_whole_after_each_growth_of_a_cut_that_is_refused(rt: HostRuntime) {
     let mut leaf = three(&rt, alloc);
     leaf_refused(&rt, alloc, &mut leaf, 1);
     leaf_refused(&rt, alloc, &mut leaf, 2);
-    leaf_keeps_room(&rt, alloc, &mut leaf);
+    leaf_refused(&rt, alloc, &mut leaf, 3);
+    leaf_keeps_room(&rt, alloc, 4);
+    leaf_keeps_room(&rt, alloc, 5);
 }
 
 #[test]

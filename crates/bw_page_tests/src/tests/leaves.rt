@@ -1,39 +1,19 @@
 // Leaves.
-ghost use Rattle.std.specs.Prelude.{◌≡◌, [], ◌∷◌};
-
 use super::making::c_with;
-use bw_fixtures::{are, heap, key, pair, up_to_c};
+use bw_fixtures::{are, heap, key, up_to_c};
 use bw_key::Key;
 use bw_memory::Alloc;
 use bw_model::Pairs;
-use bw_page::{Leaf, PageId, Value};
+use bw_page::{Leaf, PageId};
 use std::process::Abort;
-
-// A list of four pairs.
-fn four<R: Abort>(
-    rt: &R,
-    alloc: Alloc,
-    a: (Key, Value),
-    b: (Key, Value),
-    c: (Key, Value),
-    d: (Key, Value),
-) -> Pairs
-    ensures { result ≡ a ∷ b ∷ c ∷ d ∷ [] }
-{
-    Pairs::from_vec(vec![in alloc; a, b, c, d].expect(rt, "the pairs"))
-}
 
 // The leaf of the keys from `c` on and below `h`, with page 7 at its right.
 fn c_to_h<R: Abort>(rt: &R, alloc: Alloc) -> Leaf {
-    let (c, d) = (
-        pair(alloc, b"c", b"3").expect(rt, "memory"),
-        pair(alloc, b"d", b"4").expect(rt, "memory"),
-    );
-    let (dd, f) = (
-        pair(alloc, b"dd", b"").expect(rt, "memory"),
-        pair(alloc, b"f", b"6").expect(rt, "memory"),
-    );
-    let pairs = four(rt, alloc, c, d, dd, f);
+    let mut pairs = Pairs::new(alloc);
+    pairs.push(b"c", b"3").expect(rt, "memory");
+    pairs.push(b"d", b"4").expect(rt, "memory");
+    pairs.push(b"dd", b"").expect(rt, "memory");
+    pairs.push(b"f", b"6").expect(rt, "memory");
     let (low, high) = (
         key(alloc, b"c").expect(rt, "memory"),
         key(alloc, b"h").expect(rt, "memory"),
@@ -91,7 +71,7 @@ fn a_key_is_found_among_the_pairs_alone(rt: HostRuntime) {
     for (bytes, wanted) in found {
         let key = key(alloc, bytes).expect(&rt, "memory");
         alloc.refuse(1);
-        assert!(rt; leaf.find(&key).map(|value| value.bytes()) == Some(wanted));
+        assert!(rt; leaf.find(&key) == Some(wanted));
         assert_eq!(rt; alloc.left(), 1);
     }
     for bytes in [b"".as_slice(), b"b", b"cc", b"e", b"g", b"h", b"z"] {
@@ -111,9 +91,9 @@ fn has_between<R: Abort>(
     wanted: &[&'static [u8]],
 ) {
     let pairs = leaf.between(low, high);
-    assert_eq!(rt; pairs.len(), wanted.len());
-    for (pair, key) in pairs.iter().zip(wanted) {
-        assert!(rt; pair.0.bytes() == *key);
+    assert!(rt; pairs.len() == wanted.len());
+    for (place, key) in wanted.iter().enumerate() {
+        assert!(rt; pairs.key_at(place) == *key);
     }
 }
 
@@ -161,4 +141,13 @@ fn page_names_are_their_numbers(rt: HostRuntime) {
     assert_eq!(rt; PageId(3), PageId(3));
     assert_ne!(rt; PageId(3), PageId(4));
     assert!(rt; PageId(u32::MAX).0 == 4294967295);
+}
+
+#[test]
+fn a_key_at_a_place_is_one_of_its_own(rt: HostRuntime) {
+    let alloc = heap(rt.alloc()).expect(&rt, "memory");
+    let leaf = c_to_h(&rt, alloc);
+    assert!(rt; leaf.pairs().len() == 4);
+    let key = leaf.key_at(2).expect(&rt, "memory");
+    assert!(rt; key.bytes() == b"dd".as_slice());
 }

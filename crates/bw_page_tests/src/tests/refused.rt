@@ -4,19 +4,21 @@ use bw_fixtures::{LONG, heap, key, up_to_c};
 use bw_page::PageId;
 
 #[test]
-fn the_half_of_a_leaf_takes_one_growth(rt: HostRuntime) {
+fn the_half_of_a_leaf_takes_two_growths(rt: HostRuntime) {
     let alloc = heap(rt.alloc()).expect(&rt, "memory");
     let leaf = up_to_c(alloc).expect(&rt, "memory");
-    alloc.refuse(1);
-    assert!(rt; leaf.upper_half(1).is_err());
-    assert_eq!(rt; alloc.left(), 0);
-    alloc.refuse(2);
+    for growth in 1..=2 {
+        alloc.refuse(growth);
+        assert!(rt; leaf.upper_half(1).is_err());
+        assert_eq!(rt; alloc.left(), 0);
+    }
+    alloc.refuse(3);
     assert!(rt; leaf.upper_half(1).is_ok());
     assert_eq!(rt; alloc.left(), 1);
 }
 
 #[test]
-fn two_leaves_take_one_growth_and_one_for_a_long_value(rt: HostRuntime) {
+fn two_leaves_take_two_growths_and_none_for_a_long_value(rt: HostRuntime) {
     let alloc = heap(rt.alloc()).expect(&rt, "memory");
     let left = up_to_c(alloc).expect(&rt, "memory");
     let right = c_with(&rt, alloc, LONG);

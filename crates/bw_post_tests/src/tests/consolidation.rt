@@ -2,7 +2,7 @@
 ghost use Rattle.std.specs.Prelude.{◌≡◌, None};
 
 use super::making::{FLOOR, batch, holds, post, stands, three, upsert};
-use bw_fixtures::{heap, key};
+use bw_fixtures::{heap, key, was_refused};
 use bw_key::Memory;
 use bw_memory::Alloc;
 use bw_page::PageId;
@@ -93,17 +93,19 @@ fn a_batch_is_posted_over_a_consolidated_leaf(rt: HostRuntime) {
     stands(&rt, &tree, &[0, 1, FLOOR + 1, 3], 2, 3);
 }
 
-// Consolidates a leaf where this growth is refused, and compares the tree after that. Whether it was.
+// Consolidates a leaf where this growth is refused, and compares the tree after that. Whether it was: behind the first
+// four growths two only give room back, and the leaf is consolidated without them.
 fn consolidation_refused<R: Abort + Threads + Sync>(rt: &R, alloc: Alloc, growth: u64) -> bool {
     let mut tree = written(rt, alloc);
     alloc.refuse(growth);
     let consolidated = consolidate(rt, alloc, &mut tree, b"c");
-    alloc.refuse(0);
+    let refused = was_refused(alloc, growth);
+    assert!(rt; consolidated.is_err() == (refused && growth <= 4));
     if consolidated.is_err() {
         stands(rt, &tree, &[0, FLOOR, FLOOR + 1, 3], 2, 3);
     }
     holds(rt, alloc, &tree, 3, &AFTER);
-    consolidated.is_err()
+    refused
 }
 
 #[test]
@@ -111,7 +113,7 @@ fn each_growth_of_a_consolidation_is_refused(rt: HostRuntime) {
     let alloc = heap(rt.alloc()).expect(&rt, "memory");
     for growth in 1..100 {
         if !consolidation_refused(&rt, alloc, growth) {
-            assert!(rt; growth > 2);
+            assert_eq!(rt; growth, 7);
             return;
         }
     }

@@ -89,7 +89,7 @@ pub fn holds<R: Abort>(
 ) {
     let from = key(alloc, b"").expect(rt, "memory");
     let pairs = tree.scan_at(&from, None, 9, stamp).expect(rt, "memory");
-    assert!(rt; are(pairs.as_slice(), wanted));
+    assert!(rt; are(&pairs, wanted));
 }
 
 /// Stages a batch and posts it by one worker.

@@ -8,9 +8,8 @@ ghost use Rattle.bw_shape.specs.Limits.{AreWithinBut, IsWithin};
 use super::making::{FLOOR, has, holds, post, upsert};
 use super::shapes::{Wanted, has_pages};
 use bw_fixtures::{heap, key};
-use bw_key::Key;
 use bw_memory::Alloc;
-use bw_model::{Op, Value};
+use bw_model::Op;
 use bw_page::PageId;
 use bw_post::{Posting, Tree};
 use bw_shape::{Due, Limits, Tidy, tidy_due};
@@ -150,9 +149,9 @@ fn written<R: Abort + Threads + Sync>(rt: &R, alloc: Alloc, from: u8, to: u8) ->
     tree
 }
 
-// Whether a pair is that of a letter.
-fn is_pair_of(pair: &(Key, Value), letter: u8) -> bool {
-    pair.0.bytes() == [letter].as_slice() && pair.1.bytes() == [letter].as_slice()
+// Whether a key and a value are those of a letter.
+fn are_of(at: &[u8], bytes: &[u8], letter: u8) -> bool {
+    at == [letter].as_slice() && bytes == [letter].as_slice()
 }
 
 // Compares the pairs of all keys, behind all batches, with those of these letters.
@@ -161,9 +160,10 @@ fn reads_letters<R: Abort>(rt: &R, alloc: Alloc, tree: &Tree, from: u8, to: u8) 
     let read = tree
         .scan_at(&least, None, 99, tree.next_stamp())
         .expect(rt, "the pairs");
-    assert!(rt; read.as_slice().len() == to.saturating_sub(from) as usize);
-    for (pair, letter) in read.as_slice().iter().zip(from..to) {
-        assert!(rt; is_pair_of(pair, letter));
+    assert!(rt; read.len() == to.saturating_sub(from) as usize);
+    for place in 0..read.len() {
+        let letter = from.wrapping_add(place as u8);
+        assert!(rt; are_of(read.key_at(place), read.value_at(place), letter));
     }
 }
 

@@ -6,7 +6,7 @@ ghost use Rattle.bw_tree.specs.Making.{AreAbutting};
 use bw_fixtures::{key, one, value};
 use bw_key::Key;
 use bw_memory::Alloc;
-use bw_model::{Value, is_below};
+use bw_model::is_below;
 use bw_page::Leaf;
 use bw_shape::{PageId, Tree};
 use std::process::Abort;
@@ -107,18 +107,19 @@ pub fn tree_of<R: Abort>(rt: &R, alloc: Alloc, from: u16, ends: &[u16]) -> Tree
     Tree::from_level(alloc, leaves).expect(rt, "a tree")
 }
 
-// Whether a pair is that of a number.
-fn is_pair_of<R: Abort>(rt: &R, alloc: Alloc, pair: &(Key, Value), number: u16) -> bool {
+// Whether a key and a value are those of a number.
+fn are_of<R: Abort>(rt: &R, alloc: Alloc, at: &[u8], bytes: &[u8], number: u16) -> bool {
     let wanted = key_of(rt, alloc, number);
-    pair.0 == wanted && pair.1.bytes() == wanted.bytes()
+    at == wanted.bytes() && bytes == wanted.bytes()
 }
 
 /// Compares all that is read of a tree with the pairs of the numbers from `from` on and below `to`.
 pub fn reads_numbers<R: Abort>(rt: &R, alloc: Alloc, tree: &Tree, from: u16, to: u16) {
     let least = key(alloc, b"").expect(rt, "a key");
     let read = tree.scan_at(&least, None, 65536, 0).expect(rt, "the pairs");
-    assert!(rt; read.as_slice().len() == to.saturating_sub(from) as usize);
-    for (pair, number) in read.as_slice().iter().zip(from..to) {
-        assert!(rt; is_pair_of(rt, alloc, pair, number));
+    assert!(rt; read.len() == to.saturating_sub(from) as usize);
+    for place in 0..read.len() {
+        let number = from.wrapping_add(place as u16);
+        assert!(rt; are_of(rt, alloc, read.key_at(place), read.value_at(place), number));
     }
 }

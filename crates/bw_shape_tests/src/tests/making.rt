@@ -2,7 +2,7 @@
 ghost use Rattle.std.specs.Prelude.{◌≡◌, [], None, IfOk};
 ghost use Rattle.bw_tree.specs.Making.{AreAbutting};
 
-use bw_fixtures::{are, key, pair};
+use bw_fixtures::{are, key};
 use bw_memory::Alloc;
 use bw_model::Pairs;
 use bw_page::Leaf;
@@ -18,12 +18,12 @@ fn five_pairs(alloc: Alloc) -> Result<Leaf, Memory>
     ensures high { IfOk result (λ leaf. leaf.high ≡ None) }
     ensures side { IfOk result (λ leaf. leaf.side ≡ None) }
 {
-    let a = pair(alloc, b"a", b"1")?;
-    let b = pair(alloc, b"b", b"2")?;
-    let c = pair(alloc, b"c", b"3")?;
-    let d = pair(alloc, b"d", b"4")?;
-    let e = pair(alloc, b"e", b"5")?;
-    let pairs = Pairs::from_vec(vec![in alloc; a, b, c, d, e]?);
+    let mut pairs = Pairs::new(alloc);
+    pairs.push(b"a", b"1")?;
+    pairs.push(b"b", b"2")?;
+    pairs.push(b"c", b"3")?;
+    pairs.push(b"d", b"4")?;
+    pairs.push(b"e", b"5")?;
     Ok(Leaf::from_pairs(key(alloc, b"")?, None, None, pairs))
 }
 
@@ -67,7 +67,7 @@ pub fn reads_all<R: Abort>(rt: &R, alloc: Alloc, tree: &Tree) {
         (b"d", b"4"),
         (b"e", b"5"),
     ];
-    assert!(rt; are(pairs.as_slice(), &wanted));
+    assert!(rt; are(&pairs, &wanted));
 }
 
 /// Splits a page, and compares what that did.

@@ -5,8 +5,8 @@ use bw_memory::Alloc;
 use bw_shape::{Did, Memory, PageId, consolidate, finish_split, grow_root, split};
 use std::process::Abort;
 
-// Splits the leaf where this growth is refused, and compares the tree after that. Whether that stopped it: the last growth
-// only gives room back, and the leaf is split without it.
+// Splits the leaf where this growth is refused, and compares the tree after that. Whether that stopped it: the last two
+// growths only give room back, and the leaf is split without it.
 fn split_refused<R: Abort>(rt: &R, alloc: Alloc, growth: u64) -> bool {
     let mut tree = five(rt, alloc);
     alloc.refuse(growth);

@@ -1,7 +1,7 @@
 // A batch of 65,536 keys that are all new.
 use super::levels::{are_within, count_pages, is_whole};
 use super::maker::Maker;
-use bw_batch::{Index, Key, Op, OpenGate, Options, Reply, Tidy, Value};
+use bw_batch::{Index, Key, Op, OpenGate, Options, Reply, Tidy};
 use bw_memory::Alloc;
 use bw_tree::PageShape;
 use std::process::Abort;
@@ -100,19 +100,18 @@ fn find_all<R: Abort + Threads + Sync>(rt: &R, index: &mut Index, ops: &[Op]) {
     }
 }
 
-// Whether a pair is that of the key at a place, in the order of keys.
-fn is_pair_at(pair: &(Key, Value), place: u32) -> bool {
+// Whether a key and a value are those at a place, in the order of keys.
+fn stand_at(key: &[u8], value: &[u8], place: u32) -> bool {
     let bits = place.wrapping_mul(STEP);
-    pair.0.bytes() == bits.to_be_bytes().as_slice()
-        && pair.1.bytes() == bits.reverse_bits().to_be_bytes().as_slice()
+    key == bits.to_be_bytes().as_slice() && value == bits.reverse_bits().to_be_bytes().as_slice()
 }
 
 // All pairs stand in the order of their keys.
 fn are_all<R: Abort>(rt: &R, index: &Index) {
     let pairs = index.contents().expect(rt, "memory");
-    assert_eq!(rt; pairs.as_slice().len(), KEYS as usize);
-    for (place, pair) in (0..KEYS).zip(pairs.as_slice()) {
-        assert!(rt; is_pair_at(pair, place));
+    assert_eq!(rt; pairs.len(), KEYS as usize);
+    for place in 0..pairs.len() {
+        assert!(rt; stand_at(pairs.key_at(place), pairs.value_at(place), place as u32));
     }
 }
 

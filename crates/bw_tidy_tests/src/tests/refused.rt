@@ -21,7 +21,7 @@ fn is_new<R: Abort>(rt: &R, index: &Index) {
     assert_eq!(rt; index.tree().records(), 0);
     assert!(rt; index.tree().heads() == [0u64].as_slice());
     let pairs = index.contents().expect(rt, "memory");
-    assert!(rt; pairs.as_slice().is_empty());
+    assert!(rt; pairs.is_empty());
 }
 
 // What became of the inserts of a row.

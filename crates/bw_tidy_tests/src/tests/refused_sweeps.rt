@@ -48,7 +48,7 @@ fn pairs_before(number: u32) -> &'static [Pair] {
 // The index holds the pairs before this batch.
 fn is_before<R: Abort>(rt: &R, index: &Index, number: u32) {
     let pairs = index.contents().expect(rt, "memory");
-    assert!(rt; are(pairs.as_slice(), pairs_before(number)));
+    assert!(rt; are(&pairs, pairs_before(number)));
 }
 
 // The next stamp, how many records there are, and the mapping word of the one page.

@@ -1,6 +1,6 @@
 // Rows of letters, with what the plain program answers.
 use super::maker::{Maker, same};
-use bw_batch::{Index, Key, Op, OpenGate, Pairs, Replies, Tidy, Tree, Value};
+use bw_batch::{Index, Key, Op, OpenGate, Pairs, Replies, Tidy, Tree};
 use bw_memory::Alloc;
 use bw_model::ReferenceMap;
 use std::process::Abort;
@@ -116,11 +116,12 @@ pub fn run<R: Abort + Threads + Sync>(rt: &R, index: &mut Index, batch: &Answere
     done.tidy
 }
 
-// A tree has a pair.
-fn has<R: Abort>(rt: &R, tree: &Tree, pair: &(Key, Value)) {
-    let found = tree.value_at(&pair.0, tree.next_stamp());
+// A tree has a value at a key.
+fn has<R: Abort>(rt: &R, make: &Maker<R>, tree: &Tree, at: &[u8], bytes: &[u8]) {
+    let key = Key::new(make.alloc, at).expect(rt, "a key");
+    let found = tree.value_at(&key, tree.next_stamp());
     match found.expect(rt, "memory") {
-        Some(value) => assert!(rt; value == pair.1),
+        Some(value) => assert!(rt; value.bytes() == bytes),
         None => panic!(rt; "a value"),
     }
 }
@@ -136,8 +137,15 @@ fn scans<R: Abort>(rt: &R, make: &Maker<R>, tree: &Tree, row: &Row) {
 
 /// An index holds a row as it stands: each letter is read and all are scanned, without a batch.
 pub fn holds<R: Abort>(rt: &R, make: &Maker<R>, index: &Index, row: &Row) {
-    for pair in row.forth.as_slice() {
-        has(rt, index.tree(), pair);
+    let pairs = &row.forth;
+    for place in 0..pairs.len() {
+        has(
+            rt,
+            make,
+            index.tree(),
+            pairs.key_at(place),
+            pairs.value_at(place),
+        );
     }
     scans(rt, make, index.tree(), row);
 }

@@ -53,17 +53,21 @@ fn small_pages<R: Abort>(rt: &R, make: &Maker<R>, record_max: u64) -> Index {
     Index::new(make.alloc, options).expect(rt, "an index")
 }
 
-// Upserts of a, which has that value already, until a sweep came before one. Tidying is refused behind each.
-fn run_until_swept<R: Abort + Threads + Sync>(rt: &R, make: &Maker<R>, index: &mut Index) {
-    let ops = [make.upsert(b'a', b'a' as u32)];
-    for _ in 0..100 {
-        let tidy = run_stopped(rt, make.alloc, index, &ops);
-        assert!(rt; tidy.stopped);
-        if index.tree().next_stamp() == 1 {
-            return;
-        }
+// Runs a batch of so many reads of a that a sweep comes before it. Tidying is refused behind it. Nothing is put over a pair, so
+// no list has more room than it needs: a growth that gave some back might be refused and not noticed.
+fn run_swept<R: Abort + Threads + Sync>(
+    rt: &R,
+    make: &Maker<R>,
+    index: &mut Index,
+    record_max: u64,
+) {
+    let mut ops = Vec::new(make.alloc);
+    for _ in 0..record_max {
+        ops.push(make.get(b'a')).expect(rt, "memory");
     }
-    panic!(rt; "no sweep came");
+    let tidy = run_stopped(rt, make.alloc, index, &ops);
+    assert!(rt; tidy.stopped);
+    assert_eq!(rt; index.tree().next_stamp(), record_max);
 }
 
 // Runs an empty batch, behind which no split is left to be finished, and no leaf is over a limit.
@@ -82,10 +86,11 @@ fn go_on<R: Abort + Threads + Sync>(
     make: &Maker<R>,
     index: &mut Index,
     row: &Row,
+    record_max: u64,
     seen: &mut Seen,
 ) {
     let whole = is_finished(rt, make, index.tree());
-    run_until_swept(rt, make, index);
+    run_swept(rt, make, index, record_max);
     assert!(rt; is_finished(rt, make, index.tree()) == whole);
     holds(rt, make, index, row);
     see(rt, make, seen, index.tree());
@@ -114,7 +119,7 @@ fn is_refused<R: Abort + Threads + Sync>(
     let stopped = is_stopped(rt, &mut index, &row.inserts.ops);
     let refused = was_refused(make.alloc, growth);
     if stopped {
-        go_on(rt, make, &mut index, row, seen);
+        go_on(rt, make, &mut index, row, record_max, seen);
     }
     refused
 }

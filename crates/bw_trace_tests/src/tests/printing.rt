@@ -1,25 +1,20 @@
 // The printed texts of replies.
 use super::ports::Maker;
-use bw_batch::{Key, Pairs, Reply, Value};
+use bw_batch::{Pairs, Reply, Value};
 use bw_trace::{TraceFault, print_replies};
 use std::process::Abort;
 
 impl<R: Abort> Maker<'_, R> {
-    fn key(&self, bytes: &[u8]) -> Key {
-        Key::new(self.alloc, bytes).expect(self.rt, "a key")
-    }
-
     fn value(&self, bytes: &[u8]) -> Value {
         Value::new(self.alloc, bytes).expect(self.rt, "a value")
     }
 
     fn pairs(&self, pairs: &[(&[u8], &[u8])]) -> Reply {
-        let mut items = Vec::new(self.alloc);
+        let mut list = Pairs::new(self.alloc);
         for (key, value) in pairs {
-            let pair = (self.key(key), self.value(value));
-            items.push(pair).expect(self.rt, "a pair");
+            list.push(key, value).expect(self.rt, "a pair");
         }
-        Reply::Pairs(Pairs::from_vec(items))
+        Reply::Pairs(list)
     }
 
     // Prints one reply.

@@ -132,14 +132,7 @@ impl Tree {
         let leaf = self.leaf(alloc, page)?;
         let low = leaf.base.low();
         let pairs = leaf.pairs_as_of(alloc, low, leaf.end, self.next)?;
-        shape_from(
-            page,
-            0,
-            low,
-            leaf.end,
-            pairs.as_slice().len(),
-            leaf.writes.len(),
-        )
+        shape_from(page, 0, low, leaf.end, pairs.len(), leaf.writes.len())
     }
 
     // An inner page.

@@ -6,7 +6,7 @@ ghost use Rattle.bw_tree.specs.Making.{AreAbutting};
 use super::making::{are, heap, key, stands};
 use super::refused::was_refused;
 use super::splits::{FLOOR, has_entries, routes, split};
-use bw_fixtures::{key as key_of, pair};
+use bw_fixtures::key as key_of;
 use bw_key::Key;
 use bw_memory::Alloc;
 use bw_model::Pairs;
@@ -19,10 +19,10 @@ fn up_to_d(alloc: Alloc) -> Result<Leaf, Memory>
     ensures high { IfOk result (λ leaf. leaf.high ≡ Some (100 ∷ [])) }
     ensures side { IfOk result (λ leaf. leaf.side ≡ Some 1) }
 {
-    let a = pair(alloc, b"a", b"1")?;
-    let b = pair(alloc, b"b", b"2")?;
-    let c = pair(alloc, b"c", b"3")?;
-    let pairs = Pairs::from_vec(vec![in alloc; a, b, c]?);
+    let mut pairs = Pairs::new(alloc);
+    pairs.push(b"a", b"1")?;
+    pairs.push(b"b", b"2")?;
+    pairs.push(b"c", b"3")?;
     let (low, high) = (key_of(alloc, b"")?, key_of(alloc, b"d")?);
     Ok(Leaf::from_pairs(low, Some(high), Some(PageId(1)), pairs))
 }
@@ -33,10 +33,10 @@ fn from_d(alloc: Alloc) -> Result<Leaf, Memory>
     ensures high { IfOk result (λ leaf. leaf.high ≡ None) }
     ensures side { IfOk result (λ leaf. leaf.side ≡ None) }
 {
-    let d = pair(alloc, b"d", b"4")?;
-    let e = pair(alloc, b"e", b"5")?;
-    let f = pair(alloc, b"f", b"6")?;
-    let pairs = Pairs::from_vec(vec![in alloc; d, e, f]?);
+    let mut pairs = Pairs::new(alloc);
+    pairs.push(b"d", b"4")?;
+    pairs.push(b"e", b"5")?;
+    pairs.push(b"f", b"6")?;
     Ok(Leaf::from_pairs(key_of(alloc, b"d")?, None, None, pairs))
 }
 
@@ -145,7 +145,7 @@ fn holds<R: Abort>(rt: &R, alloc: Alloc, tree: &Tree) {
         (b"e", b"5"),
         (b"f", b"6"),
     ];
-    assert!(rt; are(all.as_slice(), &wanted));
+    assert!(rt; are(&all, &wanted));
 }
 
 #[test]

@@ -26,7 +26,7 @@ fn bare_leaf(alloc: Alloc, low: Key, high: Option<Key>, side: Option<PageId>) ->
     ensures high { result.high ≡ high }
     ensures side { result.side ≡ side }
 {
-    Leaf::from_pairs(low, high, side, Pairs::from_vec(Vec::new(alloc)))
+    Leaf::from_pairs(low, high, side, Pairs::new(alloc))
 }
 
 // The leaf at this place, which begins at the low key, and all behind it.

@@ -13,7 +13,7 @@ fn has_pairs<R: Abort>(
     wanted: &[(&'static [u8], &'static [u8])],
 ) {
     let pairs = pairs.expect(rt, "the pairs");
-    assert!(rt; are(pairs.as_slice(), wanted));
+    assert!(rt; are(&pairs, wanted));
 }
 
 #[test]
@@ -165,7 +165,7 @@ fn a_scan_of_leaves_without_writes_takes_memory_for_its_answer_alone(rt: HostRun
         let pairs = tree.scan_at(&from, None, 9, 0);
         if !was_refused(alloc, growth) {
             has_pairs(&rt, pairs, &[(b"b", b"2"), (b"c", b"3"), (b"e", b"5")]);
-            assert_eq!(rt; growth, 2);
+            assert_eq!(rt; growth, 3);
             return;
         }
         assert!(rt; pairs.is_err());
@@ -183,7 +183,7 @@ fn a_scan_back_of_leaves_without_writes_takes_memory_for_its_answer_alone(rt: Ho
         let pairs = tree.rscan_at(&from, None, 9, 0);
         if !was_refused(alloc, growth) {
             has_pairs(&rt, pairs, &[(b"e", b"5"), (b"c", b"3"), (b"b", b"2")]);
-            assert_eq!(rt; growth, 2);
+            assert_eq!(rt; growth, 3);
             return;
         }
         assert!(rt; pairs.is_err());

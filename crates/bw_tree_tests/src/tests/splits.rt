@@ -59,14 +59,14 @@ fn holds<R: Abort>(rt: &R, alloc: Alloc, tree: &Tree) {
         .expect(rt, "the pairs");
     assert!(rt;
         are(
-            all.as_slice(),
+            &all,
             &[(b"a", b"1"), (b"b", b"2"), (b"c", b"3"), (b"e", b"5")]
         )
     );
     let back = tree
         .rscan_at(&key(rt, alloc, b""), None, 3, 0)
         .expect(rt, "the pairs");
-    assert!(rt; are(back.as_slice(), &[(b"e", b"5"), (b"c", b"3"), (b"b", b"2")]));
+    assert!(rt; are(&back, &[(b"e", b"5"), (b"c", b"3"), (b"b", b"2")]));
 }
 
 #[test]
@@ -99,8 +99,8 @@ fn the_left_part_is_consolidated_with_no_memory(rt: HostRuntime) {
     holds(&rt, alloc, &tree);
 }
 
-// Splits a leaf where this growth is refused, and compares the tree after that. Whether that stopped it: the last growth only
-// gives room back, and the leaf is split without it.
+// Splits a leaf where this growth is refused, and compares the tree after that. Whether that stopped it: the last two growths
+// only give room back, and the leaf is split without it.
 fn split_refused<R: Abort>(rt: &R, alloc: Alloc, growth: u64) -> bool {
     let mut tree = three_leaves(rt, alloc);
     alloc.refuse(growth);

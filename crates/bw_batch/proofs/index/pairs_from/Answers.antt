@@ -7,6 +7,5 @@ use Rattle.bw_batch.proofs.index.pairs_from.Goals as goal
 
 pub returns : goal.returns
 returns c =
-    c.from_vec.ensures
-    ∙ all_found 18446744073709551615 c.into_vec-whole.result.items _ (c.into_vec-whole.ensures ∙ c.in_ok-pairs.ensures) (omega (arith, c.into_vec-whole.result.ok))
+    all_found 18446744073709551615 c.in_ok-pairs.pairs _ c.in_ok-pairs.ensures (omega (arith, c.if-len.false, c.len.ensures, c.len.type_inv))
     ∙ ap (λ n. pairs_of_range (contents_at c.args.tree.now n) c.args.from.now None) c.next_stamp.ensures

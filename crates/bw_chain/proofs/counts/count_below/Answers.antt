@@ -5,8 +5,8 @@ use Rattle.bw_chain.proofs.CountLemmas.{count_is}
 use Rattle.bw_chain.proofs.counts.count_below.Goals as goal
 
 pub returns-clause-value : goal.returns-clause-value
-returns-clause-value g c =
+returns-clause-value c =
     let key = c.args.key.now in
-    let entries = c.args.entries.now in
+    let entries = c.args.children.now in
     let point = IsPartitionPoint-from_clause (is_before key) _ _ c.partition_point.ensures.partitioned (parted key entries c.requires) (λ a r f k. search rules) in
     parts_at key entries c.partition_point.result c.requires c.partition_point.ensures.bound point ∙ count_is key entries c.requires

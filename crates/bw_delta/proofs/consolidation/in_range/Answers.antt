@@ -4,17 +4,17 @@ use Rattle.std.specs.Option.{option_copied}
 use Rattle.std.specs.FinMap.{find, is_sorted}
 use Rattle.bw_key.specs.Order.{key_cmp}
 use Rattle.bw_model.specs.Contents.{is_in_range, is_pair_in_range}
-use Rattle.bw_model.specs.Lists.{Pair}
+use Rattle.bw_model.specs.Values.{Pair}
 use Rattle.bw_delta.proofs.Maps.{found_in, in_order, find_in_range, sorted_in_range}
 use Rattle.bw_delta.proofs.consolidation.in_range.Goals as goal
-use Rattle.bw_delta.proofs.consolidation.in_range.Goals.{After-from_vec}
+use Rattle.bw_delta.proofs.consolidation.in_range.Goals.{After-drop-key-iterator-2}
 
 -- the list has the entries of the range
-picked : (c : After-from_vec) → c.from_vec.result ≡ filter (is_pair_in_range c.args.low.now (option_copied c.args.high)) c.args.values.entries
+picked : (c : After-drop-key-iterator-2) → c.loop-key.pairs ≡ filter (is_pair_in_range c.args.low.now (option_copied c.args.high)) c.args.values.entries
 picked c =
-    let items = c.loop-key.pairs.items in
+    let items = c.loop-key.pairs in
     let test = is_pair_in_range c.args.low.now (option_copied c.args.high) in
-    c.from_vec.ensures ∙ sym (append-nil items) ∙ sym (ap (λ (l : List Pair). items ++ filter test l) c.in-None.ensures.steps.0) ∙ c.loop-key.invariant
+    sym (append-nil items) ∙ sym (ap (λ (l : List Pair). items ++ filter test l) c.in-None.ensures.steps.0) ∙ c.loop-key.invariant
 
 pub returns-clause-sorted : goal.returns-clause-sorted
 returns-clause-sorted c =

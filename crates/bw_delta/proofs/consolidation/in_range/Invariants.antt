@@ -6,4 +6,4 @@ use Rattle.bw_delta.proofs.consolidation.in_range.Given as goal
 
 abbrev pub invariant-loop-key : goal.invariant-loop-key
 invariant-loop-key l =
-    l.pairs.items ++ filter (is_pair_in_range l.low (option_copied l.high)) l.key-iterator ≡ filter (is_pair_in_range l.low (option_copied l.high)) l.fn.values.entries
+    l.pairs ++ filter (is_pair_in_range l.low (option_copied l.high)) l.key-iterator ≡ filter (is_pair_in_range l.low (option_copied l.high)) l.fn.values.entries

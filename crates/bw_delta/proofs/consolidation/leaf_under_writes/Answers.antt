@@ -4,8 +4,7 @@ use Rattle.std.specs.FinMap.{find, is_sorted}
 use Rattle.std.specs.Option.{option_copied, option_or}
 use Rattle.bw_key.specs.Order.{key_cmp}
 use Rattle.bw_model.specs.Contents.{is_in_range}
-use Rattle.bw_model.specs.Lists.{Pair}
-use Rattle.bw_model.specs.Values.{ValueBytes}
+use Rattle.bw_model.specs.Values.{Pair, ValueBytes}
 use Rattle.bw_delta.specs.Batches.{writes_to}
 use Rattle.bw_delta.specs.History.{history, action_at, pointed_to}
 use Rattle.bw_delta.specs.Merging.{after_writes, merged_value, AreFrom}

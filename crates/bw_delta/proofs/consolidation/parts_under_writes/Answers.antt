@@ -5,8 +5,7 @@ use Rattle.std.specs.Option.{option_copied, option_or}
 use Rattle.std.specs.BTreeMap as tree
 use Rattle.bw_key.specs.Order.{KeyBytes, key_cmp, key_eq}
 use Rattle.bw_model.specs.Contents.{is_in_range}
-use Rattle.bw_model.specs.Lists.{Pair}
-use Rattle.bw_model.specs.Values.{ValueBytes}
+use Rattle.bw_model.specs.Values.{Pair, ValueBytes}
 use Rattle.bw_delta.specs.Writes.{WriteView}
 use Rattle.bw_delta.specs.History.{history, action_at, pointed_to}
 use Rattle.bw_delta.specs.Batches.{writes_to}

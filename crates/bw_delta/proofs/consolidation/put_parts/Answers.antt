@@ -5,8 +5,7 @@ use Rattle.std.specs.Option.{option_or}
 use Rattle.std.specs.FinMap.{find}
 use Rattle.std.specs.BTreeMap as tree
 use Rattle.bw_key.specs.Order.{key_cmp}
-use Rattle.bw_model.specs.Values.{ValueBytes}
-use Rattle.bw_model.specs.Lists.{Pair}
+use Rattle.bw_model.specs.Values.{Pair, ValueBytes}
 use Rattle.bw_page.specs.Leaves.{LeafView}
 use Rattle.bw_delta.specs.Pairs.{parts_of, value_in_parts}
 use Rattle.bw_delta.proofs.Maps.{value_last}
@@ -18,7 +17,7 @@ loop-part-preserved c = record {
       let rest = c.next.new.self.iter.rest.now in
       let part = c.in-Some.part.now in
       let before = tree.get key_cmp c.loop-part.values q in
-      let put = c.in_ok-put_pairs.ensures.inside q inside ∙ ap (λ (l : List Pair). option_or (find key_cmp q l) before) c.pairs.ensures.value in
+      let put = c.in_ok-put_pairs.ensures.inside q inside in
       let seen = ap parts_of c.in-Some.ensures.steps ∙ map-append (λ (r : Bor (LeafView ValueBytes)). r.now) rest (part ∷ []) in
       ap (option_or (value_in_parts (parts_of rest) q)) put ∙ value_last q (parts_of rest) part.now before
       ∙ ap (λ (l : List (LeafView ValueBytes)). option_or (value_in_parts l q) before) (sym seen) ∙ c.loop-part.invariant.inside q inside;

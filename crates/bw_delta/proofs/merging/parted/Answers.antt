@@ -1,34 +1,48 @@
-use Rattle.std.proofs.Common.{List, take, None, Some, sym, subst, ◌∙◌}
-use Rattle.bw_model.specs.Lists.{Pair}
+use Rattle.std.proofs.Common.{◌≡◌, ◌∙◌, ◌∷◌, [], List, None, Option, Some, ap, drop, false, get_or, subst, sym, take, true}
+use Rattle.bw_key.specs.Order.{KeyBytes, key_eq}
+use Rattle.bw_model.specs.Values.{Pair, ValueBytes}
 use Rattle.bw_delta.specs.Merging.{AreCutAt}
-use Rattle.bw_delta.proofs.Merges.{cut_found, cut_none, cut_other, no_length}
+use Rattle.bw_delta.proofs.Merges.{cut_found, cut_none, cut_other, first_of_rest, none_left, some_left, turned}
 use Rattle.bw_delta.proofs.merging.parted.Goals as goal
 
-pub returns-in_default : goal.returns-in_default
-returns-in_default c =
+pub returns-then-is_empty : goal.returns-then-is_empty
+returns-then-is_empty c =
     let key = c.args.key.now in
     let pairs = c.args.pairs.now in
     let at = c.place.result in
-    let none = sym c.split_at.ensures.back ∙ no_length c.split_at.result.1.now c.in_default.ensures.cases in
-    subst (λ (l : List Pair). AreCutAt pairs key l None c.split_at.result.1.now) (sym c.split_at.ensures.front)
-    (subst (λ (l : List Pair). AreCutAt pairs key (take at pairs) None l) (sym c.split_at.ensures.back) (cut_none key pairs at c.place.ensures.value none))
+    let none = sym c.split_at-before.ensures.back ∙ none_left c.split_at-before.result.1 c.is_empty.result c.is_empty.ensures c.if-is_empty.true in
+    subst (λ (l : List Pair). AreCutAt pairs key l None c.split_at-before.result.1) (sym c.split_at-before.ensures.front)
+    (subst (λ (l : List Pair). AreCutAt pairs key (take at pairs) None l) (sym c.split_at-before.ensures.back) (cut_none key pairs at c.place.ensures.value none))
 
-pub returns-then-eq : goal.returns-then-eq
-returns-then-eq c =
-    let key = c.args.key.now in
-    let pairs = c.args.pairs.now in
-    let pair = c.in-Some.pair.now in
-    let behind = c.in-Some.behind.now in
-    subst (λ (l : List Pair). AreCutAt pairs key l (Some pair.1) behind) (sym c.split_at.ensures.front)
-    (cut_found key pairs c.place.result pair behind c.place.ensures.value c.requires (sym c.split_at.ensures.back ∙ c.in-Some.ensures.cases.0) (sym c.eq.ensures ∙ c.if-eq.true))
-
-pub returns-else-eq : goal.returns-else-eq
-returns-else-eq c =
+pub returns-then-ne : goal.returns-then-ne
+returns-then-ne c =
     let key = c.args.key.now in
     let pairs = c.args.pairs.now in
     let at = c.place.result in
-    let pair = c.in-Some.pair.now in
-    let behind = c.in-Some.behind.now in
-    subst (λ (l : List Pair). AreCutAt pairs key l None c.split_at.result.1.now) (sym c.split_at.ensures.front)
-    (subst (λ (l : List Pair). AreCutAt pairs key (take at pairs) None l) (sym c.split_at.ensures.back)
-    (cut_other key pairs at pair behind c.place.ensures.value c.requires (sym c.split_at.ensures.back ∙ c.in-Some.ensures.cases.0) (sym c.eq.ensures ∙ c.if-eq.false)))
+    let rest = c.split_at-before.result.1 in
+    let pair = get_or rest 0 ([], []) in
+    let first = first_of_rest rest ([], []) (some_left rest c.is_empty.result c.is_empty.ensures c.if-is_empty.false) in
+    let other : key_eq pair.0 key ≡ false =
+    ap (λ (k : KeyBytes). key_eq k key) (sym (c.key_at.ensures ([], []))) ∙ ap (key_eq c.key_at.result.now) (sym c.bytes.ensures.value) ∙ turned _ true (sym c.ne.ensures ∙ c.if-ne.true)
+    in
+    subst (λ (l : List Pair). AreCutAt pairs key l None rest) (sym c.split_at-before.ensures.front)
+    (subst (λ (l : List Pair). AreCutAt pairs key (take at pairs) None l) (sym c.split_at-before.ensures.back)
+    (cut_other key pairs at pair (drop 1 rest) c.place.ensures.value c.requires (sym c.split_at-before.ensures.back ∙ first) other))
+
+pub returns : goal.returns
+returns c =
+    let key = c.args.key.now in
+    let pairs = c.args.pairs.now in
+    let at = c.place.result in
+    let rest = c.split_at-before.result.1 in
+    let pair = get_or rest 0 ([], []) in
+    let value = c.value_at-value.result.now in
+    let behind = c.split_at-first.result.1 in
+    let first = first_of_rest rest ([], []) (some_left rest c.is_empty.result c.is_empty.ensures c.if-is_empty.false) in
+    let same : key_eq pair.0 key ≡ true =
+    ap (λ (k : KeyBytes). key_eq k key) (sym (c.key_at.ensures ([], []))) ∙ ap (key_eq c.key_at.result.now) (sym c.bytes.ensures.value) ∙ turned _ false (sym c.ne.ensures ∙ c.if-ne.false)
+    in
+    subst (λ (l : List Pair). AreCutAt pairs key l (Some value) behind) (sym c.split_at-before.ensures.front)
+    (subst (λ (v : ValueBytes). AreCutAt pairs key (take at pairs) (Some v) behind) (sym (c.value_at-value.ensures ([], [])))
+    (subst (λ (l : List Pair). AreCutAt pairs key (take at pairs) (Some pair.1) l) (sym c.split_at-first.ensures.back)
+    (cut_found key pairs at pair (drop 1 rest) c.place.ensures.value c.requires (sym c.split_at-before.ensures.back ∙ first) same)))

@@ -3,7 +3,7 @@ use Rattle.std.specs.Map.{lookup}
 use Rattle.std.specs.Option.{option_copied, option_or}
 use Rattle.std.specs.BTreeMap as tree
 use Rattle.bw_key.specs.Order.{key_cmp}
-use Rattle.bw_model.specs.Lists.{Pair}
+use Rattle.bw_model.specs.Values.{Pair}
 use Rattle.bw_delta.specs.Pairs.{parts_of, value_in_parts}
 use Rattle.bw_delta.proofs.Maps.{found_in, or_none}
 use Rattle.bw_delta.proofs.Replays.{from_least}

@@ -7,4 +7,4 @@ use Rattle.bw_model.proofs.sorted.last_of.Given as goal
 
 abbrev pub invariant-loop-pair : goal.invariant-loop-pair
 invariant-loop-pair l =
-    IsPicking (is_pair_in_range l.from (option_copied l.to)) l.most l.list.items (reverse l.pair-iterator.iter.rest.now) (take l.most (reverse (filter (is_pair_in_range l.from (option_copied l.to)) l.pairs)))
+    IsPicking (is_pair_in_range l.from (option_copied l.to)) l.most l.list (reverse l.pair-iterator.iter.rest.now) (take l.most (reverse (filter (is_pair_in_range l.from (option_copied l.to)) l.pairs)))

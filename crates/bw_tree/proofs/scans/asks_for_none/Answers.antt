@@ -1,6 +1,6 @@
 use Rattle.std.proofs.Common.{◌≡◌, Bool, true, false, not, List, take, reverse, refl, ap, sym, ◌∙◌}
 use Rattle.std.specs.Option.{option_copied}
-use Rattle.bw_model.specs.Lists.{Pair}
+use Rattle.bw_model.specs.Values.{Pair}
 use Rattle.bw_tree.proofs.BackLemmas.{no_pairs}
 use Rattle.bw_tree.proofs.ReplayLemmas.{none_taken}
 use Rattle.bw_tree.proofs.scans.asks_for_none.Goals as goal

@@ -4,6 +4,6 @@ use Rattle.bw_delta.proofs.entries.Entries.add_copies.Given as goal
 
 abbrev pub invariant-loop : goal.invariant-loop
 invariant-loop l = record {
-  kept : take (length l.fn.read.items) l.read.items ≡ l.fn.read.items;
-  taken : l.read.items ++ take (l.most - l.counter) (entries_left l.self) ≡ l.fn.read.items ++ take l.most (entries_left l.fn.self);
+  kept : take (length l.fn.read) l.read ≡ l.fn.read;
+  taken : l.read ++ take (l.most - l.counter) (entries_left l.self) ≡ l.fn.read ++ take l.most (entries_left l.fn.self);
 }

@@ -2,7 +2,7 @@ use Rattle.std.proofs.Common.{◌≡◌, T, List, [], ◌∷◌, None, Result, O
 use Rattle.std.specs.List.{list_all}
 use Rattle.bw_key.specs.Order.{KeyBytes}
 use Rattle.bw_model.specs.Contents.{is_pair_in_range}
-use Rattle.bw_model.specs.Lists.{Pair}
+use Rattle.bw_model.specs.Values.{Pair}
 use Rattle.bw_page.proofs.Truths.{both_of, true_holds}
 use Rattle.bw_delta.proofs.Replays.{from_least}
 use Rattle.bw_delta_tests.proofs.tests.merges.drawn_leaf.Goals as goal

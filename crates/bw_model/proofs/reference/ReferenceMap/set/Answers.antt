@@ -2,8 +2,7 @@ use Rattle.std.proofs.Common.{List, sym, ap, subst, ◌∙◌}
 use Rattle.std.specs.FinMap.{from_sorted, insert, remove}
 use Rattle.bw_key.specs.Order.{KeyBytes, key_cmp}
 use Rattle.bw_model.specs.Contents.{Contents, set_at}
-use Rattle.bw_model.specs.Lists.{Pair}
-use Rattle.bw_model.specs.Values.{ValueBytes}
+use Rattle.bw_model.specs.Values.{Pair, ValueBytes}
 use Rattle.bw_model.proofs.Maps.{IsInOrder, order_after_put, order_after_remove, from_put, from_remove}
 use Rattle.bw_model.proofs.reference.ReferenceMap.set.Goals as goal
 

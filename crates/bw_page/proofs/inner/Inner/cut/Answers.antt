@@ -12,7 +12,7 @@ invariant_of-result c =
     let items = c.self.inside.children.items in
     let there : c.args.keep < length items = omega (arith, c.requires.fewer, ap (λ (v : InnerView). length v.children) c.self.view_is) in
     same_inner c.self.inside.level _ _ _ _
-    (c.in_ok-bounds.ensures ∙ ap (λ (k : KeyBytes). record bounds { low = k }) (first_read items c.args.keep c.index.result.now there c.index.ensures))
+    (c.in_ok-bounds.ensures ∙ ap (λ (k : KeyBytes). record bounds { low = k }) (c.in_ok-copy.ensures.ok ∙ first_read items c.args.keep c.index.result.now there c.index.ensures))
     c.in_ok-children.ensures.rest
     (upper_inner_page c.self.inside.level bounds.low bounds.high bounds.side items c.args.keep c.self.invariant there)
 

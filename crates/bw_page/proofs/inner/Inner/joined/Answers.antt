@@ -13,5 +13,5 @@ invariant_of-result c =
     ap (λ (v : InnerView). v.high) c.self.view_is ∙ c.requires.next ∙ sym (ap (λ (v : InnerView). Some v.low) c.right.view_is)
     in
     let all : c.in_ok-join.field-0.items ≡ c.self.inside.children.items ++ c.right.inside.children.items = cc (c.in_ok-join.ensures, c.deref.ensures.value, c.deref-2.ensures.value) in
-    same_inner c.self.inside.level _ _ _ _ (c.in_ok-with_low.ensures ∙ ap (λ (k : KeyBytes). record right { low = k }) c.low.ensures) all
+    same_inner c.self.inside.level _ _ _ _ (c.in_ok-with_low.ensures ∙ ap (λ (k : KeyBytes). record right { low = k }) (c.in_ok-copy.ensures.ok ∙ c.low.ensures)) all
     (joined_inner_page c.self.inside.level c.right.inside.level left.low right.low left.high right.high left.side right.side c.self.inside.children.items c.right.inside.children.items meets c.self.invariant c.right.invariant)

@@ -11,6 +11,6 @@ invariant_of-result c =
     let items = c.self.inside.children.items in
     let there : c.args.keep < length items = omega (arith, c.requires, ap (λ (v : InnerView). length v.children) c.self.view_is) in
     same_inner c.self.inside.level _ _ _ _
-    (c.in_ok-with_low.ensures ∙ ap (λ (k : KeyBytes). record bounds { low = k }) (first_read items c.args.keep c.index.result.now there c.index.ensures))
+    (c.in_ok-with_low.ensures ∙ ap (λ (k : KeyBytes). record bounds { low = k }) (c.in_ok-copy.ensures.ok ∙ first_read items c.args.keep c.index.result.now there c.index.ensures))
     (c.in_ok-copy_from.ensures ∙ ap (drop c.args.keep) c.deref.ensures.value)
     (upper_inner_page c.self.inside.level bounds.low bounds.high bounds.side items c.args.keep c.self.invariant there)

@@ -1,6 +1,4 @@
-use Rattle.std.proofs.Common.{◌≡◌, ◌∙◌, ℕ, T, List, ap, refl, sym, subst}
-use Rattle.std.specs.FinMap.{is_sorted}
-use Rattle.bw_key.specs.Order.{KeyBytes, key_cmp}
+use Rattle.std.proofs.Common.{◌≡◌, ◌∙◌, ap, refl}
 use Rattle.bw_page.specs.Inners.{InnerView}
 use Rattle.bw_page.specs.Merging.{put_all}
 use Rattle.bw_page.specs.Pages.{BoundsView}

@@ -13,6 +13,6 @@ invariant_of-result c =
     let meets : left.high ≡ Some right.low =
     ap (λ (v : LeafView ValueBytes). v.high) c.self.view_is ∙ c.requires ∙ sym (ap (λ (v : LeafView ValueBytes). Some v.low) c.right.view_is)
     in
-    let all : c.in_ok-join.field-0.items ≡ c.self.inside.pairs.items ++ c.right.inside.pairs.items = cc (c.in_ok-join.ensures, c.deref.ensures.value, c.deref-2.ensures.value) in
-    same_page _ _ _ _ (c.in_ok-with_low.ensures ∙ ap (λ (k : KeyBytes). record right { low = k }) c.low.ensures) all
-    (joined_page left.low right.low left.high right.high left.side right.side c.self.inside.pairs.items c.right.inside.pairs.items meets c.self.invariant c.right.invariant)
+    let all : c.in_ok-join.field-0 ≡ c.self.inside.pairs ++ c.right.inside.pairs = c.in_ok-join.ensures in
+    same_page _ _ _ _ (c.in_ok-with_low.ensures ∙ ap (λ (k : KeyBytes). record right { low = k }) (c.in_ok-copy.ensures.ok ∙ c.low.ensures)) all
+    (joined_page left.low right.low left.high right.high left.side right.side c.self.inside.pairs c.right.inside.pairs meets c.self.invariant c.right.invariant)

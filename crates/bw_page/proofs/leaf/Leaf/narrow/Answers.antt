@@ -7,5 +7,5 @@ use Rattle.bw_page.proofs.leaf.Leaf.narrow.Goals as goal
 
 pub invariant_of-self : goal.invariant_of-self
 invariant_of-self c =
-    same_below c.self.inside.bounds _ c.args.high _ c.self.inside.pairs.items _ c.narrow.ensures c.keep_below.ensures
+    same_below c.self.inside.bounds _ c.args.high _ c.self.inside.pairs _ c.narrow.ensures c.keep_below.ensures
     (subst (λ (v : LeafView ValueBytes). T (is_below_end (Some c.args.high) v.low)) (sym c.self.view_is) c.requires) c.self.invariant

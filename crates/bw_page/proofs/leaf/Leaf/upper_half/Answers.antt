@@ -1,17 +1,14 @@
-use Rattle.std.proofs.Common.{◌∙◌, ◌<◌, ap, drop, length, arith}
-use Rattle.bw_model.specs.Values.{ValueBytes}
-use Rattle.bw_page.specs.Leaves.{LeafView}
-use Rattle.bw_page.specs.Pages.{BoundsView}
-use Rattle.bw_key.specs.Order.{KeyBytes}
-use Rattle.bw_page.proofs.Entries.{first_read, same_page, upper_page}
+use Rattle.bw_page.proofs.LeafLemmas.{upper_part}
 use Rattle.bw_page.proofs.leaf.Leaf.upper_half.Goals as goal
 
 pub invariant_of-result : goal.invariant_of-result
 invariant_of-result c =
-    let bounds : BoundsView = c.self.inside.bounds in
-    let items = c.self.inside.pairs.items in
-    let there : c.args.keep < length items = omega (arith, c.requires, ap (λ (v : LeafView ValueBytes). length v.pairs) c.self.view_is) in
-    same_page _ _ _ _
-    (c.in_ok-with_low.ensures ∙ ap (λ (k : KeyBytes). record bounds { low = k }) (first_read items c.args.keep c.index.result.now there c.index.ensures))
-    (c.in_ok-copy_from.ensures ∙ ap (drop c.args.keep) c.deref.ensures.value)
-    (upper_page bounds.low bounds.high bounds.side items c.args.keep c.self.invariant there)
+    (upper_part c.args.self.now c.self.inside.bounds c.self.inside.pairs c.args.keep c.self.view_is c.requires c.in_ok-with_low.field-0 c.in_ok-key_at.field-0 c.in_ok-copy_from.field-0 c.in_ok-key_at.ensures c.in_ok-with_low.ensures c.in_ok-copy_from.ensures c.self.invariant).rules
+
+pub returns-clause-value : goal.returns-clause-value
+returns-clause-value c =
+    (upper_part c.args.self.now c.self.inside.bounds c.self.inside.pairs c.args.keep c.self.view_is c.requires c.in_ok-with_low.field-0 c.in_ok-key_at.field-0 c.in_ok-copy_from.field-0 c.in_ok-key_at.ensures c.in_ok-with_low.ensures c.in_ok-copy_from.ensures c.self.invariant).view
+
+pub returns-clause-kept : goal.returns-clause-kept
+returns-clause-kept c =
+    (upper_part c.args.self.now c.self.inside.bounds c.self.inside.pairs c.args.keep c.self.view_is c.requires c.in_ok-with_low.field-0 c.in_ok-key_at.field-0 c.in_ok-copy_from.field-0 c.in_ok-key_at.ensures c.in_ok-with_low.ensures c.in_ok-copy_from.ensures c.self.invariant).begins

@@ -5,7 +5,7 @@ use Rattle.std.specs.Option.{option_copied}
 use Rattle.std.specs.FinMap.Entries.{where_key}
 use Rattle.bw_key.specs.Order.{key_cmp}
 use Rattle.bw_model.specs.Contents.{is_below_end, is_pair_in_range, pairs_of_range}
-use Rattle.bw_model.specs.Lists.{Pair}
+use Rattle.bw_model.specs.Values.{Pair}
 use Rattle.bw_chain.specs.Levels.{row}
 use Rattle.bw_chain.specs.Slots.{slot_at, has_key}
 use Rattle.bw_chain.specs.Scans.{IsLeafReplay, high_of}
@@ -18,7 +18,7 @@ pub returns-clause-read : goal.returns-clause-read
 returns-clause-read c =
     let tree = c.self.inside.tree.now in
     let now = ap (λ (v : ScansView). v.tree) c.self.view_is in
-    let read = c.args.read.now.items in
+    let read = c.args.read.now in
     let from = c.args.from.now in
     let to = option_copied c.args.to in
     let replay = c.in_ok-leaf.leaf.replay in
@@ -31,5 +31,5 @@ returns-clause-read c =
     (λ key. c.lower_end-end.ensures key ∙ ap (λ o. is_below_end o key && is_below_end to key) c.in_ok-leaf.ensures.leaf.end ∙ ap (λ (t : TreeView). is_below_end (high_of (slot_at t.slots page)) key && is_below_end to key) (sym now))
     c.add_pairs.ensures.sorted (subst (λ (t : TreeView). IsLeafReplay (slot_at t.slots page) replay) (sym now) c.in_ok-leaf.ensures.leaf.replay) in
     c.in_ok-add_pairs.ensures.added
-    ∙ ap (λ n. read ++ take n (in_order c.args.scan.order (filter (is_pair_in_range from (option_copied c.lower_end-end.result)) replay.pairs))) (omega (arith, c.saturating_sub-left.ensures, c.len.ensures, c.args.read.now.ok))
+    ∙ ap (λ n. read ++ take n (in_order c.args.scan.order (filter (is_pair_in_range from (option_copied c.lower_end-end.result)) replay.pairs))) (omega (arith, c.saturating_sub-left.ensures, c.len.ensures))
     ∙ ap (λ (l : List Pair). read ++ take left (in_order c.args.scan.order l)) (leaf_pairs ∙ ap (on_leaf tree) c.in_ok-leaf.ensures.stamp ∙ ap (λ (t : TreeView). on_leaf t c.args.scan.stamp) now)

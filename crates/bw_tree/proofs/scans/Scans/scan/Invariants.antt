@@ -10,7 +10,7 @@ use Rattle.bw_tree.proofs.scans.Scans.scan.Given as goal
 abbrev pub invariant-loop-read : goal.invariant-loop-read
 invariant-loop-read l = record {
   same : l.self.tree ≡ l.fn.self.tree;
-  has_read : HasRead l.fn.self.tree (pairs_of_range (contents_at l.fn.self.tree l.stamp) l.from (option_copied l.to)) l.most l.read.items l.page;
+  has_read : HasRead l.fn.self.tree (pairs_of_range (contents_at l.fn.self.tree l.stamp) l.from (option_copied l.to)) l.most l.read l.page;
 }
 
 abbrev pub decreases-loop-read : goal.decreases-loop-read

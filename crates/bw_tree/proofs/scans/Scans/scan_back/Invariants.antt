@@ -9,7 +9,7 @@ use Rattle.bw_tree.proofs.scans.Scans.scan_back.Given as goal
 abbrev pub invariant-loop-read : goal.invariant-loop-read
 invariant-loop-read l = record {
   same : l.self.tree ≡ l.fn.self.tree;
-  has_read : HasReadBack (pairs_of_range (contents_at l.fn.self.tree l.stamp) l.from (option_copied l.fn.to)) l.most l.read.items l.from (option_copied l.fn.to) (option_copied l.end);
+  has_read : HasReadBack (pairs_of_range (contents_at l.fn.self.tree l.stamp) l.from (option_copied l.fn.to)) l.most l.read l.from (option_copied l.fn.to) (option_copied l.end);
 }
 
 abbrev pub decreases-loop-read : goal.decreases-loop-read

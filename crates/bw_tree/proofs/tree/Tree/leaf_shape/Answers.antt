@@ -19,10 +19,10 @@ pub returns : goal.returns
 returns c =
     let tree = c.args.self.now in
     let is = c.in_ok-leaf.ensures.leaf in
-    let count : c.len.result ≡ length c.in_ok-leaf.leaf.writes.items = omega (arith, c.len.ensures, c.in_ok-leaf.leaf.writes.ok) in
+    let count : c.len-2.result ≡ length c.in_ok-leaf.leaf.writes.items = omega (arith, c.len-2.ensures, c.in_ok-leaf.leaf.writes.ok) in
     if_same c.shape_from.result _ _
-    (parts_shape tree 0 c.args.page c.low-low.result.now (option_copied c.in_ok-leaf.leaf.end) (length c.as_slice.result.now) c.len.result (c.low-low.ensures.value ∙ is.low) is.end
-    (ap length c.as_slice.ensures ∙ leaf_pairs_on tree tree.root c.know_levels.ensures.lawful c.know_levels.ensures.distinct c.args.page c.self.inside.next c.low-low.result.now (option_copied c.in_ok-leaf.leaf.end) c.in_ok-pairs.pairs c.requires
+    (parts_shape tree 0 c.args.page c.low-low.result.now (option_copied c.in_ok-leaf.leaf.end) c.len.result c.len-2.result (c.low-low.ensures.value ∙ is.low) is.end
+    (c.len.ensures ∙ leaf_pairs_on tree tree.root c.know_levels.ensures.lawful c.know_levels.ensures.distinct c.args.page c.self.inside.next c.low-low.result.now (option_copied c.in_ok-leaf.leaf.end) c.in_ok-pairs.pairs c.requires
     (ap (λ (v : TreeView). v.next) c.self.view_is) (c.low-low.ensures.value ∙ is.low) is.end (c.in_ok-pairs.ensures (slot_at tree.slots c.args.page) is))
     (count ∙ sym (length-map c.in_ok-leaf.leaf.writes.items (λ w. w.now)) ∙ ap length is.writes))
     c.shape_from.ensures
