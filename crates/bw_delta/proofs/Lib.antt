@@ -10,4 +10,5 @@ pub mod Readings
 pub mod Replays
 pub mod Stagings
 pub mod Merges
+pub mod Changes
 pub mod Dues

@@ -32,14 +32,14 @@ self_same : (k : KeyBytes) → key_eq k k ≡ true
 self_same k = key_ties k k ∙ ap is_eq (cmp_self k)
 
 -- of two keys that differ one is above the other
-above_it : (a b : KeyBytes) → is_lt (key_cmp a b) ≡ false → key_eq a b ≡ false → is_lt (key_cmp b a) ≡ true
+pub above_it : (a b : KeyBytes) → is_lt (key_cmp a b) ≡ false → key_eq a b ≡ false → is_lt (key_cmp b a) ≡ true
 above_it a b upto apart = elim (is_lt (key_cmp b a)) as (λ t. is_lt (key_cmp b a) ≡ t → t ≡ true) [
   | true ↦ λ e. refl
   | false ↦ λ e. absurd (different (sym (self_same a) ∙ ap (key_eq a) (neither_below a b upto e) ∙ apart))
 ] refl
 
 -- a key below another is below all that the other is below
-below_more : (x k : KeyBytes) (es : List Pair) → is_lt (key_cmp x k) ≡ true → T (below_all key_cmp k es) → T (below_all key_cmp x es)
+pub below_more : {V : Type 0} (x k : KeyBytes) (es : List (KeyBytes × V)) → is_lt (key_cmp x k) ≡ true → T (below_all key_cmp k es) → T (below_all key_cmp x es)
 below_more x k [] lt h = tt
 below_more x k (e ∷ es) lt h =
     both_of _ _ (true_holds _ (below_trans x k e.0 lt (holds _ (left_of _ _ h)))) (below_more x k es lt (right_of _ _ h))
@@ -55,14 +55,14 @@ below_both k [] ys h i = i
 below_both k (x ∷ xs) ys h i = both_of _ _ (left_of _ _ h) (below_both k xs ys (right_of _ _ h) i)
 
 -- no pair behind a key is at it
-find_behind : (k : KeyBytes) (es : List Pair) → T (below_all key_cmp k es) → find key_cmp k es ≡ None
+pub find_behind : {V : Type 0} (k : KeyBytes) (es : List (KeyBytes × V)) → T (below_all key_cmp k es) → find key_cmp k es ≡ None
 find_behind k [] h = refl
 find_behind k (e ∷ es) h =
     ap (λ b. cond b (Some e.1) (find key_cmp k es)) (sym (key_ties k e.0) ∙ less_apart k e.0 (holds _ (left_of _ _ h)))
     ∙ find_behind k es (right_of _ _ h)
 
 -- the value at a key between those below it and those behind it
-pub find_parted : (q k : KeyBytes) (v : Option ValueBytes) (xs ys : List Pair) → AreBelow k xs → T (below_all key_cmp k ys) →
+pub find_parted : {V : Type 0} (q k : KeyBytes) (v : Option V) (xs ys : List (KeyBytes × V)) → AreBelow k xs → T (below_all key_cmp k ys) →
     find key_cmp q (xs ++ with_value k v ys) ≡ cond (key_eq q k) v (find key_cmp q (xs ++ ys))
 find_parted q k None [] ys below above = elim (key_eq q k) as (λ t. key_eq q k ≡ t → find key_cmp q ys ≡ cond t None (find key_cmp q ys)) [
   | true ↦ λ e. ap (λ (x : KeyBytes). find key_cmp x ys) (same_keys q k e) ∙ find_behind k ys above
@@ -84,9 +84,14 @@ find_parted q k v (x ∷ xs) ys below above = elim (key_eq q x.0) as (λ t. key_
     ] refl
 
 -- the rest of a sorted list is sorted
-pub sorted_rest : (xs ys : List Pair) → T (is_sorted key_cmp (xs ++ ys)) → T (is_sorted key_cmp ys)
+pub sorted_rest : {V : Type 0} (xs ys : List (KeyBytes × V)) → T (is_sorted key_cmp (xs ++ ys)) → T (is_sorted key_cmp ys)
 sorted_rest [] ys h = h
 sorted_rest (x ∷ xs) ys h = sorted_rest xs ys (right_of _ _ h)
+
+-- a key below another is below all that stand from the other on
+pub below_with : {V : Type 0} (x k : KeyBytes) (v : Option V) (ys : List (KeyBytes × V)) → is_lt (key_cmp x k) ≡ true → T (below_all key_cmp k ys) → T (below_all key_cmp x (with_value k v ys))
+below_with x k None ys lt above = below_more x k ys lt above
+below_with x k (Some u) ys lt above = both_of _ _ (true_holds _ lt) (below_more x k ys lt above)
 
 -- with another value at the key, or none, it is sorted too
 pub sorted_with : (k : KeyBytes) (v w : Option ValueBytes) (xs ys : List Pair) → AreBelow k xs → T (below_all key_cmp k ys) →
@@ -107,11 +112,7 @@ sorted_with k v w (x ∷ xs) ys below above h =
     lower = holds _ (left_of _ _ below)
 
     first_below : (xs : List Pair) → T (below_all key_cmp x.0 (xs ++ with_value k v ys)) → T (below_all key_cmp x.0 (xs ++ with_value k w ys))
-    first_below [] h = at w
-      where
-        at : (w : Option ValueBytes) → T (below_all key_cmp x.0 (with_value k w ys))
-        at None = below_more x.0 k ys lower above
-        at (Some u) = both_of _ _ (true_holds _ lower) (below_more x.0 k ys lower above)
+    first_below [] h = below_with x.0 k w ys lower above
     first_below (y ∷ xs) h = both_of _ _ (left_of _ _ h) (first_below xs (right_of _ _ h))
 
 -- writes from a key on have none at a lower key
@@ -150,7 +151,7 @@ one_key k v w xs ys ws later below above left others behind q =
         ∙ ap (after_writes (find key_cmp q (xs ++ ys))) (others q e)
         ∙ sym (ap (λ b. after_writes (cond b v (find key_cmp q (xs ++ ys))) (writes_to q ws)) e)
 
-value_then : (k : KeyBytes) (v : Option ValueBytes) (ys : List Pair) → with_value k v [] ++ ys ≡ with_value k v ys
+pub value_then : (k : KeyBytes) (v : Option ValueBytes) (ys : List Pair) → with_value k v [] ++ ys ≡ with_value k v ys
 value_then k None ys = refl
 value_then k (Some w) ys = refl
 

@@ -2,6 +2,7 @@
 use Rattle.std.proofs.Common.{◌≡◌, ℕ, zero, suc, ◌+◌, ◌≤◌, Ordering, Bool, true, false, cond, not, ◌&&◌, T, List, [], ◌∷◌, ◌++◌, drop, length, take, nat_le, Option, Some, None, refl, sym, ap, ◌∙◌, subst, arith}
 use Rattle.std.proofs.lemmas.List.{append_assoc, length-take, take-append-le}
 use Rattle.std.specs.Prelude.{filter}
+use Rattle.std.specs.List.{list_all}
 use Rattle.std.specs.Ordering.{is_gt, is_le, is_lt, ordering_reverse}
 use Rattle.std.specs.BTreeMap.Range.{entries_between}
 use Rattle.std.specs.declared.cmp.Ordering.TheVariants.{Less, Equal, Greater}
@@ -10,7 +11,7 @@ use Rattle.std.specs.FinMap.{find}
 use Rattle.bw_key.specs.Order.{KeyBytes, key_cmp, key_cmp_total, key_eq}
 use Rattle.bw_model.specs.Contents.{is_below_end, is_in_range, is_pair_in_range}
 use Rattle.bw_model.specs.Values.{ValueBytes}
-use Rattle.bw_page.proofs.Truths.{holds}
+use Rattle.bw_page.proofs.Truths.{both_of, holds, true_holds}
 use Rattle.bw_page.proofs.KeyLemmas.{below_trans}
 use Rattle.bw_delta.specs.Writes.{WriteView}
 use Rattle.bw_delta.specs.History.{history, action_at}
@@ -46,6 +47,10 @@ pub from_least : (high : Option KeyBytes) (low key : KeyBytes) → low ≡ [] �
 from_least high low key least below =
     ap (λ (l : KeyBytes). not (is_lt (key_cmp key l)) && is_below_end high key) least
     ∙ ap (λ b. not b && is_below_end high key) (none_below_least key) ∙ holds _ below
+
+pub all_from_least : {V : Type 0} (es : List (KeyBytes × V)) → T (list_all (is_pair_in_range [] None) es)
+all_from_least [] = tt
+all_from_least (e ∷ es) = both_of _ _ (true_holds _ (from_least None [] e.0 refl tt)) (all_from_least es)
 
 module _ (start : KeyBytes → Option ValueBytes) (high : Option KeyBytes) (writes : List WriteView) where
   -- a replay that went on to a later stamp

@@ -3,7 +3,6 @@ pub mod Arenas
 pub mod History
 pub mod Rising
 pub mod Readings
-pub mod Entries
 pub mod Present
 pub mod Replays
 pub mod Batches

@@ -35,7 +35,7 @@ AreBehind key [] = Unit {0}
 AreBehind key (w ∷ ws) = (is_lt (key_cmp key w.key) ≡ true) × AreFrom w.key ws
 
 -- the keys of the pairs are below this one
-abbrev pub AreBelow : KeyBytes → List Pair → Type 0
+abbrev pub AreBelow : {V : Type 0} → KeyBytes → List (KeyBytes × V) → Type 0
 AreBelow key pairs = T (list_all (λ pair. is_lt (key_cmp pair.0 key)) pairs)
 
 -- the keys of the writes don't fall, and all are above those of the pairs
@@ -44,7 +44,7 @@ ArePast pairs [] = Unit {0}
 ArePast pairs (w ∷ ws) = AreBelow w.key pairs × AreFrom w.key ws
 
 -- these pairs behind the one at a key, where the key has a value
-abbrev pub with_value : KeyBytes → Option ValueBytes → List Pair → List Pair
+abbrev pub with_value : {V : Type 0} → KeyBytes → Option V → List (KeyBytes × V) → List (KeyBytes × V)
 with_value key None pairs = pairs
 with_value key (Some value) pairs = (key, value) ∷ pairs
 

@@ -8,12 +8,12 @@
 mod arena;
 mod consolidation;
 mod deltas;
-mod entries;
 mod laws;
 mod merging;
 mod present;
 mod reading;
 mod replay;
+mod runs;
 mod writes;
 
 pub use arena::Arena;

@@ -103,8 +103,8 @@ fn push_key<'a>(
     Ok((behind, count))
 }
 
-// Cuts sorted pairs into those below a key, its value, and those behind it, in about log2 n key comparisons.
-fn parted<'a>(pairs: &Run<'a>, key: &Key) -> (Run<'a>, Option<&'a [u8]>, Run<'a>)
+/// Cuts sorted pairs into those below a key, its value, and those behind it, in about log2 n key comparisons.
+pub(crate) fn parted<'a>(pairs: &Run<'a>, key: &Key) -> (Run<'a>, Option<&'a [u8]>, Run<'a>)
     requires { T (is_sorted key_cmp pairs.now) }
     ensures { AreCutAt pairs.now key.now result.0 (option_copied result.1) result.2 }
 {

@@ -1,18 +1,20 @@
 // The pairs that a replay has now.
-ghost use Rattle.std.specs.Prelude.{◌≡◌, ◌≤◌, ◌++◌, T, drop, filter, length, reverse, take, IfOk, OnOk};
+ghost use Rattle.std.specs.Prelude.{◌≡◌, ◌≤◌, ◌++◌, T, drop, filter, length, reverse, take, IfOk, OnOk, if◌then◌else◌};
 ghost use Rattle.std.specs.Option.{option_copied};
 ghost use Rattle.std.specs.FinMap.{find, is_sorted};
-ghost use Rattle.bw_key.specs.Order.{KeyBytes, key_cmp};
+ghost use Rattle.bw_key.specs.Order.{KeyBytes, key_cmp, key_eq};
+ghost use Rattle.bw_model.specs.Actions.{effect};
 ghost use Rattle.bw_model.specs.Contents.{is_below_end, is_pair_in_range};
 ghost use Rattle.bw_delta.specs.Batches.{writes_to};
 ghost use Rattle.bw_delta.specs.History.{history, action_at, pointed_to};
 ghost use Rattle.bw_delta.specs.Pairs.{parts_of, value_in_parts};
-ghost use Rattle.bw_delta.specs.Present.{present_pairs};
+ghost use Rattle.bw_delta.specs.Present.{base_pairs, present_pairs};
 ghost use Rattle.bw_delta.specs.Readings.{from_stamp};
 ghost use Rattle.bw_delta.specs.Rising.{HasRisingStamps};
 
-use crate::consolidation::{put_parts, put_writes};
-use crate::entries::{Entries, add_back, add_front};
+use crate::consolidation::joined;
+use crate::reading::copied;
+use crate::runs::{add_falling, add_rising};
 use crate::writes::Write;
 use bw_key::{Key, Memory};
 use bw_memory::Alloc;
@@ -21,11 +23,34 @@ use bw_page::Leaf;
 use std::collections::BTreeMap;
 use std::collections::btree_map::Range;
 
-/// The pairs of a page: on its leaf, until a write changes them, and in an ordered map from then on.
+/// The pairs of a page: those of its base, which stay where they stand, and what writes made of some of them.
+///
+/// A change costs a search among the changes and one on the base. A read passes the changes in its range, and copies what
+/// lies between two of them as one block.
 #[derive(Debug, Drop)]
-pub(crate) enum Present<'a> {
-    OnLeaf(&'a Leaf),
-    InMap(BTreeMap<Key, Value, Alloc>),
+pub(crate) struct Present<'a> {
+    base: Base<'a>,
+    // at each key that a write changed its value now, or none where the base has the key alone
+    changes: BTreeMap<Key, Option<Value>, Alloc>,
+}
+
+/// The leaf that lies under the changes.
+#[derive(Debug, Drop)]
+pub(crate) enum Base<'a> {
+    Lent(&'a Leaf),
+    // of several parts
+    Joined(Leaf),
+}
+
+impl<'a> Base<'a> {
+    fn leaf(&self) -> &Leaf
+        ensures { result.now.pairs ≡ base_pairs self.now }
+    {
+        match self {
+            Base::Lent(leaf) => leaf,
+            Base::Joined(leaf) => leaf,
+        }
+    }
 }
 
 impl<'a> Present<'a> {
@@ -39,26 +64,20 @@ impl<'a> Present<'a> {
         ensures { IfOk result (λ present. (q : KeyBytes) → T (is_below_end (option_copied high.entry) q) →
             find key_cmp q (present_pairs present) ≡ value_in_parts (parts_of parts.now) q) }
     {
-        if parts.len() == 1 {
-            return Ok(Present::OnLeaf(parts[0]));
-        }
-        Ok(Present::InMap(map_of(alloc, parts, high)?))
-    }
-
-    // The same pairs in a map.
-    fn into_map(self, alloc: Alloc) -> Result<BTreeMap<Key, Value, Alloc>, Memory>
-        ensures { IfOk result (λ values. (q : KeyBytes) →
-            find key_cmp q values.entries ≡ find key_cmp q (present_pairs self.entry)) }
-    {
-        match self {
-            Present::OnLeaf(leaf) => map_of(alloc, &[leaf], None),
-            Present::InMap(values) => Ok(values),
-        }
+        let base = if parts.len() == 1 {
+            Base::Lent(parts[0])
+        } else {
+            Base::Joined(joined(alloc, parts, high)?)
+        };
+        Ok(Present {
+            base,
+            changes: BTreeMap::new(alloc),
+        })
     }
 
     /// The pairs once the writes below a stamp had their effects, and how many these are.
     pub(crate) fn put_writes(
-        self,
+        mut self,
         alloc: Alloc,
         writes: &[&Write],
         stamp: u64,
@@ -71,15 +90,48 @@ impl<'a> Present<'a> {
             ≡ from_stamp stamp (pointed_to writes.now)) }
         ensures bound { IfOk result (λ put. put.1 ≤ length writes.now) }
     {
-        let Some(first) = writes.first() else {
-            return Ok((self, 0));
-        };
-        if first.stamp >= stamp {
-            return Ok((self, 0));
+        for (at, write) in writes.iter().enumerate() {
+            if write.stamp >= stamp {
+                return Ok((self, at));
+            }
+            self.put_write(alloc, write)?;
         }
-        let mut values = self.into_map(alloc)?;
-        let passed = put_writes(alloc, &mut values, writes, stamp)?;
-        Ok((Present::InMap(values), passed))
+        Ok((self, writes.len()))
+    }
+
+    // Lets a write have its effect.
+    fn put_write(&mut self, alloc: Alloc, write: &Write) -> Result<(), Memory>
+        ensures { OnOk result ((q : KeyBytes) → find key_cmp q (present_pairs self.new) ≡
+            (if key_eq q write.now.key then effect write.now.action (find key_cmp q (present_pairs self.old))
+            else find key_cmp q (present_pairs self.old))) }
+    {
+        let left = write.action.effect(self.value_at(&write.key));
+        let left = copied(alloc, left)?;
+        self.set(&write.key, left)
+    }
+
+    // The value at a key.
+    fn value_at(&self, key: &Key) -> Option<&[u8]>
+        ensures { option_copied result ≡ find key_cmp key.now (present_pairs self.now) }
+    {
+        match self.changes.get(key) {
+            Some(Some(value)) => Some(value.bytes()),
+            Some(None) => None,
+            None => self.base.leaf().find(key),
+        }
+    }
+
+    // Puts a value at a key, or takes it away. Where neither it nor the base has one, the key is no change.
+    fn set(&mut self, key: &Key, value: Option<Value>) -> Result<(), Memory>
+        ensures { OnOk result ((q : KeyBytes) → find key_cmp q (present_pairs self.new) ≡
+            (if key_eq q key.now then value else find key_cmp q (present_pairs self.old))) }
+    {
+        if value.is_none() && self.base.leaf().find(key).is_none() {
+            self.changes.remove(key);
+            return Ok(());
+        }
+        self.changes.insert(key.copy()?, value)?;
+        Ok(())
     }
 
     /// Adds the first pairs from `low` on and below `high` to a list, no more than `most` of them.
@@ -96,12 +148,8 @@ impl<'a> Present<'a> {
             ≡ read.old ++ take most (filter (is_pair_in_range low.now (option_copied high.entry))
             (present_pairs self.now))) }
     {
-        match self {
-            Present::OnLeaf(leaf) => add_front(&leaf.between(low, high), most, read),
-            Present::InMap(values) => Entries::Rising(range(values, low, high)).add_copies(
-                most, read,
-            ),
-        }
+        let pairs = self.base.leaf().between(low, high);
+        add_rising(pairs, range(&self.changes, low, high), most, read)
     }
 
     /// Adds the last pairs from `low` on and below `high` to a list, the greatest key first, no more than `most` of them.
@@ -118,42 +166,23 @@ impl<'a> Present<'a> {
             ≡ read.old ++ take most (reverse (filter (is_pair_in_range low.now (option_copied high.entry))
             (present_pairs self.now)))) }
     {
-        match self {
-            Present::OnLeaf(leaf) => add_back(&leaf.between(low, high), most, read),
-            Present::InMap(values) => Entries::Falling(range(values, low, high).rev()).add_copies(
-                most, read,
-            ),
-        }
+        let pairs = self.base.leaf().between(low, high);
+        add_falling(pairs, range(&self.changes, low, high), most, read)
     }
 }
 
-// The pairs of the parts whose keys are below `high` in a map, of two with one key that of the first part.
-fn map_of(
-    alloc: Alloc,
-    parts: &[&Leaf],
-    high: Option<&Key>,
-) -> Result<BTreeMap<Key, Value, Alloc>, Memory>
-    ensures { IfOk result (λ values. (q : KeyBytes) → T (is_below_end (option_copied high.entry) q) →
-        find key_cmp q values.entries ≡ value_in_parts (parts_of parts.now) q) }
-{
-    let low = Key::new(alloc, &[]).unwrap();
-    let mut values = BTreeMap::new(alloc);
-    put_parts(&mut values, parts, &low, high)?;
-    Ok(values)
-}
-
-// The entries of a map from `low` on and below `high`.
+// The changes from `low` on and below `high`.
 fn range<'v>(
-    values: &'v BTreeMap<Key, Value, Alloc>,
+    changes: &'v BTreeMap<Key, Option<Value>, Alloc>,
     low: &Key,
     high: Option<&Key>,
-) -> Range<'v, Key, Value>
-    ensures sorted { T (is_sorted key_cmp values.now.entries) }
-    ensures between { result ≡ filter (is_pair_in_range low.now (option_copied high.entry)) values.now.entries }
+) -> Range<'v, Key, Option<Value>>
+    ensures sorted { T (is_sorted key_cmp changes.now.entries) }
+    ensures between { result ≡ filter (is_pair_in_range low.now (option_copied high.entry)) changes.now.entries }
 {
     let Some(high) = high else {
-        return values.range(low..);
+        return changes.range(low..);
     };
     let end = if *high < *low { low } else { high };
-    values.range(low..end)
+    changes.range(low..end)
 }

@@ -21,8 +21,8 @@ use std::marker::Model;
 
 /// The pairs of a page as of a stamp that rises. However many stamps they are read as of, each write has its effect once.
 ///
-/// The pairs of one part are read where they stand, as of all stamps up to that of the first write. At the first later
-/// one they go into an ordered map.
+/// The pairs of one part are read where they stand, and of the keys that writes changed the values now are kept in an
+/// ordered map. So a write costs a search and a copy of its key and value, and none of the pairs beside it.
 #[derive(Debug)]
 pub struct Replay<'a> {
     stamp: u64,
@@ -69,7 +69,7 @@ impl<'a> Replay<'a> {
     /// order. What it answers of keys that aren't below `high` means nothing: ask it for keys below alone.
     ///
     /// The m writes cost about m log2 m comparisons. One part costs nothing; the n pairs of several cost about n log2 n
-    /// comparisons, and a copy of each key and value. `Memory` is answered where the map, the list or a copy finds none.
+    /// comparisons, and two copies of each key and value. `Memory` is answered where a map, a list or a copy finds none.
     pub fn new(
         alloc: Alloc,
         parts: &[&'a Leaf],
@@ -96,9 +96,9 @@ impl<'a> Replay<'a> {
         self.stamp
     }
 
-    /// The replay as of a stamp that isn't below its own: each write with a smaller one has its effect, in about log2 n key
-    /// comparisons for n pairs. The first of them to do so puts the pairs in a map, as several parts are from the start.
-    /// After `Memory` the replay is gone, and its parts and writes are as they were.
+    /// The replay as of a stamp that isn't below its own: each write with a smaller one has its effect, in about 3 log2 n key
+    /// comparisons for n pairs, and a copy of its key and of the value that it leaves. After `Memory` the replay is gone, and
+    /// its parts and writes are as they were.
     pub fn advance(self, stamp: u64) -> Result<Replay<'a>, Memory>
         requires { self.stamp ≤ stamp }
         ensures stamp { IfOk result (λ replay. replay.stamp ≡ stamp) }
@@ -122,8 +122,9 @@ impl<'a> Replay<'a> {
         })
     }
 
-    /// Adds the first pairs from `low` on and below `high` to a list, no more than `most` of them: a search, and a copy of one
-    /// block on a leaf, or of each pair in a map. `Memory` is answered where the list finds none.
+    /// Adds the first pairs from `low` on and below `high` to a list, no more than `most` of them. It costs a search for the
+    /// range, one for each key there that was changed, also where it has no value now, and a copy of each block between two
+    /// of these. `Memory` is answered where the list finds none.
     pub fn add_first(
         &self,
         low: &Key,
@@ -141,7 +142,7 @@ impl<'a> Replay<'a> {
     }
 
     /// Adds the last pairs from `low` on and below `high` to a list, the greatest key first, no more than `most` of them.
-    /// It costs a search, and a copy of each pair that is added.
+    /// It costs what `add_first` does, but copies pair by pair.
     pub fn add_last(
         &self,
         low: &Key,

@@ -24,12 +24,12 @@ use std::marker::Model;
 
 /// Scans of a tree, one after another, each as of a stamp of its own.
 ///
-/// Each leaf that was read is kept, and a later scan goes on from the stamp of the one before it. A leaf is read where it
-/// stands until a scan is to see a write of it: that scan puts its pairs in an ordered map. So with stamps that rise, each
-/// write of a leaf has its effect once for all scans, and its chain is walked a fixed number of times, however many scans
-/// read it. A scan of leaves that are kept costs a few searches for each of them, among those that are kept and among its
-/// pairs, and a copy of what it answers. At a stamp that falls a leaf with writes is put in a map again. What was kept
-/// stays in memory.
+/// Each leaf that was read is kept, and a later scan goes on from the stamp of the one before it. Its pairs are read where
+/// they stand, and what its writes made of some of them is kept beside it. So with stamps that rise, each write of a leaf
+/// has its effect once for all scans, and its chain is walked a fixed number of times, however many scans read it. A scan of
+/// leaves that are kept costs a few searches for each of them, among those that are kept and among its pairs, one for each
+/// key in its range that was written, and a copy of what it answers. At a stamp that falls the writes of a leaf have their
+/// effects again. What was kept stays in memory.
 pub struct Scans<'a> {
     tree: &'a Tree,
     alloc: Alloc,

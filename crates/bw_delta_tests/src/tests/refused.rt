@@ -75,14 +75,13 @@ fn each_growth_of_a_leaf_is_refused(rt: HostRuntime) {
 #[test]
 fn each_growth_of_two_parts_is_refused(rt: HostRuntime) {
     let alloc = heap(rt.alloc()).expect(&rt, "memory");
-    for growth in 1..100 {
-        let left = read_leaf(&rt, alloc, growth, 2);
-        if !was_refused(alloc, growth) {
-            assert_eq!(rt; left.expect(&rt, "memory").len(), 2);
-            assert!(rt; growth > 6);
-            return;
-        }
-        assert!(rt; left.is_err());
+    for growth in 1..=7 {
+        assert!(rt; read_leaf(&rt, alloc, growth, 2).is_err());
+        assert!(rt; was_refused(alloc, growth));
     }
-    panic!(rt; "no run met no refusal")
+    for growth in 8..=10 {
+        let left = read_leaf(&rt, alloc, growth, 2).expect(&rt, "memory");
+        assert_eq!(rt; left.len(), 2);
+        assert_eq!(rt; was_refused(alloc, growth), growth < 10);
+    }
 }

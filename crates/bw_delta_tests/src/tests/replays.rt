@@ -107,6 +107,46 @@ fn a_leaf_is_read_where_it_stands_up_to_its_first_write(rt: HostRuntime) {
 }
 
 #[test]
+fn changes_lie_among_the_pairs_of_a_leaf(rt: HostRuntime) {
+    let alloc = heap(rt.alloc()).expect(&rt, "memory");
+    let leaf = a_and_b(&rt, alloc);
+    let delete = delete(&rt, alloc, 1);
+    let between = insert(&rt, alloc, 2, b"aa", b"3");
+    let behind = insert(&rt, alloc, 3, b"c", b"4");
+    let replay = replay_of(&rt, alloc, &leaf, (&delete, &between, &behind));
+    let replay = advanced(&rt, replay.expect(&rt, "memory"), 9);
+    let (least, c, d) = (
+        key(alloc, b"").expect(&rt, "memory"),
+        key(alloc, b"c").expect(&rt, "memory"),
+        key(alloc, b"d").expect(&rt, "memory"),
+    );
+    let pairs = first(alloc, &replay, &least, 9).expect(&rt, "memory");
+    assert!(rt; are(&pairs, &[(b"aa", b"3"), (b"b", b"2"), (b"c", b"4")]));
+    let pairs = first(alloc, &replay, &least, 2).expect(&rt, "memory");
+    assert!(rt; are(&pairs, &[(b"aa", b"3"), (b"b", b"2")]));
+    let pairs = last(alloc, &replay, &d, 2).expect(&rt, "memory");
+    assert!(rt; are(&pairs, &[(b"c", b"4"), (b"b", b"2")]));
+    let pairs = last(alloc, &replay, &c, 9).expect(&rt, "memory");
+    assert!(rt; are(&pairs, &[(b"b", b"2"), (b"aa", b"3")]));
+}
+
+#[test]
+fn a_key_that_comes_and_goes_is_no_change(rt: HostRuntime) {
+    let alloc = heap(rt.alloc()).expect(&rt, "memory");
+    let leaf = Leaf::empty(alloc);
+    let (a, b) = (
+        insert(&rt, alloc, 1, b"a", b"1"),
+        insert(&rt, alloc, 2, b"b", b"2"),
+    );
+    let delete = delete(&rt, alloc, 3);
+    let replay = replay_of(&rt, alloc, &leaf, (&a, &b, &delete)).expect(&rt, "memory");
+    let replay = advanced(&rt, replay, 9);
+    let least = key(alloc, b"").expect(&rt, "memory");
+    let pairs = first(alloc, &replay, &least, 9).expect(&rt, "memory");
+    assert!(rt; are(&pairs, &[(b"b", b"2")]));
+}
+
+#[test]
 fn of_two_parts_the_first_has_the_value(rt: HostRuntime) {
     let alloc = heap(rt.alloc()).expect(&rt, "memory");
     let (above, below) = (

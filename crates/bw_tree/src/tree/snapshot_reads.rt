@@ -58,10 +58,10 @@ impl Tree {
     /// `to`, and no more than `most` of them.
     ///
     /// From the leaf of `from` on it reads leaf after leaf along the side links, until there are enough pairs or a leaf
-    /// ends the range. A leaf with writes below the stamp is put whole in an ordered map, whatever `most` is; `Scans` does
+    /// ends the range. The writes of a leaf below the stamp have their effects beside it, whatever `most` is; `Scans` does
     /// so once for many scans. Memory is taken for the pairs that are answered and, for one leaf with writes at a time, for
-    /// lists of the writes and for the map, and none by `most`. `Memory` is answered where a list, a map or a copy finds
-    /// none.
+    /// lists of the writes and for a map of the keys that they changed, and none by `most`. `Memory` is answered where a
+    /// list, a map or a copy finds none.
     pub fn scan_at(
         &self,
         from: &Key,

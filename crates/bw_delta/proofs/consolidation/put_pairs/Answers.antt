@@ -1,4 +1,4 @@
-use Rattle.std.proofs.Common.{◌≡◌, ◌∙◌, ◌+◌, ◌-◌, ◌++◌, ◌∷◌, [], List, ap, arith, get_or, length, refl, sym, take}
+use Rattle.std.proofs.Common.{◌≡◌, ◌∙◌, ◌+◌, ◌-◌, ◌++◌, ◌∷◌, [], List, ap, arith, get_or, length, sym, take}
 use Rattle.std.proofs.lemmas.List.{take_all, take_more}
 use Rattle.std.specs.BTreeMap as tree
 use Rattle.std.specs.FinMap.{find}
@@ -13,9 +13,8 @@ loop-left-init c =
     let all : c.len-left.result ≡ length c.args.leaf.now.pairs = c.len-left.ensures ∙ ap (λ (l : List Pair). length l) c.pairs.ensures.value in
     record {
       bound = omega (arith, all);
-      inside = λ q inside.
+      put = λ q below.
           ap (λ (l : List Pair). option_or (find key_cmp q l) (tree.get key_cmp c.args.values.now q)) (take_all c.len-left.result c.args.leaf.now.pairs (omega (arith, all)));
-      outside = λ q outside. refl;
     }
 
 pub put_pair-requires : goal.put_pair-requires
@@ -32,20 +31,16 @@ loop-left-preserved c =
     in
     record {
       bound = omega (arith, c.loop-left.invariant.bound);
-      inside = λ q inside.
+      put = λ q below.
           let before = tree.get key_cmp c.loop-left.values q in
-          ap (option_or (find key_cmp q (take left pairs))) (c.in_ok-put_pair.ensures.inside ([], []) q inside)
+          ap (option_or (find key_cmp q (take left pairs))) (c.in_ok-put_pair.ensures ([], []) q below)
           ∙ find_last q (take left pairs) pair before
           ∙ ap (λ (l : List Pair). option_or (find key_cmp q l) before) (sym more)
-          ∙ c.loop-left.invariant.inside q inside;
-      outside = λ q outside. c.in_ok-put_pair.ensures.outside q outside ∙ c.loop-left.invariant.outside q outside;
+          ∙ c.loop-left.invariant.put q below;
     }
 
-pub returns-clause-inside : goal.returns-clause-inside
-returns-clause-inside c q inside =
+pub returns : goal.returns
+returns c q below =
     let zero : c.loop-left.left ≡ 0 = omega (arith, c.loop-left-test.false) in
     let none : take c.loop-left.left c.args.leaf.now.pairs ≡ [] = ap (λ n. take n c.args.leaf.now.pairs) zero in
-    ap (λ (l : List Pair). option_or (find key_cmp q l) (tree.get key_cmp c.loop-left.values q)) (sym none) ∙ c.loop-left.invariant.inside q inside
-
-pub returns-clause-outside : goal.returns-clause-outside
-returns-clause-outside c q outside = c.loop-left.invariant.outside q outside
+    ap (λ (l : List Pair). option_or (find key_cmp q l) (tree.get key_cmp c.loop-left.values q)) (sym none) ∙ c.loop-left.invariant.put q below

@@ -1,4 +1,4 @@
-use Rattle.std.proofs.Common.{◌≡◌, ◌∙◌, ◌∷◌, [], List, None, Option, Some, ap, drop, false, get_or, subst, sym, take, true}
+use Rattle.std.proofs.Common.{◌≡◌, ◌∙◌, [], List, None, Some, ap, drop, false, get_or, subst, sym, take, true}
 use Rattle.bw_key.specs.Order.{KeyBytes, key_eq}
 use Rattle.bw_model.specs.Values.{Pair, ValueBytes}
 use Rattle.bw_delta.specs.Merging.{AreCutAt}

@@ -1,4 +1,4 @@
-use Rattle.std.proofs.Common.{◌≡◌, false, List, Option, Some, sym, ap, ◌∙◌}
+use Rattle.std.proofs.Common.{◌≡◌, false, Option, Some, sym, ap, ◌∙◌}
 use Rattle.std.specs.Prelude.{filter}
 use Rattle.std.specs.Borrow.{Bor}
 use Rattle.std.specs.BTreeMap.Range.{entries_between}
@@ -14,12 +14,12 @@ use Rattle.bw_delta.proofs.present.range.Goals as goal
 use Rattle.bw_delta.proofs.present.range.Goals.{then-lt, else-lt}
 
 pub returns-in_default-clause-sorted : goal.returns-in_default-clause-sorted
-returns-in_default-clause-sorted c = in_order c.args.values.now.entries c.range.ensures.ordered
+returns-in_default-clause-sorted c = in_order c.args.changes.now.entries c.range.ensures.ordered
 
 pub returns-in_default-clause-between : goal.returns-in_default-clause-between
 returns-in_default-clause-between c =
-    c.range.ensures.between tt ∙ between_all c.args.low.now c.args.values.now.entries
-    ∙ ap (λ (o : Option (Bor KeyBytes)). filter (is_pair_in_range c.args.low.now (option_copied o)) c.args.values.now.entries) (sym c.in_default.is)
+    c.range.ensures.between tt ∙ between_all c.args.low.now c.args.changes.now.entries
+    ∙ ap (λ (o : Option (Bor KeyBytes)). filter (is_pair_in_range c.args.low.now (option_copied o)) c.args.changes.now.entries) (sym c.in_default.is)
 
 pub range-requires-2 : goal.range-requires-2
 range-requires-2 c = elim c.if-lt.branch as (λ b. is_gt (key_cmp c.args.low.now c.if-lt.end.now) ≡ false) [
@@ -28,12 +28,12 @@ range-requires-2 c = elim c.if-lt.branch as (λ b. is_gt (key_cmp c.args.low.now
 ]
 
 pub returns-clause-sorted : goal.returns-clause-sorted
-returns-clause-sorted c = in_order c.args.values.now.entries c.range-2.ensures.ordered
+returns-clause-sorted c = in_order c.args.changes.now.entries c.range-2.ensures.ordered
 
 pub returns-clause-between : goal.returns-clause-between
 returns-clause-between c =
     let low = c.args.low.now in
-    let es = c.args.values.now.entries in
+    let es = c.args.changes.now.entries in
     c.range-2.ensures.between tt
     ∙ (elim c.if-lt.branch as (λ b. entries_between key_cmp (Included low) (Excluded c.if-lt.end.now) es ≡ filter (is_pair_in_range low (Some c.in-Some.high.now)) es) [
       | then-lt w ↦ ap (λ (k : Bor KeyBytes). entries_between key_cmp (Included low) (Excluded k.now) es) w.end-is ∙ between_ends low low es ∙ between_none low c.in-Some.high.now es (sym c.lt.ensures ∙ w.if-lt.true)

@@ -1,4 +1,4 @@
-use Rattle.std.proofs.Common.{◌≡◌, ◌+◌, ◌≤◌, ◌++◌, List, ℕ, ap, sym, take, drop, length, arith, ◌∙◌}
+use Rattle.std.proofs.Common.{◌≡◌, ◌+◌, ◌++◌, List, ℕ, ap, sym, take, drop, length, arith, ◌∙◌}
 use Rattle.std.proofs.lemmas.Slice.Zip.{firsts-zip, seconds-zip}
 use Rattle.bw_delta.specs.Arenas.{ArenaView, deltas_of, links_of}
 use Rattle.bw_delta.proofs.Zips.{length_put, length_zipped}

@@ -1,28 +1,63 @@
-use Rattle.std.proofs.Common.{◌≤◌, Option, IfSome, sym, subst, arith}
+use Rattle.std.proofs.Common.{◌<◌, ◌≤◌, ◌+◌, List, ◌∷◌, drop, refl, sym, ap, subst, ◌∙◌, arith}
+use Rattle.std.proofs.lemmas.List.{drop_all}
 use Rattle.std.specs.Borrow.{Bor}
-use Rattle.std.specs.Option.{option_copied}
-use Rattle.bw_delta.specs.History.{pointed_to}
-use Rattle.bw_delta.specs.Rising.{HasRisingStamps}
 use Rattle.bw_delta.specs.Writes.{WriteView}
-use Rattle.bw_delta.proofs.Readings.{all_left, first_late, none_due}
+use Rattle.bw_delta.specs.History.{pointed_to}
+use Rattle.bw_delta.specs.Readings.{from_stamp}
+use Rattle.bw_delta.proofs.present.Present.put_writes.Invariants.{values_in}
+use Rattle.bw_delta.proofs.Foldings.{AreFolding, first_folds, all_folded, folded_to_end}
+use Rattle.bw_delta.proofs.Orders.{next_write}
+use Rattle.bw_delta.proofs.Readings.{all_left, one_passed}
 use Rattle.bw_delta.proofs.present.Present.put_writes.Goals as goal
 
-pub returns-in_default-clause-values : goal.returns-in_default-clause-values
-returns-in_default-clause-values c q =
-    let stamp = c.args.stamp in
-    let none = subst (λ (o : Option (Bor (Bor WriteView))). IfSome (option_copied o) (λ r. stamp ≤ r.now.stamp)) (sym c.in_default.is) tt in
-    none_due _ stamp _ q (first_late stamp c.args.writes.now (subst (λ (o : Option (Bor WriteView)). IfSome o (λ r. stamp ≤ r.now.stamp)) c.first.ensures.value none) c.requires)
+pub loop-at-init : goal.loop-at-init
+loop-at-init c = record { folding = record { from = 0; rising = c.requires; is = λ q. refl }; left = refl }
 
--- the writes begin at the stamp or later
-late : (c : goal.Then-first-stamp) → HasRisingStamps c.args.stamp (pointed_to c.args.writes.now)
-late c =
-    let stamp = c.args.stamp in
-    let first = subst (λ (r : Bor WriteView). stamp ≤ r.now.stamp) c.first-2.view_is c.if-first-stamp.true in
-    let some = subst (λ (o : Option (Bor (Bor WriteView))). IfSome (option_copied o) (λ r. stamp ≤ r.now.stamp)) (sym c.in-Some.is) first in
-    first_late stamp c.args.writes.now (subst (λ (o : Option (Bor WriteView)). IfSome o (λ r. stamp ≤ r.now.stamp)) c.first.ensures.value some) c.requires
+pub returns-then-write-stamp-clause-values : goal.returns-then-write-stamp-clause-values
+returns-then-write-stamp-clause-values c =
+    let start = values_in c.args.self in
+    let values = values_in c.loop-at.self in
+    let all = pointed_to c.args.writes.now in
+    let later = pointed_to (drop (c.loop-at.at + 1) c.args.writes.now) in
+    let next = next_write c.args.writes.now c.loop-at.at c.index-writes-at.result c.loop-at-test.true c.index-writes-at.is in
+    let here = subst (λ (l : List WriteView). AreFolding c.args.stamp start all l values) next c.loop-at.invariant.folding in
+    let late = subst (λ (r : Bor WriteView). c.args.stamp ≤ r.now.stamp) c.write.view_is c.if-write-stamp.true in
+    all_folded c.args.stamp start values all c.index-writes-at.result.now later late here
 
-pub returns-then-first-stamp-clause-values : goal.returns-then-first-stamp-clause-values
-returns-then-first-stamp-clause-values c q = none_due _ c.args.stamp _ q (late c)
+pub returns-then-write-stamp-clause-rest : goal.returns-then-write-stamp-clause-rest
+returns-then-write-stamp-clause-rest c =
+    let start = values_in c.args.self in
+    let values = values_in c.loop-at.self in
+    let all = pointed_to c.args.writes.now in
+    let w = c.index-writes-at.result.now in
+    let later = pointed_to (drop (c.loop-at.at + 1) c.args.writes.now) in
+    let next = next_write c.args.writes.now c.loop-at.at c.index-writes-at.result c.loop-at-test.true c.index-writes-at.is in
+    let here = subst (λ (l : List WriteView). AreFolding c.args.stamp start all l values) next c.loop-at.invariant.folding in
+    let late = subst (λ (r : Bor WriteView). c.args.stamp ≤ r.now.stamp) c.write.view_is c.if-write-stamp.true in
+    next ∙ sym (all_left c.args.stamp w.stamp (w ∷ later) late (omega arith, here.rising.1)) ∙ sym (ap (from_stamp c.args.stamp) next) ∙ c.loop-at.invariant.left
 
-pub returns-then-first-stamp-clause-rest : goal.returns-then-first-stamp-clause-rest
-returns-then-first-stamp-clause-rest c = sym (all_left c.args.stamp c.args.stamp _ (omega arith) (late c))
+pub loop-at-preserved : goal.loop-at-preserved
+loop-at-preserved c =
+    let start = values_in c.args.self in
+    let values = values_in c.loop-at.self in
+    let all = pointed_to c.args.writes.now in
+    let later = pointed_to (drop (c.loop-at.at + 1) c.args.writes.now) in
+    let next = next_write c.args.writes.now c.loop-at.at c.index-writes-at.result c.loop-at-test.true c.index-writes-at.is in
+    let here = subst (λ (l : List WriteView). AreFolding c.args.stamp start all l values) next c.loop-at.invariant.folding in
+    let early = subst (λ (r : Bor WriteView). r.now.stamp < c.args.stamp) c.write.view_is c.if-write-stamp.false in
+    record {
+      folding = first_folds c.args.stamp start values (values_in c.put_write.new.self) all c.index-writes-at.result.now later early c.in_ok-put_write.ensures here;
+      left = one_passed c.args.stamp c.index-writes-at.result.now later early ∙ sym (ap (from_stamp c.args.stamp) next) ∙ c.loop-at.invariant.left;
+    }
+
+pub returns-clause-values : goal.returns-clause-values
+returns-clause-values c =
+    let refs = c.args.writes.now in
+    let none = ap pointed_to (drop_all c.loop-at.at refs c.loop-at-test.false) in
+    folded_to_end c.args.stamp (values_in c.args.self) (values_in c.loop-at.self) (pointed_to refs) _ none c.loop-at.invariant.folding
+
+pub returns-clause-rest : goal.returns-clause-rest
+returns-clause-rest c =
+    let refs = c.args.writes.now in
+    let none = ap pointed_to (drop_all c.loop-at.at refs c.loop-at-test.false) in
+    ap pointed_to (drop_all _ refs (omega arith)) ∙ sym (ap (from_stamp c.args.stamp) none) ∙ c.loop-at.invariant.left

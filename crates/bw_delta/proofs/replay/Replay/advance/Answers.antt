@@ -10,6 +10,7 @@ use Rattle.bw_delta.specs.Replays.{ReplayView, replayed_value}
 use Rattle.bw_delta.specs.Rising.{HasRisingStamps}
 use Rattle.std.specs.FinMap.{find}
 use Rattle.bw_delta.specs.Present.{present_pairs}
+use Rattle.bw_delta.proofs.Batches.{from_lower}
 use Rattle.bw_delta.proofs.Readings.{left_rises}
 use Rattle.bw_delta.proofs.Replays.{drop_more, goes_on}
 use Rattle.bw_delta.proofs.replay.Replay.advance.Goals as goal
@@ -26,6 +27,16 @@ left c =
     ap pointed_to (drop_more c.self.inside.passed c.in_ok-present.more c.self.inside.writes.items ∙ ap (drop c.in_ok-present.more) (sym (rest c)))
     ∙ c.in_ok-present.ensures.rest
     ∙ ap (λ (l : List (Bor WriteView)). from_stamp c.args.stamp (pointed_to l)) (rest c)
+
+pub put_writes-requires : goal.put_writes-requires
+put_writes-requires c =
+    let passed = c.self.inside.passed in
+    let all = c.deref.result.now in
+    let left : take (length all - passed) (drop passed all) ≡ drop passed c.self.inside.writes.items =
+    take_all _ (drop passed all) (omega (arith, length-drop passed all)) ∙ ap (drop passed) c.deref.ensures.value
+    in
+    subst (λ (l : List (Bor WriteView)). HasRisingStamps 0 (pointed_to l)) (sym left)
+    (from_lower 0 c.self.inside.stamp (pointed_to (drop passed c.self.inside.writes.items)) (omega arith) c.self.invariant.1)
 
 pub invariant_of-result : goal.invariant_of-result
 invariant_of-result c = (

@@ -1,0 +1,40 @@
+use Rattle.std.proofs.Common.{◌∙◌, ◌++◌, List, T, ap, filter, reverse, subst, sym, take}
+use Rattle.std.proofs.lemmas.Result.{on_ok_weaker}
+use Rattle.std.specs.FinMap.{is_sorted}
+use Rattle.std.specs.Option.{option_copied}
+use Rattle.bw_key.specs.Order.{key_cmp}
+use Rattle.bw_model.specs.Contents.{is_pair_in_range}
+use Rattle.bw_model.specs.Values.{Pair}
+use Rattle.bw_delta.specs.Present.{base_pairs, changed_pairs, Change}
+use Rattle.bw_delta.proofs.Changes.{range_changed, sorted_changed}
+use Rattle.bw_delta.proofs.Maps.{sorted_in_range}
+use Rattle.bw_delta.proofs.present.Present.add_last.Goals as goal
+
+pub add_falling-requires-clause-pairs : goal.add_falling-requires-clause-pairs
+add_falling-requires-clause-pairs c =
+    subst (λ (l : List Pair). T (is_sorted key_cmp l)) (sym c.between-pairs.ensures.value)
+    (sorted_in_range c.args.low.now (option_copied c.args.high) c.leaf.result.now.pairs c.between-pairs.ensures.rules.sorted)
+
+pub add_falling-requires-clause-changes : goal.add_falling-requires-clause-changes
+add_falling-requires-clause-changes c =
+    subst (λ (l : List Change). T (is_sorted key_cmp l)) (sym c.range.ensures.between)
+    (sorted_in_range c.args.low.now (option_copied c.args.high) c.args.self.now.changes.entries c.range.ensures.sorted)
+
+pub returns-clause-sorted : goal.returns-clause-sorted
+returns-clause-sorted c =
+    sorted_changed c.args.self.now.changes.entries (base_pairs c.args.self.now.base)
+    (subst (λ (l : List Pair). T (is_sorted key_cmp l)) c.leaf.ensures c.between-pairs.ensures.rules.sorted)
+
+pub returns-clause-added : goal.returns-clause-added
+returns-clause-added c =
+    let in_range = is_pair_in_range c.args.low.now (option_copied c.args.high) in
+    let changes = c.args.self.now.changes.entries in
+    on_ok_weaker c.add_falling.result
+    (λ is.
+    is
+    ∙ ap (λ (l : List Pair). c.args.read.now ++ take c.args.most (reverse (changed_pairs c.range.result l))) (c.between-pairs.ensures.value ∙ ap (filter in_range) c.leaf.ensures)
+    ∙ ap (λ (l : List Change). c.args.read.now ++ take c.args.most (reverse (changed_pairs l (filter in_range (base_pairs c.args.self.now.base))))) c.range.ensures.between
+    ∙ ap (λ (l : List Pair). c.args.read.now ++ take c.args.most (reverse l))
+    (sym (range_changed c.args.low.now (option_copied c.args.high) changes (base_pairs c.args.self.now.base)
+    (subst (λ (l : List Pair). T (is_sorted key_cmp l)) c.leaf.ensures c.between-pairs.ensures.rules.sorted))))
+    c.add_falling.ensures.added
