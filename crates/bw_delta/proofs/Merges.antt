@@ -198,11 +198,6 @@ module _ (old new pairs before behind : List Pair) (first : WriteView) (others l
       after q
       ∙ sym (ap (λ (l : List Pair). merged_value l (first ∷ others) q) (old_whole old pairs before behind first.key v cut.whole))
 
--- writes from any key on are past an empty list
-pub past_none : (low : KeyBytes) (ws : List WriteView) → AreFrom low ws → ArePast [] ws
-past_none low [] from = tt
-past_none low (w ∷ ws) from = (tt, from.1)
-
 -- Of all writes, those of rest are still to have their effects on the value at a key; those in front of them are of the key.
 pub record ArePassing (key : KeyBytes) (start : Option ValueBytes) (all rest : List WriteView) (value : Option ValueBytes) : Type 0 where
   pub left : after_writes value (writes_to key rest) ≡ after_writes start (writes_to key all)

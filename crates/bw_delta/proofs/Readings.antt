@@ -1,13 +1,10 @@
 -- The writes from a stamp on.
-use Rattle.std.proofs.Common.{◌≡◌, ◌≢◌, ℕ, ◌+◌, ◌-◌, ◌<◌, ◌≤◌, true, false, cond, List, [], ◌∷◌, Option, Some, None, IfSome, eqb, nat_le, slice_get, refl, sym, ap, ◌∙◌, arith}
-use Rattle.std.specs.Borrow.{Bor}
+use Rattle.std.proofs.Common.{◌≡◌, ℕ, ◌+◌, ◌-◌, ◌<◌, ◌≤◌, true, false, cond, List, [], ◌∷◌, Option, Some, None, eqb, nat_le, refl, sym, ap, ◌∙◌, arith}
 use Rattle.std.proofs.lemmas.Bool.Decides.{nat_tests}
-use Rattle.bw_key.specs.Order.{KeyBytes, key_eq}
 use Rattle.bw_model.specs.Values.{ValueBytes}
 use Rattle.bw_model.specs.Actions.{effect}
 use Rattle.bw_delta.specs.Writes.{WriteView}
-use Rattle.bw_delta.specs.Batches.{writes_to}
-use Rattle.bw_delta.specs.History.{history, action_at, pointed_to}
+use Rattle.bw_delta.specs.History.{history, action_at}
 use Rattle.bw_delta.specs.Readings.{from_stamp}
 use Rattle.bw_delta.specs.Rising.{HasRisingStamps}
 use Rattle.bw_delta.proofs.Histories.{past_other, same_history, quiet, history_parts, none_below, IsFolding, folds_first, folded, folded_all}
@@ -25,15 +22,6 @@ all_left stamp low [] le rising = refl
 all_left stamp low (w ∷ ws) le rising =
     ap (λ b. cond b (w ∷ from_stamp stamp ws) (from_stamp stamp ws)) (reaches stamp w.stamp (omega (arith, le, rising.0)))
     ∙ ap (λ l. w ∷ l) (all_left stamp (w.stamp + 1) ws (omega (arith, le, rising.0)) rising.1)
-
--- they rise from a later stamp on where the first of them does
-pub first_late : (stamp : ℕ) (refs : List (Bor WriteView)) → IfSome (slice_get refs 0) (λ r. stamp ≤ r.now.stamp) → HasRisingStamps 0 (pointed_to refs) → HasRisingStamps stamp (pointed_to refs)
-first_late stamp [] late rising = tt
-first_late stamp (r ∷ refs) late rising = (late, rising.1)
-
--- before they begin nothing changes
-pub none_due : (start : Option ValueBytes) (stamp : ℕ) (ws : List WriteView) (q : KeyBytes) → HasRisingStamps stamp ws → start ≡ history start (action_at (writes_to q ws)) stamp
-none_due start stamp ws q rising = sym (quiet start (action_at (writes_to q ws)) stamp (λ t lt. none_below stamp (writes_to q ws) t (rising_filter (λ w. key_eq q w.key) stamp ws rising) lt))
 
 -- a write below the stamp is not
 pub one_passed : (stamp : ℕ) (w : WriteView) (ws : List WriteView) → w.stamp < stamp → from_stamp stamp ws ≡ from_stamp stamp (w ∷ ws)
@@ -112,16 +100,3 @@ passed_all stamp start value all rest none so = (
   folded_all stamp start value all rest none so.folding,
   none ∙ ap (from_stamp stamp) (sym none) ∙ so.left,
 )
-
--- where the first that is left has another stamp, nothing was written with the stamp
-pub first_differs : (stamp : ℕ) (refs : List (Bor WriteView)) (r : Bor WriteView) → Some r ≡ slice_get refs 0 → HasRisingStamps stamp (pointed_to refs) → r.now.stamp ≢ stamp → action_at (pointed_to refs) stamp ≡ None
-first_differs stamp [] r is rising differs = absurd (none is)
-  where
-    none : Some r ≡ None → ⊥
-    none e = cc
-first_differs stamp (x ∷ xs) r is rising differs =
-    past_other x.now (pointed_to xs) stamp (λ e. differs (ap (λ (y : Bor WriteView). y.now.stamp) (same is) ∙ e))
-    ∙ none_below (x.now.stamp + 1) (pointed_to xs) stamp rising.1 (omega (arith, rising.0))
-  where
-    same : Some r ≡ Some x → r ≡ x
-    same e = cc

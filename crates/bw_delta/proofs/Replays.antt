@@ -1,6 +1,6 @@
 -- A replay at a later stamp, and what its pairs are.
 use Rattle.std.proofs.Common.{◌≡◌, ℕ, zero, suc, ◌+◌, ◌≤◌, Ordering, Bool, true, false, cond, not, ◌&&◌, T, List, [], ◌∷◌, ◌++◌, drop, length, take, nat_le, Option, Some, None, refl, sym, ap, ◌∙◌, subst, arith}
-use Rattle.std.proofs.lemmas.List.{append_assoc, length-take, take-append-le}
+use Rattle.std.proofs.lemmas.List.{length-take, take-append-le}
 use Rattle.std.specs.Prelude.{filter}
 use Rattle.std.specs.List.{list_all}
 use Rattle.std.specs.Ordering.{is_gt, is_le, is_lt, ordering_reverse}
@@ -137,10 +137,6 @@ between_none low high es lower = same_filter _ _ es (λ e. by e.0 (is_lt (key_cm
     by k true b e f = refl
     by k false false e f = refl
     by k false true e f = absurd (different (sym (below_trans k high low f lower) ∙ e))
-
--- pairs that are taken one by one
-pub one_taken : {X : Type 0} (taken rest whole : List X) (x : X) (left : ℕ) → taken ++ take (suc left) (x ∷ rest) ≡ whole → (taken ++ x ∷ []) ++ take left rest ≡ whole
-one_taken taken rest whole x left so = append_assoc taken (x ∷ []) (take left rest) ∙ so
 
 -- what stood in front stays there
 pub kept_before : {X : Type 0} (old taken more : List X) → take (length old) taken ≡ old → take (length old) (taken ++ more) ≡ old

@@ -42,13 +42,6 @@ module _ {X Y : Type 0} where
   zip_at zero (a ∷ xs) (b ∷ ys) x y same lt is is_too = rw (is, is_too) refl
   zip_at (suc i) (a ∷ xs) (b ∷ ys) x y same lt is is_too = zip_at i xs ys x y (omega (arith, same)) (omega arith) is is_too
 
-  -- and nothing past their end
-  pub zip_past : (i : ℕ) (xs : List X) (ys : List Y) → length xs ≤ i → None ≡ slice_get (zip xs ys) i
-  zip_past i [] ys le = refl
-  zip_past i (a ∷ xs) [] le = refl
-  zip_past zero (a ∷ xs) (b ∷ ys) le = absurd (omega arith)
-  zip_past (suc i) (a ∷ xs) (b ∷ ys) le = zip_past i xs ys (omega arith)
-
   -- where one list has nothing, neither have both
   pub zip_none : (i : ℕ) (xs : List X) (ys : List Y) → None ≡ slice_get xs i → None ≡ slice_get (zip xs ys) i
   zip_none i [] ys is = refl
