@@ -26,8 +26,9 @@ use std::collections::BTreeMap;
 /// The writes of the range below the stamp are sorted by key, and merged with the pairs of one part. For m of them and n
 /// pairs that takes about m log2 m + m log2 n key comparisons, and a pair outside the range none of its own. The pairs
 /// between two written keys are copied as one block, into a list whose memory is taken at once, but where a longer value
-/// stays than the last write of its key puts. Several parts are first made one, through an ordered map, in about n log2 n
-/// key comparisons with two copies of each pair. `Memory` is answered where a list, a map or a copy finds none.
+/// stays than the last write of its key puts. Several parts are first made one, through an ordered map: all n pairs below
+/// `high`, in about n log2 n key comparisons, with two copies of each. `Memory` is answered where a list, a map or a copy
+/// finds none.
 pub fn leaf_as_of(
     alloc: Alloc,
     parts: &[&Leaf],
@@ -119,7 +120,8 @@ fn push_due<'a>(
     Ok(())
 }
 
-/// The pairs of the parts whose keys are below `high`, as those of one leaf: of two with one key that of the first part.
+/// The pairs of the parts whose keys are below `high`, as those of one leaf, of two with one key that of the first part. It
+/// is a leaf of all keys, to be searched like the parts.
 pub(crate) fn joined(alloc: Alloc, parts: &[&Leaf], high: Option<&Key>) -> Result<Leaf, Memory>
     ensures { IfOk result (λ leaf. (q : KeyBytes) → T (is_below_end (option_copied high.entry) q) →
         find key_cmp q leaf.pairs ≡ value_in_parts (parts_of parts.now) q) }

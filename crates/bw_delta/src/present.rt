@@ -25,12 +25,12 @@ use std::collections::btree_map::Range;
 
 /// The pairs of a page: those of its base, which stay where they stand, and what writes made of some of them.
 ///
-/// A change costs a search among the changes and one on the base. A read passes the changes in its range, and copies what
-/// lies between two of them as one block.
+/// A write that changes a value costs up to two searches among the changes and two on the base, and a copy of its key and
+/// of the value that it leaves; one that changes none, a search in each.
 #[derive(Debug, Drop)]
 pub(crate) struct Present<'a> {
     base: Base<'a>,
-    // at each key that a write changed its value now, or none where the base has the key alone
+    // each key that a write changed, with its value now; without one where it is deleted, if the base has it
     changes: BTreeMap<Key, Option<Value>, Alloc>,
 }
 
@@ -105,7 +105,11 @@ impl<'a> Present<'a> {
             (if key_eq q write.now.key then effect write.now.action (find key_cmp q (present_pairs self.old))
             else find key_cmp q (present_pairs self.old))) }
     {
-        let left = write.action.effect(self.value_at(&write.key));
+        let before = self.value_at(&write.key);
+        let left = write.action.effect(before);
+        if left == before {
+            return Ok(());
+        }
         let left = copied(alloc, left)?;
         self.set(&write.key, left)
     }

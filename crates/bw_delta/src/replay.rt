@@ -22,7 +22,7 @@ use std::marker::Model;
 /// The pairs of a page as of a stamp that rises. However many stamps they are read as of, each write has its effect once.
 ///
 /// The pairs of one part are read where they stand, and of the keys that writes changed the values now are kept in an
-/// ordered map. So a write costs a search and a copy of its key and value, and none of the pairs beside it.
+/// ordered map. So a write costs searches and a copy of its key and value, and none of the pairs beside it.
 #[derive(Debug)]
 pub struct Replay<'a> {
     stamp: u64,
@@ -96,8 +96,9 @@ impl<'a> Replay<'a> {
         self.stamp
     }
 
-    /// The replay as of a stamp that isn't below its own: each write with a smaller one has its effect, in about 3 log2 n key
-    /// comparisons for n pairs, and a copy of its key and of the value that it leaves. After `Memory` the replay is gone, and
+    /// The replay as of a stamp that isn't below its own: each write with a smaller one has its effect, in up to two
+    /// searches of the page and two among the changed keys, with a copy of its key and of the value that it leaves where it
+    /// changes that. After `Memory` the replay is gone, and
     /// its parts and writes are as they were.
     pub fn advance(self, stamp: u64) -> Result<Replay<'a>, Memory>
         requires { self.stamp ≤ stamp }
@@ -124,7 +125,7 @@ impl<'a> Replay<'a> {
 
     /// Adds the first pairs from `low` on and below `high` to a list, no more than `most` of them. It costs a search for the
     /// range, one for each key there that was changed, also where it has no value now, and a copy of each block between two
-    /// of these. `Memory` is answered where the list finds none.
+    /// of these. `Memory` is answered where the list finds none, and then some may have been added.
     pub fn add_first(
         &self,
         low: &Key,

@@ -13,7 +13,7 @@ mod sorted;
 mod values;
 mod verbs;
 
-pub use lists::Replies;
+pub use lists::{Replies, to_vec};
 pub use operations::{Action, Op, Reply};
 pub use outcomes::Refusal;
 pub use ranges::is_below;

@@ -45,8 +45,7 @@ impl fmt::Display for Reply {
             Reply::Was(value) => write!(f, "was {value}"),
             Reply::Pairs(pairs) => {
                 write!(f, "scan {}", pairs.len())?;
-                for at in 0..pairs.len() {
-                    let (key, value) = (pairs.key_at(at), pairs.value_at(at));
+                for (key, value) in pairs {
                     write!(f, "\n{} {}", Spelled(key), Spelled(value))?;
                 }
                 Ok(())

@@ -2,6 +2,7 @@
 // bytes that a value takes, and each growth of memory refused in turn.
 mod actions;
 mod making;
+mod pairs;
 mod randomly;
 mod ranges;
 mod reference;

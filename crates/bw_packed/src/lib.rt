@@ -4,11 +4,13 @@
 //! entries is copied as one block of bytes.
 #![tactic(auto)]
 
+mod iter;
 mod list;
 mod pairs;
 mod runs;
 mod sorted_search;
 
+pub use iter::Iter;
 pub use list::Packed;
 pub use pairs::Pairs;
 pub use runs::Run;

@@ -5,6 +5,7 @@ ghost use Rattle.std.specs.Ordering.{is_lt};
 ghost use Rattle.bw_key.specs.Order.{key_cmp};
 ghost use Rattle.bw_packed.specs.Search.{EndsAt};
 
+use crate::iter::Iter;
 use crate::list::Packed;
 use crate::runs::Run;
 use crate::sorted_search::Keyed;
@@ -103,6 +104,13 @@ impl Pairs {
         ensures { result ≡ (length self.now == 0) }
     {
         self.entries.is_empty()
+    }
+
+    /// The pairs one after another, from the first one on; `for (key, value) in &pairs` reads them so.
+    pub fn iter(&self) -> Iter<'_>
+        ensures { result ≡ self.now }
+    {
+        self.all().iter()
     }
 
     /// The key at a place.

@@ -6,6 +6,7 @@ ghost use Rattle.bw_key.specs.Order.{key_cmp, key_eq};
 ghost use Rattle.bw_packed.specs.Pairs.{pair_eq, pairs_eq};
 ghost use Rattle.bw_packed.specs.Search.{EndsAt, IsSearched};
 
+use crate::iter::Iter;
 use crate::pairs::Pairs;
 use bw_key::Memory;
 use bw_memory::Alloc;
@@ -64,6 +65,15 @@ impl<'a> Run<'a> {
         ensures { result ≡ (length self.now == 0) }
     {
         self.start == self.end
+    }
+
+    /// The pairs one after another, from the first one on.
+    pub fn iter(&self) -> Iter<'a>
+        ensures { result ≡ self.now }
+    {
+        Iter {
+            rest: Run::new(self.pairs, self.start..self.end),
+        }
     }
 
     /// The key at a place.

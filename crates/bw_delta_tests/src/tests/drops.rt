@@ -15,7 +15,7 @@ fn drop_arena<R: Abort>(rt: &R, alloc: Alloc) {
     drop(arena);
 }
 
-// Reads a leaf under a write, whose pairs are in a map then, and drops what was read.
+// Reads a leaf with a change over it, and drops what was read.
 fn drop_replay<R: Abort>(rt: &R, alloc: Alloc) {
     let leaf = leaf_of(alloc, LONG).expect(rt, "memory");
     let write = insert(rt, alloc, 0, b"b", LONG);

@@ -1,4 +1,4 @@
-// The pairs of one part, which are merged with the writes, and the same of two parts, which go through a map.
+// The pairs of one part merged with the writes, and those of replays, where each write has its effect by itself.
 ghost use Rattle.std.specs.Prelude.{◌≡◌, T, true, false, map, nat_eq};
 ghost use Rattle.std.specs.FinMap.{is_sorted};
 ghost use Rattle.std.specs.List.{AllByRecursion};
@@ -6,7 +6,7 @@ ghost use Rattle.bw_key.specs.Order.{key_cmp};
 ghost use Rattle.bw_delta.specs.History.{pointed_to, HasDistinctStamps};
 
 use super::making::write;
-use bw_delta::{Action, Write, leaf_as_of};
+use bw_delta::{Action, Replay, Write, leaf_as_of};
 use bw_fixtures::{LONG, Random, are, heap, key, leaf_of, value};
 use bw_key::Key;
 use bw_memory::Alloc;
@@ -105,7 +105,47 @@ fn read<R: Abort>(
     leaf_as_of(alloc, parts, low, high, writes, stamp).expect(rt, "memory")
 }
 
-// Compares what the writes leave of a leaf with what they leave of it and an empty one.
+// What a replay of the writes has as of a stamp, and the same from the last pair on.
+fn replayed<R: Abort>(
+    rt: &R,
+    alloc: Alloc,
+    parts: &[&Leaf],
+    (low, high): (&Key, Option<&Key>),
+    writes: &[&Write],
+    stamp: u64,
+) -> (Pairs, Pairs) {
+    assert!(rt; are_distinct(writes));
+    let replay = Replay::new(alloc, parts, high, writes).expect(rt, "memory");
+    let replay = replay.advance(stamp).expect(rt, "memory");
+    let (mut first, mut last) = (Pairs::new(alloc), Pairs::new(alloc));
+    replay
+        .add_first(low, high, 99, &mut first)
+        .expect(rt, "memory");
+    replay
+        .add_last(low, high, 99, &mut last)
+        .expect(rt, "memory");
+    (first, last)
+}
+
+// Whether one list is the other, turned round.
+fn are_turned(pairs: &Pairs, turned: &Pairs) -> bool {
+    if pairs.len() != turned.len() {
+        return false;
+    }
+    let mut left = turned.len();
+    for (key, value) in pairs {
+        if left == 0 {
+            return false;
+        }
+        left -= 1;
+        if turned.key_at(left) != key || turned.value_at(left) != value {
+            return false;
+        }
+    }
+    true
+}
+
+// Compares what the writes leave of a leaf with what replays have of it, alone and with an empty one.
 fn compare_at<R: Abort>(
     rt: &R,
     alloc: Alloc,
@@ -115,8 +155,12 @@ fn compare_at<R: Abort>(
     stamp: u64,
 ) {
     let merged = read(rt, alloc, &[leaf], bounds, writes, stamp);
-    let mapped = read(rt, alloc, &[leaf, empty], bounds, writes, stamp);
-    assert!(rt; merged == mapped);
+    let (first, last) = replayed(rt, alloc, &[leaf], bounds, writes, stamp);
+    assert!(rt; merged == first);
+    assert!(rt; are_turned(&merged, &last));
+    let (first, last) = replayed(rt, alloc, &[leaf, empty], bounds, writes, stamp);
+    assert!(rt; merged == first);
+    assert!(rt; are_turned(&merged, &last));
 }
 
 // Compares them as of each stamp.
@@ -163,7 +207,7 @@ fn compare_drawn<R: Abort>(rt: &R, alloc: Alloc, empty: &Leaf, random: &mut Rand
 }
 
 #[test]
-fn merged_pairs_are_those_of_a_map(rt: HostRuntime) {
+fn merged_pairs_are_those_of_replays(rt: HostRuntime) {
     let alloc = heap(rt.alloc()).expect(&rt, "memory");
     let empty = Leaf::empty(alloc);
     let mut random = Random::new(7);
@@ -173,7 +217,7 @@ fn merged_pairs_are_those_of_a_map(rt: HostRuntime) {
 }
 
 #[test]
-fn writes_over_an_empty_leaf_are_those_of_a_map(rt: HostRuntime) {
+fn writes_over_an_empty_leaf_are_those_of_replays(rt: HostRuntime) {
     let alloc = heap(rt.alloc()).expect(&rt, "memory");
     let empty = Leaf::empty(alloc);
     let writes = drawn_writes(&rt, alloc, &mut Random::new(3));

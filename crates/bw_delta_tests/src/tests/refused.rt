@@ -75,6 +75,7 @@ fn each_growth_of_a_leaf_is_refused(rt: HostRuntime) {
 #[test]
 fn each_growth_of_two_parts_is_refused(rt: HostRuntime) {
     let alloc = heap(rt.alloc()).expect(&rt, "memory");
+    // A value, a map and two lists for one part, and then what one part takes.
     for growth in 1..=7 {
         assert!(rt; read_leaf(&rt, alloc, growth, 2).is_err());
         assert!(rt; was_refused(alloc, growth));

@@ -1,11 +1,11 @@
 // The pairs of a page as of stamps that rise.
 ghost use Rattle.std.specs.Prelude.{◌≡◌, IfOk};
 
-use super::making::{are_apart, delete, insert, is_left, update};
-use bw_delta::{Memory, Replay, Write};
+use super::making::{are_apart, delete, insert, is_left, update, write};
+use bw_delta::{Action, Memory, Replay, Write};
 use bw_fixtures::{LONG, are, heap, key, leaf_of, pair, two, was_refused};
 use bw_key::Key;
-use bw_memory::Alloc;
+use bw_memory::{Alloc, Heap};
 use bw_model::Pairs;
 use bw_page::Leaf;
 use std::process::Abort;
@@ -96,7 +96,7 @@ fn a_leaf_without_writes_is_read_where_it_stands(rt: HostRuntime) {
 }
 
 #[test]
-fn a_leaf_is_read_where_it_stands_up_to_its_first_write(rt: HostRuntime) {
+fn a_leaf_takes_no_memory_up_to_its_first_write(rt: HostRuntime) {
     let alloc = heap(rt.alloc()).expect(&rt, "memory");
     let leaf = leaf_of(alloc, b"1").expect(&rt, "memory");
     let delete = delete(&rt, alloc, 5);
@@ -131,19 +131,50 @@ fn changes_lie_among_the_pairs_of_a_leaf(rt: HostRuntime) {
 }
 
 #[test]
-fn a_key_that_comes_and_goes_is_no_change(rt: HostRuntime) {
+fn a_change_takes_no_memory_for_the_pairs_beside_it(rt: HostRuntime) {
     let alloc = heap(rt.alloc()).expect(&rt, "memory");
+    let leaf = leaf_of(alloc, LONG).expect(&rt, "memory");
+    let insert = insert(&rt, alloc, 0, b"b", b"2");
+    let replay = Replay::new(alloc, &[&leaf], None, &[&insert]).expect(&rt, "memory");
+    alloc.refuse(2);
+    let _replay = replay.advance(1).expect(&rt, "memory");
+    assert_eq!(rt; alloc.left(), 1);
+}
+
+// How many bytes three writes over the leaf of no key leave in use, once they had their effects.
+fn used_by<R: Abort>(rt: &R, alloc: Alloc, writes: (&Write, &Write, &Write)) -> u64 {
     let leaf = Leaf::empty(alloc);
-    let (a, b) = (
-        insert(&rt, alloc, 1, b"a", b"1"),
-        insert(&rt, alloc, 2, b"b", b"2"),
-    );
-    let delete = delete(&rt, alloc, 3);
-    let replay = replay_of(&rt, alloc, &leaf, (&a, &b, &delete)).expect(&rt, "memory");
-    let replay = advanced(&rt, replay, 9);
-    let least = key(alloc, b"").expect(&rt, "memory");
-    let pairs = first(alloc, &replay, &least, 9).expect(&rt, "memory");
-    assert!(rt; are(&pairs, &[(b"b", b"2")]));
+    let replay = replay_of(rt, alloc, &leaf, writes).expect(rt, "memory");
+    let before = alloc.used();
+    let replay = advanced(rt, replay, 9);
+    let used = alloc.used().saturating_sub(before);
+    drop(replay);
+    used
+}
+
+#[test]
+fn a_key_that_comes_and_goes_is_no_change(rt: HostRuntime) {
+    let alloc = Heap::within(rt.alloc(), 65536)
+        .leak(rt.alloc())
+        .expect(&rt, "memory");
+    let stays = insert(&rt, alloc, 1, b"b", b"2");
+    let comes = insert(&rt, alloc, 2, LONG, LONG);
+    let goes = write(&rt, alloc, 3, LONG, Action::Delete);
+    let (absent, late) = (delete(&rt, alloc, 2), delete(&rt, alloc, 3));
+    let used = used_by(&rt, alloc, (&stays, &absent, &late));
+    assert!(rt; used > 0);
+    assert_eq!(rt; used_by(&rt, alloc, (&stays, &comes, &goes)), used);
+}
+
+#[test]
+fn a_write_without_an_effect_is_no_change(rt: HostRuntime) {
+    let alloc = heap(rt.alloc()).expect(&rt, "memory");
+    let leaf = leaf_of(alloc, LONG).expect(&rt, "memory");
+    let insert = insert(&rt, alloc, 1, b"a", b"2");
+    let replay = Replay::new(alloc, &[&leaf], None, &[&insert]).expect(&rt, "memory");
+    alloc.refuse(1);
+    let _replay = replay.advance(2).expect(&rt, "memory");
+    assert_eq!(rt; alloc.left(), 1);
 }
 
 #[test]

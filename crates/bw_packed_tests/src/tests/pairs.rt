@@ -53,6 +53,22 @@ fn runs_of_pairs_are_copied(rt: HostRuntime) {
     assert!(rt; are_all(&copy));
 }
 
+#[test]
+fn pairs_are_told_one_after_another(rt: HostRuntime) {
+    let pairs = all_pairs(&rt, heap(&rt, rt.alloc()));
+    let mut told = 0;
+    for (place, (key, value)) in pairs.iter().enumerate() {
+        assert!(rt; place < 4);
+        assert!(rt; key == KEYS[place] && value == VALUES[place]);
+        told += 1;
+    }
+    assert!(rt; told == 4);
+    let mut some = pairs.run(1..3).iter();
+    assert!(rt; some.next() == Some((KEYS[1], VALUES[1])));
+    assert!(rt; some.next() == Some((KEYS[2], VALUES[2])));
+    assert!(rt; some.next().is_none());
+}
+
 fn finds(run: &Run<'_>, key: &[u8], place: usize) -> bool {
     match run.binary_search(key) {
         Ok(found) => found == place,

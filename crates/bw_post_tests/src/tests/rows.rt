@@ -246,7 +246,7 @@ fn growths_back<R: Abort>(rt: &R, alloc: Alloc, scans: &mut Scans) -> u64 {
 }
 
 #[test]
-fn a_leaf_with_writes_is_put_in_a_map_once(rt: HostRuntime) {
+fn writes_have_their_effects_once_for_all_scans(rt: HostRuntime) {
     let alloc = heap(rt.alloc()).expect(&rt, "memory");
     let tree = adopted(&rt, alloc);
     let mut scans = Scans::new(alloc, &tree);
@@ -256,7 +256,7 @@ fn a_leaf_with_writes_is_put_in_a_map_once(rt: HostRuntime) {
 }
 
 #[test]
-fn a_leaf_with_writes_that_is_scanned_back_is_put_in_a_map_once(rt: HostRuntime) {
+fn writes_have_their_effects_once_for_all_scans_back(rt: HostRuntime) {
     let alloc = heap(rt.alloc()).expect(&rt, "memory");
     let tree = adopted(&rt, alloc);
     let mut scans = Scans::new(alloc, &tree);
