@@ -3,6 +3,7 @@ ghost use Rattle.std.specs.Prelude.{◌≡◌, ◌≤◌, ◌<◌, ◌++◌, T, 
 ghost use Rattle.std.specs.Option.{option_copied};
 ghost use Rattle.std.specs.FinMap.{find, is_sorted};
 ghost use Rattle.bw_key.specs.Order.{KeyBytes, key_cmp, key_eq};
+ghost use Rattle.bw_model.specs.Sorted.{place_of};
 ghost use Rattle.bw_delta.specs.Batches.{writes_to};
 ghost use Rattle.bw_delta.specs.History.{pointed_to};
 ghost use Rattle.bw_delta.specs.Merging.{after_writes, merged_value, with_value, AreBehind, AreCutAt, AreFrom, IsMerging};
@@ -103,12 +104,13 @@ fn push_key<'a>(
     Ok((behind, count))
 }
 
-/// Cuts sorted pairs into those below a key, its value, and those behind it, in about log2 n key comparisons.
+/// Cuts sorted pairs into those below a key, its value, and those behind it, in one key comparison where the first one is
+/// at the key, as it is where most keys were written, and else in about log2 n.
 pub(crate) fn parted<'a>(pairs: &Run<'a>, key: &Key) -> (Run<'a>, Option<&'a [u8]>, Run<'a>)
     requires { T (is_sorted key_cmp pairs.now) }
     ensures { AreCutAt pairs.now key.now result.0 (option_copied result.1) result.2 }
 {
-    let (before, rest) = pairs.split_at(place(pairs, key));
+    let (before, rest) = pairs.split_at(place_from_first(pairs, key));
     if rest.is_empty() {
         return (before, None, rest);
     }
@@ -118,6 +120,21 @@ pub(crate) fn parted<'a>(pairs: &Run<'a>, key: &Key) -> (Run<'a>, Option<&'a [u8
     let value = rest.value_at(0);
     let (_first, behind) = rest.split_at(1);
     (before, Some(value), behind)
+}
+
+// How many pairs at the front have a smaller key.
+fn place_from_first(pairs: &Run<'_>, key: &Key) -> usize
+    requires { T (is_sorted key_cmp pairs.now) }
+    ensures value { result ≡ place_of key.now pairs.now }
+    ensures bound { result ≤ length pairs.now }
+{
+    if pairs.is_empty() {
+        return 0;
+    }
+    if pairs.key_at(0) == key.bytes() {
+        return 0;
+    }
+    place(pairs, key)
 }
 
 // The value once the first writes, which are those of a key, had their effects, and how many they are.

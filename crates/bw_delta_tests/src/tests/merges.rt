@@ -132,13 +132,13 @@ fn are_turned(pairs: &Pairs, turned: &Pairs) -> bool {
     if pairs.len() != turned.len() {
         return false;
     }
-    let mut left = turned.len();
-    for (key, value) in pairs {
-        if left == 0 {
+    let count = pairs.len();
+    for place in 0..count {
+        let behind = count - 1 - place;
+        if pairs.key_at(place) != turned.key_at(behind) {
             return false;
         }
-        left -= 1;
-        if turned.key_at(left) != key || turned.value_at(left) != value {
+        if pairs.value_at(place) != turned.value_at(behind) {
             return false;
         }
     }

@@ -60,7 +60,7 @@ fn pairs_are_told_one_after_another(rt: HostRuntime) {
     for (place, (key, value)) in pairs.iter().enumerate() {
         assert!(rt; place < 4);
         assert!(rt; key == KEYS[place] && value == VALUES[place]);
-        told += 1;
+        told = place + 1;
     }
     assert!(rt; told == 4);
     let mut some = pairs.run(1..3).iter();

@@ -1,5 +1,5 @@
 use Rattle.std.specs.List.{IsDistinct}
-use Rattle.bw_delta_tests.proofs.tests.replays.a_leaf_is_read_where_it_stands_up_to_its_first_write.Goals as goal
+use Rattle.bw_delta_tests.proofs.tests.replays.a_change_takes_no_memory_for_the_pairs_beside_it.Goals as goal
 
 -- one write has a stamp of its own
 pub new-requires : goal.new-requires
