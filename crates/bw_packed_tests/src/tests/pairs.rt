@@ -63,6 +63,12 @@ fn pairs_are_told_one_after_another(rt: HostRuntime) {
         told = place + 1;
     }
     assert!(rt; told == 4);
+}
+
+#[test]
+fn a_run_is_told_one_after_another(rt: HostRuntime) {
+    let pairs = all_pairs(&rt, heap(&rt, rt.alloc()));
+    assert!(rt; pairs.len() == 4);
     let mut some = pairs.run(1..3).iter();
     assert!(rt; some.next() == Some((KEYS[1], VALUES[1])));
     assert!(rt; some.next() == Some((KEYS[2], VALUES[2])));
