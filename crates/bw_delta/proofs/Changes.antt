@@ -28,7 +28,7 @@ turned : {A : Type 0} (b : Bool) (x y : A) → cond (not b) x y ≡ cond b y x
 turned true x y = refl
 turned false x y = refl
 
-pub find_one : (change : Change) (pairs : List Pair) (q : KeyBytes) → find key_cmp q (with_change change pairs) ≡ cond (is_eq (key_cmp q change.0)) change.1 (find key_cmp q pairs)
+find_one : (change : Change) (pairs : List Pair) (q : KeyBytes) → find key_cmp q (with_change change pairs) ≡ cond (is_eq (key_cmp q change.0)) change.1 (find key_cmp q pairs)
 find_one (k, Some v) pairs q = find-put key_cmp key_cmp_total q k v pairs
 find_one (k, None) pairs q =
     find-where_key key_cmp (λ x. not (eq_by_cmp key_cmp k x)) q (λ x t. ap (λ r. not (is_eq r)) (sym (alike_right key_cmp_total q x k t))) pairs
@@ -79,7 +79,7 @@ sorted_changed [] pairs h = h
 sorted_changed (c ∷ cs) pairs h = sorted_one c (changed_pairs cs pairs) (sorted_changed cs pairs h)
 
 -- the pairs of a range are those of the base there, with the changes there
-pub range_changed : (low : KeyBytes) (high : Option KeyBytes) (changes : List Change) (pairs : List Pair) → T (is_sorted key_cmp pairs) →
+range_changed : (low : KeyBytes) (high : Option KeyBytes) (changes : List Change) (pairs : List Pair) → T (is_sorted key_cmp pairs) →
     filter (is_pair_in_range low high) (changed_pairs changes pairs) ≡ changed_pairs (filter (is_pair_in_range low high) changes) (filter (is_pair_in_range low high) pairs)
 range_changed low high changes pairs sorted =
     same_entries key_cmp key_cmp_total keys_tie _ _
@@ -96,6 +96,14 @@ range_changed low high changes pairs sorted =
     by : (b : Bool) (c : Option (Option ValueBytes)) (v : Option ValueBytes) → cond b (value_under c v) None ≡ value_under (cond b c None) (cond b v None)
     by true c v = refl
     by false c v = refl
+
+-- what a read of a range has, from the pairs and the changes there
+pub read_changed : (low : KeyBytes) (high : Option KeyBytes) (changes there : List Change) (base pairs : List Pair) → T (is_sorted key_cmp base) →
+    there ≡ filter (is_pair_in_range low high) changes → pairs ≡ filter (is_pair_in_range low high) base → changed_pairs there pairs ≡ filter (is_pair_in_range low high) (changed_pairs changes base)
+read_changed low high changes there base pairs sorted there_is pairs_is =
+    ap (λ (l : List Change). changed_pairs l pairs) there_is
+    ∙ ap (changed_pairs (filter (is_pair_in_range low high) changes)) pairs_is
+    ∙ sym (range_changed low high changes base sorted)
 
 module _ {V : Type 0} where
   -- where no key that fails a test is found, all pass it
@@ -198,7 +206,7 @@ module _ (k : KeyBytes) (old : Option ValueBytes) (pairs before behind : List Pa
   behind_sorted = bare k old behind (sorted_rest before (with_value k old behind) whole_sorted)
 
   -- The changes at smaller keys are made in front of the key, and those at greater ones behind it.
-  pub cut_changed : (v : Option ValueBytes) (lower upper : List Change) → T (is_sorted key_cmp (lower ++ (k, v) ∷ upper)) →
+  cut_changed : (v : Option ValueBytes) (lower upper : List Change) → T (is_sorted key_cmp (lower ++ (k, v) ∷ upper)) →
       changed_pairs (lower ++ (k, v) ∷ upper) pairs ≡ changed_pairs lower before ++ with_value k v (changed_pairs upper behind)
   cut_changed v lower upper rising = same_entries key_cmp key_cmp_total keys_tie _ _
       (sorted_changed (lower ++ (k, v) ∷ upper) pairs sorted)

@@ -32,14 +32,14 @@ self_same : (k : KeyBytes) → key_eq k k ≡ true
 self_same k = key_ties k k ∙ ap is_eq (cmp_self k)
 
 -- of two keys that differ one is above the other
-pub above_it : (a b : KeyBytes) → is_lt (key_cmp a b) ≡ false → key_eq a b ≡ false → is_lt (key_cmp b a) ≡ true
+above_it : (a b : KeyBytes) → is_lt (key_cmp a b) ≡ false → key_eq a b ≡ false → is_lt (key_cmp b a) ≡ true
 above_it a b upto apart = elim (is_lt (key_cmp b a)) as (λ t. is_lt (key_cmp b a) ≡ t → t ≡ true) [
   | true ↦ λ e. refl
   | false ↦ λ e. absurd (different (sym (self_same a) ∙ ap (key_eq a) (neither_below a b upto e) ∙ apart))
 ] refl
 
 -- a key below another is below all that the other is below
-pub below_more : {V : Type 0} (x k : KeyBytes) (es : List (KeyBytes × V)) → is_lt (key_cmp x k) ≡ true → T (below_all key_cmp k es) → T (below_all key_cmp x es)
+below_more : {V : Type 0} (x k : KeyBytes) (es : List (KeyBytes × V)) → is_lt (key_cmp x k) ≡ true → T (below_all key_cmp k es) → T (below_all key_cmp x es)
 below_more x k [] lt h = tt
 below_more x k (e ∷ es) lt h =
     both_of _ _ (true_holds _ (below_trans x k e.0 lt (holds _ (left_of _ _ h)))) (below_more x k es lt (right_of _ _ h))
@@ -55,7 +55,7 @@ below_both k [] ys h i = i
 below_both k (x ∷ xs) ys h i = both_of _ _ (left_of _ _ h) (below_both k xs ys (right_of _ _ h) i)
 
 -- no pair behind a key is at it
-pub find_behind : {V : Type 0} (k : KeyBytes) (es : List (KeyBytes × V)) → T (below_all key_cmp k es) → find key_cmp k es ≡ None
+find_behind : {V : Type 0} (k : KeyBytes) (es : List (KeyBytes × V)) → T (below_all key_cmp k es) → find key_cmp k es ≡ None
 find_behind k [] h = refl
 find_behind k (e ∷ es) h =
     ap (λ b. cond b (Some e.1) (find key_cmp k es)) (sym (key_ties k e.0) ∙ less_apart k e.0 (holds _ (left_of _ _ h)))

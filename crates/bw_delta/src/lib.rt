@@ -11,9 +11,9 @@ mod deltas;
 mod laws;
 mod merging;
 mod present;
+mod range_reads;
 mod reading;
 mod replay;
-mod runs;
 mod writes;
 
 pub use arena::Arena;

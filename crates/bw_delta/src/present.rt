@@ -13,8 +13,8 @@ ghost use Rattle.bw_delta.specs.Readings.{from_stamp};
 ghost use Rattle.bw_delta.specs.Rising.{HasRisingStamps};
 
 use crate::consolidation::joined;
+use crate::range_reads::{add_falling, add_rising};
 use crate::reading::copied;
-use crate::runs::{add_falling, add_rising};
 use crate::writes::Write;
 use bw_key::{Key, Memory};
 use bw_memory::Alloc;

@@ -1,7 +1,6 @@
-use Rattle.std.proofs.Common.{◌≡◌, ◌∙◌, [], List, ap, get_or, sym, true, false}
+use Rattle.std.proofs.Common.{◌∙◌, [], ap, sym}
 use Rattle.bw_key.specs.Order.{KeyBytes, key_eq}
 use Rattle.bw_model.specs.Sorted.{place_of}
-use Rattle.bw_model.specs.Values.{Pair}
 use Rattle.bw_delta.proofs.Merges.{first_at, none_left, some_left}
 use Rattle.bw_delta.proofs.merging.place_from_first.Goals as goal
 

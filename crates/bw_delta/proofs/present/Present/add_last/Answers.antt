@@ -5,8 +5,8 @@ use Rattle.std.specs.Option.{option_copied}
 use Rattle.bw_key.specs.Order.{key_cmp}
 use Rattle.bw_model.specs.Contents.{is_pair_in_range}
 use Rattle.bw_model.specs.Values.{Pair}
-use Rattle.bw_delta.specs.Present.{base_pairs, changed_pairs, Change}
-use Rattle.bw_delta.proofs.Changes.{range_changed, sorted_changed}
+use Rattle.bw_delta.specs.Present.{base_pairs, Change}
+use Rattle.bw_delta.proofs.Changes.{read_changed, sorted_changed}
 use Rattle.bw_delta.proofs.Maps.{sorted_in_range}
 use Rattle.bw_delta.proofs.present.Present.add_last.Goals as goal
 
@@ -27,14 +27,12 @@ returns-clause-sorted c =
 
 pub returns-clause-added : goal.returns-clause-added
 returns-clause-added c =
+    let sorted = subst (λ (l : List Pair). T (is_sorted key_cmp l)) c.leaf.ensures c.between-pairs.ensures.rules.sorted in
     let in_range = is_pair_in_range c.args.low.now (option_copied c.args.high) in
-    let changes = c.args.self.now.changes.entries in
     on_ok_weaker c.add_falling.result
     (λ is.
     is
-    ∙ ap (λ (l : List Pair). c.args.read.now ++ take c.args.most (reverse (changed_pairs c.range.result l))) (c.between-pairs.ensures.value ∙ ap (filter in_range) c.leaf.ensures)
-    ∙ ap (λ (l : List Change). c.args.read.now ++ take c.args.most (reverse (changed_pairs l (filter in_range (base_pairs c.args.self.now.base))))) c.range.ensures.between
     ∙ ap (λ (l : List Pair). c.args.read.now ++ take c.args.most (reverse l))
-    (sym (range_changed c.args.low.now (option_copied c.args.high) changes (base_pairs c.args.self.now.base)
-    (subst (λ (l : List Pair). T (is_sorted key_cmp l)) c.leaf.ensures c.between-pairs.ensures.rules.sorted))))
+    (read_changed c.args.low.now (option_copied c.args.high) c.args.self.now.changes.entries c.range.result (base_pairs c.args.self.now.base) c.between-pairs.result sorted
+    c.range.ensures.between (c.between-pairs.ensures.value ∙ ap (filter in_range) c.leaf.ensures)))
     c.add_falling.ensures.added

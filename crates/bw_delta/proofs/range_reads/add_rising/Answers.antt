@@ -8,7 +8,7 @@ use Rattle.bw_delta.specs.Merging.{with_value}
 use Rattle.bw_delta.specs.Present.{changed_pairs, Change}
 use Rattle.bw_delta.proofs.Changes.{behind_sorted, passed_up}
 use Rattle.bw_delta.proofs.Replays.{kept_before}
-use Rattle.bw_delta.proofs.runs.add_rising.Goals as goal
+use Rattle.bw_delta.proofs.range_reads.add_rising.Goals as goal
 
 pub loop-key-preserved : goal.loop-key-preserved
 loop-key-preserved c =

@@ -2,7 +2,7 @@ use Rattle.std.proofs.Common.{◌≡◌, ◌++◌, T, length, take}
 use Rattle.std.specs.FinMap.{is_sorted}
 use Rattle.bw_key.specs.Order.{key_cmp}
 use Rattle.bw_delta.specs.Present.{changed_pairs}
-use Rattle.bw_delta.proofs.runs.add_rising.Given as goal
+use Rattle.bw_delta.proofs.range_reads.add_rising.Given as goal
 
 abbrev pub invariant-loop-key : goal.invariant-loop-key
 invariant-loop-key l = record {

@@ -3,7 +3,7 @@ use Rattle.std.specs.Iterator.Adapters.{rev_source}
 use Rattle.std.specs.FinMap.{is_sorted}
 use Rattle.bw_key.specs.Order.{key_cmp}
 use Rattle.bw_delta.specs.Present.{changed_pairs}
-use Rattle.bw_delta.proofs.runs.add_falling.Given as goal
+use Rattle.bw_delta.proofs.range_reads.add_falling.Given as goal
 
 abbrev pub invariant-loop-key : goal.invariant-loop-key
 invariant-loop-key l = record {

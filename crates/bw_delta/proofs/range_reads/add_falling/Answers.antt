@@ -8,7 +8,7 @@ use Rattle.bw_delta.specs.Merging.{with_value}
 use Rattle.bw_delta.specs.Present.{changed_pairs, Change}
 use Rattle.bw_delta.proofs.Changes.{before_sorted, passed_down, sorted_front}
 use Rattle.bw_delta.proofs.Replays.{kept_before}
-use Rattle.bw_delta.proofs.runs.add_falling.Goals as goal
+use Rattle.bw_delta.proofs.range_reads.add_falling.Goals as goal
 
 pub loop-key-preserved : goal.loop-key-preserved
 loop-key-preserved c =

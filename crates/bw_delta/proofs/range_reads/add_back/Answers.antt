@@ -2,7 +2,7 @@ use Rattle.std.proofs.Common.{◌≡◌, ◌∙◌, ◌-◌, ◌<◌, ◌++◌, 
 use Rattle.std.proofs.Math.Seq.{take-append_seam}
 use Rattle.std.proofs.lemmas.List.{get_or-reverse, length-reverse, take_min, take_more}
 use Rattle.bw_model.specs.Values.{Pair}
-use Rattle.bw_delta.proofs.runs.add_back.Goals as goal
+use Rattle.bw_delta.proofs.range_reads.add_back.Goals as goal
 
 pub returns-in_err-push_at-clause-kept : goal.returns-in_err-push_at-clause-kept
 returns-in_err-push_at-clause-kept c =
