@@ -88,10 +88,10 @@ only_base : (ds : List Delta) (e b : ℕ) → IsShaped ds → Contains (supports
 only_base [] e b shaped has = sym (only has)
 only_base (Put w ∷ ds) e b shaped has = only_base ds e b shaped has
 only_base (Split k to ∷ ds) e b shaped has = sym (only (subst (λ (l : List Delta). Contains (supports_of l e) b) shaped has))
-only_base (Absorb k base high side ∷ ds) e b shaped has = absurd shaped
+only_base (Absorb k base high side ∷ ds) e b shaped has = sym (only (subst (λ (l : List Delta). Contains (supports_of l e) b) shaped has))
 only_base (Removed left ∷ ds) e b shaped has = absurd shaped
 only_base (AddChild k child ∷ ds) e b shaped has = sym (only (subst (λ (l : List Delta). Contains (supports_of l e) b) shaped has))
-only_base (DropChild k ∷ ds) e b shaped has = absurd shaped
+only_base (DropChild k ∷ ds) e b shaped has = sym (only (subst (λ (l : List Delta). Contains (supports_of l e) b) shaped has))
 
 rests_within : (bases : Bases) (records : Records) (word b : ℕ) → Ends bases records word → Contains (supports_at records word) b → b < length bases
 rests_within bases records word b ends has = by ends.0 ends.1.0 ends.1.1

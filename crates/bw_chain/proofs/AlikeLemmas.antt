@@ -3,6 +3,7 @@ use Rattle.std.proofs.Common.{◌≡◌, ℕ, List, [], Option, refl, sym, ap, �
 use Rattle.std.specs.List.{Contains}
 use Rattle.bw_key.specs.Order.{KeyBytes}
 use Rattle.bw_page.specs.Inners.{IsUpto}
+use Rattle.bw_page.specs.declared.pages.RemovedPage.{RemovedPage}
 use Rattle.bw_chain.specs.Slots.{Slot, PageState, Free, Gone, Live, slot_at, left_of, left_of_slot, children_of}
 use Rattle.bw_chain.specs.Levels.{Stands, AreLevels, StartsWith, LeadsBelow, row}
 use Rattle.bw_chain.specs.Entries.{AreExact}
@@ -17,8 +18,11 @@ one_state e = cc
 no_live : {s : PageState} → Free ≡ Live s → ⊥
 no_live e = cc
 
-no_gone : {l : ℕ} {s : PageState} → Gone l ≡ Live s → ⊥
+no_gone : {l : RemovedPage} {s : PageState} → Gone l ≡ Live s → ⊥
 no_gone e = cc
+
+free_gone : {l : RemovedPage} → Free ≡ Gone l → ⊥
+free_gone e = cc
 
 left_same : (slot other : Slot) → AreAlike slot other → left_of_slot other ≡ left_of_slot slot
 left_same Free other is = ap left_of_slot is
@@ -32,6 +36,12 @@ was_live (Gone l) other t is live = absurd (no_gone (sym is ∙ live))
 was_live (Live s) other t a live =
     let same : t ≡ a.state = one_state (sym live ∙ a.is) in
     (s, refl, ap (λ (r : PageState). children_of r.body) same ∙ a.children, ap (λ (r : PageState). r.low) same ∙ a.low)
+
+-- and a removed page was one
+was_gone : (slot other : Slot) (g : RemovedPage) → AreAlike slot other → other ≡ Gone g → slot ≡ Gone g
+was_gone Free other g is gone = absurd (free_gone (sym is ∙ gone))
+was_gone (Gone l) other g is gone = sym is ∙ gone
+was_gone (Live s) other g a gone = absurd (no_gone (sym gone ∙ a.is))
 
 module _ (old new : List Slot) (over : (p : ℕ) → AreAlike (slot_at old p) (slot_at new p)) where
   page : (p : ℕ) (s : PageState) → slot_at old p ≡ Live s → IsAlike s (slot_at new p)
@@ -74,6 +84,7 @@ module _ (old new : List Slot) (over : (p : ℕ) → AreAlike (slot_at old p) (s
     begins = λ n k c s within term is.
         let b = was_live (slot_at old c) (slot_at new c) s (over c) is in
         b.3 ∙ exact.begins n k c b.0 within (term_was levels n k c term) b.1;
+    began = λ n k c g within term is. exact.began n k c g within (term_was levels n k c term) (was_gone (slot_at old c) (slot_at new c) g (over c) is);
     once = λ n k h c within one other. exact.once n k h c within (term_was levels n k c one) (term_was levels n h c other);
   }
 

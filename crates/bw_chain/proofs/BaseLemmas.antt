@@ -47,10 +47,10 @@ rests_on_base : (ds : List Delta) (e : ℕ) → IsShaped ds → Contains (suppor
 rests_on_base [] e shaped = (0, omega arith, refl)
 rests_on_base (Put w ∷ ds) e shaped = rests_on_base ds e shaped
 rests_on_base (Split k to ∷ ds) e shaped = base_alone ds e shaped
-rests_on_base (Absorb k base high side ∷ ds) e shaped = absurd shaped
+rests_on_base (Absorb k base high side ∷ ds) e shaped = base_alone ds e shaped
 rests_on_base (Removed left ∷ ds) e shaped = absurd shaped
 rests_on_base (AddChild k child ∷ ds) e shaped = base_alone ds e shaped
-rests_on_base (DropChild k ∷ ds) e shaped = absurd shaped
+rests_on_base (DropChild k ∷ ds) e shaped = base_alone ds e shaped
 
 pub rests : (bases : Bases) (records : Records) (word : ℕ) → Ends bases records word → Contains (supports_at records word) (base_under records word)
 rests bases records word ends = by ends.0 ends.1.0 ends.1.1

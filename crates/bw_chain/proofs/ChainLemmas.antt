@@ -1,9 +1,10 @@
 -- Chains, one record after another.
-use Rattle.std.proofs.Common.{◌≡◌, ℕ, suc, ◌-◌, ◌<◌, ◌≤◌, true, false, cond, List, [], ◌∷◌, length, Option, Some, None, ltb, refl, sym, ap, ◌∙◌, subst, arith}
+use Rattle.std.proofs.Common.{inl, inr, ◌⊎◌, ◌≡◌, ℕ, suc, ◌-◌, ◌<◌, ◌≤◌, true, false, cond, List, [], ◌∷◌, length, Option, Some, None, ltb, refl, sym, ap, ◌∙◌, subst, arith}
 use Rattle.std.proofs.lemmas.Bool.Decides.{nat_tests}
 use Rattle.std.proofs.lemmas.Option.{slice_get-map}
 use Rattle.std.specs.Option.{option_map}
 use Rattle.std.specs.Prelude.{slice_get}
+use Rattle.bw_key.specs.Order.{KeyBytes}
 use Rattle.bw_delta.specs.Arenas.{links_of}
 use Rattle.bw_delta.specs.Writes.{WriteView}
 use Rattle.bw_delta.specs.declared.deltas.Delta.{Delta}
@@ -73,10 +74,10 @@ none_on records p (w ∷ ws) e h none_there = absurd (omega (arith, ap length no
 abbrev pub Below : Bases → Records → Delta → ℕ → Type 0
 Below bases records (Put w) q = Ends bases records q
 Below bases records (Split k to) q = slot_of_word bases records q ≡ based (slice_get bases q)
-Below bases records (Absorb k base high side) q = ⊥
+Below bases records (Absorb k base high side) q = slot_of_word bases records q ≡ based (slice_get bases q)
 Below bases records (Removed left) q = ⊥
 Below bases records (AddChild k child) q = slot_of_word bases records q ≡ based (slice_get bases q)
-Below bases records (DropChild k) q = ⊥
+Below bases records (DropChild k) q = slot_of_word bases records q ≡ based (slice_get bases q)
 
 -- What a record changes lies under it, and there is less of a chain under it.
 pub record Under (bases : Bases) (records : Records) (word : ℕ) (r : Delta × ℕ) : Type 0 where
@@ -93,10 +94,10 @@ base_there bases records q ws e way none =
 below_it : (bases : Bases) (records : Records) (q : ℕ) (d : Delta) (ws : List ℕ) (e : ℕ) → Leads (link_of records) q ws e → length ws ≤ length records → e < length bases → e < 4294967296 → IsShaped (d ∷ deltas_at records ws) → Below bases records d q
 below_it bases records q (Put w) ws e way short within limit shaped = (ws, (e, record { way = way; short = short; within = within; limit = limit; shaped = shaped }))
 below_it bases records q (Split k to) ws e way short within limit shaped = base_there bases records q ws e way shaped
-below_it bases records q (Absorb k base high side) ws e way short within limit shaped = absurd shaped
+below_it bases records q (Absorb k base high side) ws e way short within limit shaped = base_there bases records q ws e way shaped
 below_it bases records q (Removed left) ws e way short within limit shaped = absurd shaped
 below_it bases records q (AddChild k child) ws e way short within limit shaped = base_there bases records q ws e way shaped
-below_it bases records q (DropChild k) ws e way short within limit shaped = absurd shaped
+below_it bases records q (DropChild k) ws e way short within limit shaped = base_there bases records q ws e way shaped
 
 under_way : (bases : Bases) (records : Records) (word : ℕ) (r : Delta × ℕ) → record_at records word ≡ Some r →
     (ws : List ℕ) (e : ℕ) → EndsAt bases records word ws e → Under bases records word r
@@ -158,10 +159,10 @@ under_put bases records word under_it d w ends at put =
 write_over : (d : Delta) (ds : List Delta) → IsShaped (d ∷ ds) → (ds ≡ [] → ⊥) → (w : WriteView) × (d ≡ Put w)
 write_over (Put w) ds shaped more = (w, refl)
 write_over (Split k to) ds shaped more = absurd (more shaped)
-write_over (Absorb k base high side) ds shaped more = absurd shaped
+write_over (Absorb k base high side) ds shaped more = absurd (more shaped)
 write_over (Removed left) ds shaped more = absurd shaped
 write_over (AddChild k child) ds shaped more = absurd (more shaped)
-write_over (DropChild k) ds shaped more = absurd shaped
+write_over (DropChild k) ds shaped more = absurd (more shaped)
 
 -- so under a record that lies over another one is the rest of the chain
 pub over_record : (bases : Bases) (records : Records) (word under_it : ℕ) → Ends bases records word → link_of records word ≡ Some under_it → 4294967296 ≤ under_it → UnderPut bases records word under_it
@@ -187,7 +188,13 @@ under_other bases records word under_it d ends at not_put =
     by : (d : Delta) → slot_of_word bases records word ≡ change bases d (slot_of_word bases records under_it) → Below bases records d under_it → ((w : WriteView) → d ≡ Put w → ⊥) → (slot_of_word bases records word ≡ change bases d (based (slice_get bases under_it))) × IsOther d
     by (Put w) state below not_put = absurd (not_put w refl)
     by (Split k to) state below not_put = (state ∙ ap (change bases (Split k to)) below, tt)
-    by (Absorb k base high side) state below not_put = absurd below
+    by (Absorb k base high side) state below not_put = (state ∙ below, tt)
     by (Removed left) state below not_put = absurd below
     by (AddChild k child) state below not_put = (state ∙ ap (change bases (AddChild k child)) below, tt)
-    by (DropChild k) state below not_put = absurd below
+    by (DropChild k) state below not_put = (state ∙ below, tt)
+
+-- a record of what the base page has already leaves the page as it is
+pub as_it_is : (bases : Bases) (d : Delta) (slot : Slot) →
+    ((sep : KeyBytes) × (base : ℕ) × (high : Option KeyBytes) × (side : Option ℕ) × (d ≡ Absorb sep base high side)) ⊎ ((sep : KeyBytes) × (d ≡ DropChild sep)) → change bases d slot ≡ slot
+as_it_is bases d slot (inl absorbed) = ap (λ (e : Delta). change bases e slot) absorbed.4
+as_it_is bases d slot (inr dropped) = ap (λ (e : Delta). change bases e slot) dropped.1

@@ -11,6 +11,7 @@ use Rattle.bw_model.specs.Contents.{is_below_end, is_in_range}
 use Rattle.bw_model.specs.Values.{ValueBytes}
 use Rattle.bw_page.specs.Inners.{IsUpto}
 use Rattle.bw_page.specs.Pages.{BeginsAt}
+use Rattle.bw_page.specs.declared.pages.RemovedPage.{RemovedPage}
 use Rattle.bw_page.proofs.Entries.{put_inner_page}
 use Rattle.bw_page.proofs.KeyLemmas.{below_back, below_self, keys_tie}
 use Rattle.bw_page.proofs.Truths.{both_of, not_holds}
@@ -22,7 +23,7 @@ use Rattle.bw_chain.specs.Entries.{AreExact}
 use Rattle.bw_chain.specs.Laws.{ChildIsKept}
 use Rattle.bw_chain.specs.Levels.{AreLevels, FirstChild, LeadsBelow, Stands, StartsWith, row}
 use Rattle.bw_chain.specs.Reading.{body_pairs, body_writes, contents_in, pairs_under, row_pairs, row_writes, writes_over}
-use Rattle.bw_chain.specs.Slots.{Slot, PageState, Body, Pairs, Children, Live, IsSoundBody, IsSoundPage, children_of, left_of, left_of_slot, level_of, slot_at}
+use Rattle.bw_chain.specs.Slots.{Slot, PageState, Body, Pairs, Children, Gone, Live, IsSoundBody, IsSoundPage, children_of, left_of, left_of_slot, level_of, slot_at}
 use Rattle.bw_chain.specs.Steps.{IsTerm, KeepsLevels, WasTerm}
 use Rattle.bw_chain.proofs.ChildLemmas.{put_was}
 use Rattle.bw_chain.proofs.RowLemmas.{InRow, in_row, row_on, same_each}
@@ -31,6 +32,9 @@ use Rattle.bw_chain.proofs.WalkLemmas.{way_on}
 
 one_state : {s t : PageState} → Live s ≡ Live t → s ≡ t
 one_state e = cc
+
+not_gone : {s : PageState} {g : RemovedPage} → Live s ≡ Gone g → ⊥
+not_gone e = cc
 
 one_level : {n m : ℕ} → suc n ≡ suc m → n ≡ m
 one_level e = omega (arith, e)
@@ -210,6 +214,7 @@ module _ (old new : List Slot) (root : ℕ) (levels : List (List ℕ)) (p : ℕ)
   exact_still : AreExact old levels → AreExact new levels
   exact_still exact = record {
     begins = λ n k c s lt t is. begins_there n k c s lt is (term_was n k c lt t) (cases_eq c p);
+    began = λ n k c g lt t is. began_there n k c g lt is (term_was n k c lt t) (cases_eq c p);
     once = λ n k h c lt one other. same_key n k h c lt (term_was n k c lt one) (term_was n h c lt other);
   }
     where
@@ -231,6 +236,13 @@ module _ (old new : List Slot) (root : ℕ) (levels : List (List ℕ)) (p : ℕ)
       begins_there n k c s lt is (inl had) (inl here) =
           ap (λ (x : PageState). x.low) (one_state (sym is ∙ ap (slot_at new) here ∙ given.now)) ∙ exact.begins n k c was lt had (ap (slot_at old) here ∙ given.is)
       begins_there n k c s lt is (inl had) (inr other) = exact.begins n k c s lt had (sym (given.others c other) ∙ is)
+
+      -- the new child isn't a removed page, nor is the page that has it
+      began_there : (n : ℕ) (k : KeyBytes) (c : ℕ) (g : RemovedPage) → suc n < length levels → slot_at new c ≡ Gone g → IsTerm old levels n k c ⊎ ((fits.level ≡ n) × IsNew (k, c)) → (c ≡ p) ⊎ (c ≡ p → ⊥) → (g.low ≡ k) × (g.level ≡ n)
+      began_there n k c g lt is (inr (same, added)) h =
+          absurd (not_gone (sym (still child fits.child_state fits.child_is).1 ∙ ap (slot_at new) (sym (new_child k c added)) ∙ is))
+      began_there n k c g lt is (inl had) (inl here) = absurd (not_gone (sym given.now ∙ ap (slot_at new) (sym here) ∙ is))
+      began_there n k c g lt is (inl had) (inr other) = exact.began n k c g lt had (sym (given.others c other) ∙ is)
 
       same_key : (n : ℕ) (k h : KeyBytes) (c : ℕ) → suc n < length levels → IsTerm old levels n k c ⊎ ((fits.level ≡ n) × IsNew (k, c)) → IsTerm old levels n h c ⊎ ((fits.level ≡ n) × IsNew (h, c)) → k ≡ h
       same_key n k h c lt (inl one) (inl other) = exact.once n k h c lt one other

@@ -74,10 +74,10 @@ over_any bases other (Some d) slot none = by d.now none
     by : (d : Delta) → IsOther d → change bases d slot ≡ change other d slot
     by (Put w) h = absurd h
     by (Split k to) h = refl
-    by (Absorb k base high side) h = absurd h
+    by (Absorb k base high side) h = refl
     by (Removed left) h = absurd h
     by (AddChild k child) h = refl
-    by (DropChild k) h = absurd h
+    by (DropChild k) h = refl
 
 -- what was put among entries of a range lies in it
 pub put_in_range : {X : Type 0} (low : KeyBytes) (high : Option KeyBytes) (k : KeyBytes) (v : X) (es : List (KeyBytes × X)) → T (list_all (is_pair_in_range low high) (put key_cmp k v es)) → T (is_in_range low high k)

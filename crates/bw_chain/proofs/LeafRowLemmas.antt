@@ -23,7 +23,7 @@ pub find_both : {V : Type 0} (key : KeyBytes) (xs ys : List (KeyBytes × V)) →
 find_both key [] ys = refl
 find_both {V} key (x ∷ xs) ys = elim (eq_by_cmp key_cmp key x.0) as (λ b. cond b (Some x.1) (find key_cmp key (xs ++ ys)) ≡ option_or (cond b (Some x.1) (find key_cmp key xs)) (find key_cmp key ys)) [ true ↦ refl | false ↦ find_both key xs ys ]
 
-or_none : {V : Type 0} (o : Option V) → option_or o None ≡ o
+pub or_none : {V : Type 0} (o : Option V) → option_or o None ≡ o
 or_none None = refl
 or_none (Some v) = refl
 
@@ -31,7 +31,7 @@ different : true ≡ false → ⊥
 different e = cc
 
 -- a range has no key that isn't in it
-none_outside : {V : Type 0} (low : KeyBytes) (high : Option KeyBytes) (key : KeyBytes) (es : List (KeyBytes × V)) → (T (is_in_range low high key) → ⊥) → T (list_all (is_pair_in_range low high) es) → find key_cmp key es ≡ None
+pub none_outside : {V : Type 0} (low : KeyBytes) (high : Option KeyBytes) (key : KeyBytes) (es : List (KeyBytes × V)) → (T (is_in_range low high key) → ⊥) → T (list_all (is_pair_in_range low high) es) → find key_cmp key es ≡ None
 none_outside low high key [] out inside = refl
 none_outside low high key (e ∷ es) out inside = at (key_eq key e.0) refl (none_outside low high key es out (right_of _ _ inside))
   where
@@ -119,7 +119,7 @@ one_state : {s t : PageState} → Live s ≡ Live t → s ≡ t
 one_state e = cc
 
 -- each page of a row begins at its low key or above it
-row_above : (slots : List Slot) (level : ℕ) (low : KeyBytes) (ps : List ℕ) (p : ℕ) (s : PageState) → SideBySide slots level low ps → Contains ps p → slot_at slots p ≡ Live s → is_lt (key_cmp s.low low) ≡ false
+pub row_above : (slots : List Slot) (level : ℕ) (low : KeyBytes) (ps : List ℕ) (p : ℕ) (s : PageState) → SideBySide slots level low ps → Contains ps p → slot_at slots p ≡ Live s → is_lt (key_cmp s.low low) ≡ false
 row_above slots level low [] p s h has is = absurd h
 row_above slots level low (x ∷ []) p s h (zero, lt, at) is =
     let same : h.state ≡ s = one_state (sym h.is ∙ ap (slot_at slots) at ∙ is) in

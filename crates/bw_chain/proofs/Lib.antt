@@ -32,3 +32,8 @@ pub mod EntryLemmas
 pub mod AboveLemmas
 pub mod RootLemmas
 pub mod CountLemmas
+pub mod MergeLemmas
+pub mod DropLemmas
+pub mod LoweringLemmas
+pub mod JoiningLemmas
+pub mod BareLemmas

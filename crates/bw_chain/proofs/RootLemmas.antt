@@ -7,6 +7,7 @@ use Rattle.std.specs.Ordering.{is_lt}
 use Rattle.bw_key.specs.Order.{KeyBytes, key_cmp}
 use Rattle.bw_model.specs.Values.{ValueBytes}
 use Rattle.bw_page.specs.Inners.{IsInner, IsUpto}
+use Rattle.bw_page.specs.declared.pages.RemovedPage.{RemovedPage}
 use Rattle.bw_page.proofs.KeyLemmas.{below_back, below_self}
 use Rattle.bw_page.proofs.Truths.{both_of, not_holds, true_holds}
 use Rattle.bw_delta.specs.ContentsAsOf.{contents_as_of}
@@ -16,7 +17,7 @@ use Rattle.bw_chain.specs.Laws.{LevelsAreGrown}
 use Rattle.bw_chain.specs.Levels.{AreLevels, BeginsWith, FirstChild, LeadsBelow, SideBySide, Stands, StartsWith, row}
 use Rattle.bw_chain.specs.Reading.{contents_in, pairs_under, row_pairs, row_writes, writes_over}
 use Rattle.bw_chain.specs.Roots.{IsGrown, levels_grown, root_over, two_children}
-use Rattle.bw_chain.specs.Slots.{Slot, PageState, Free, Live, children_of, left_of, left_of_slot, level_of, slot_at}
+use Rattle.bw_chain.specs.Slots.{Slot, PageState, Free, Gone, Live, children_of, left_of, left_of_slot, level_of, slot_at}
 use Rattle.bw_chain.proofs.LeafRowLemmas.{low_below}
 use Rattle.bw_chain.proofs.RouteLemmas.{row_first}
 use Rattle.bw_chain.specs.Steps.{IsTerm}
@@ -29,6 +30,9 @@ one_state e = cc
 
 not_free : {s : PageState} → Free ≡ Live s → ⊥
 not_free e = cc
+
+not_gone : {s : PageState} {g : RemovedPage} → Live s ≡ Gone g → ⊥
+not_gone e = cc
 
 no_key : {k : KeyBytes} → None ≡ Some k → ⊥
 no_key e = cc
@@ -292,6 +296,7 @@ module _ (old new : List Slot) (root : ℕ) (levels : List (List ℕ)) (t : ℕ)
   exact_new : AreExact old levels → AreExact new after
   exact_new exact = record {
     begins = λ m k c s lt term is. begins_there m k c s is (term_was m k c term (which (suc m) lt));
+    began = λ m k c g lt term is. began_there m k c g is (term_was m k c term (which (suc m) lt));
     once = λ m k h c lt one other. same_key m k h c (term_was m k c one (which (suc m) lt)) (term_was m h c other (which (suc m) lt));
   }
     where
@@ -302,6 +307,11 @@ module _ (old new : List Slot) (root : ℕ) (levels : List (List ℕ)) (t : ℕ)
       begins_there m k c s is (inr b) = low_is k c s is b
       begins_there m k c s is (inl (low, had)) =
           exact.begins m k c s low had (sym (grown.others c (λ added. child_there old root levels lawful m k c low had (ap (slot_at old) added ∙ grown.free))) ∙ is)
+
+      began_there : (m : ℕ) (k : KeyBytes) (c : ℕ) (g : RemovedPage) → slot_at new c ≡ Gone g → (suc m < length levels × IsTerm old levels m k c) ⊎ BeginsAt k c → (g.low ≡ k) × (g.level ≡ m)
+      began_there m k c g is (inr b) = absurd (not_gone (sym b.1 ∙ is))
+      began_there m k c g is (inl (low, had)) =
+          exact.began m k c g low had (sym (grown.others c (λ added. child_there old root levels lawful m k c low had (ap (slot_at old) added ∙ grown.free))) ∙ is)
 
       same_key : (m : ℕ) (k h : KeyBytes) (c : ℕ) → (suc m < length levels × IsTerm old levels m k c) ⊎ BeginsAt k c → (suc m < length levels × IsTerm old levels m h c) ⊎ BeginsAt h c → k ≡ h
       same_key m k h c (inl (low, one)) (inl (_, other)) = exact.once m k h c low one other

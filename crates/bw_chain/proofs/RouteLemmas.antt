@@ -3,6 +3,7 @@ use Rattle.std.proofs.Common.{◌≡◌, ℕ, zero, suc, ◌+◌, ◌-◌, ◌*�
 use Rattle.std.specs.List.{Contains}
 use Rattle.bw_key.specs.Order.{KeyBytes}
 use Rattle.bw_model.specs.Contents.{is_below_end}
+use Rattle.bw_page.specs.declared.pages.RemovedPage.{RemovedPage}
 use Rattle.bw_page.specs.Inners.{IsLastUpto, IsUpto}
 use Rattle.bw_page.proofs.Truths.{holds_not, not_holds}
 use Rattle.bw_page.proofs.KeyLemmas.{upto_trans}
@@ -150,9 +151,9 @@ module _ (slots : List Slot) (root : ℕ) (levels : List (List ℕ)) (lawful : A
   pub sought_held : (p : ℕ) (h : Sought slots levels key p) → p < length slots
   sought_held p h = held slots p (is_held p h)
 
-  pub go_left : (p l : ℕ) → Sought slots levels key p → slot_at slots p ≡ Gone l → Next slots levels key p l
-  go_left p l h is =
-      let rest = way_step (left_of slots) p l h.page h.removed h.way (ap left_of_slot is) in
+  pub go_left : (p l : ℕ) (removed : RemovedPage) → Sought slots levels key p → slot_at slots p ≡ Gone removed → removed.left ≡ l → Next slots levels key p l
+  go_left p l removed h is left =
+      let rest = way_step (left_of slots) p l h.page h.removed h.way (ap left_of_slot is ∙ ap Some left) in
       let side = (reached_at h.level h.page h.reached).way in
       let was = (rank_is slots p h.page side.1.0 h.removed side.0 h.way side.1.1).0 in
       let now = (rank_is slots l h.page side.1.0 rest.0 side.0 rest.1 side.1.1).0 in
@@ -274,7 +275,7 @@ module _ (slots : List Slot) (root : ℕ) (levels : List (List ℕ)) (lawful : A
     where
       by : (o : Slot) → slot_at slots p ≡ o → IsTurn o key (Left l) → Next slots levels key p l
       by Free is t = absurd t
-      by (Gone m) is t = go_left p l h (is ∙ ap Gone t)
+      by (Gone m) is t = go_left p l m h is t
       by (Live s) is t = absurd t
 
   pub turned_here : (p : ℕ) → Sought slots levels key p → IsTurn (slot_at slots p) key Here → IsHome slots levels key p

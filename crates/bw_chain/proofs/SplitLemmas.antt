@@ -11,6 +11,7 @@ use Rattle.bw_model.specs.Contents.{is_below_end, is_in_range, is_pair_in_range}
 use Rattle.bw_model.specs.Values.{ValueBytes}
 use Rattle.bw_page.specs.Inners.{IsUpto}
 use Rattle.bw_page.specs.Pages.{first_key}
+use Rattle.bw_page.specs.declared.pages.RemovedPage.{RemovedPage}
 use Rattle.bw_page.proofs.Entries.{upper_page, upper_inner_page}
 use Rattle.bw_page.proofs.KeyLemmas.{below_trans, upto_trans}
 use Rattle.bw_page.proofs.Truths.{holds, true_holds, holds_not, not_holds, left_of as left_of_both, right_of as right_of_both}
@@ -22,7 +23,7 @@ use Rattle.bw_chain.specs.Entries.{AreExact}
 use Rattle.bw_chain.specs.Laws.{PartsAreKept}
 use Rattle.bw_chain.specs.Levels.{AreLevels, BeginsWith, FirstChild, IsHome, LeadsBelow, SideBySide, Stands, StartsWith, row}
 use Rattle.bw_chain.specs.Reading.{body_pairs, body_writes, contents_in, row_writes, value_in, writes_over}
-use Rattle.bw_chain.specs.Slots.{Slot, PageState, Body, Pairs, Children, Free, Live, IsSoundBody, IsSoundPage, children_of, left_of, left_of_slot, level_of, slot_at}
+use Rattle.bw_chain.specs.Slots.{Slot, PageState, Body, Pairs, Children, Free, Gone, Live, IsSoundBody, IsSoundPage, children_of, left_of, left_of_slot, level_of, slot_at}
 use Rattle.bw_chain.specs.Splits.{IsParted, entry_count, first_entries, left_part, level_parted, other_entries, put_behind, right_part, separator}
 use Rattle.bw_chain.specs.Steps.{IsTerm, KeepsLevels}
 use Rattle.bw_chain.proofs.CutLemmas.{below_cut, find_first, find_other, lower_inner, lower_page}
@@ -37,6 +38,9 @@ one_state e = cc
 
 not_free : {s : PageState} → Free ≡ Live s → ⊥
 not_free e = cc
+
+not_gone : {s : PageState} {g : RemovedPage} → Live s ≡ Gone g → ⊥
+not_gone e = cc
 
 is_here : (x p : ℕ) → x ≡ p → nat_eq x p ≡ true
 is_here x p e = grind (arith, nat_tests)
@@ -351,11 +355,17 @@ module _ (old new : List Slot) (root : ℕ) (levels : List (List ℕ)) (level p 
         let had = term_was n k c (above n lt) term in
         let b = began n k c s (above n lt) had is in
         sym b.2 ∙ exact.begins n k c b.0 (above n lt) had b.1;
+    began = λ n k c g lt term is. exact.began n k c g (above n lt) (term_was n k c (above n lt) term) (was_gone c g is (cases_eq c p) (cases_eq c q));
     once = λ n k h c lt one other. exact.once n k h c (above n lt) (term_was n k c (above n lt) one) (term_was n h c (above n lt) other);
   }
     where
       above : (n : ℕ) → suc n < length after → suc n < length levels
       above n lt = subst (λ m. suc n < m) (length-set levels level (put_behind p q (row levels level))) lt
+
+      was_gone : (c : ℕ) (g : RemovedPage) → slot_at new c ≡ Gone g → (c ≡ p) ⊎ (c ≡ p → ⊥) → (c ≡ q) ⊎ (c ≡ q → ⊥) → slot_at old c ≡ Gone g
+      was_gone c g is (inl here) h = absurd (not_gone (sym parted.left ∙ ap (slot_at new) (sym here) ∙ is))
+      was_gone c g is (inr other) (inl added) = absurd (not_gone (sym parted.right ∙ ap (slot_at new) (sym added) ∙ is))
+      was_gone c g is (inr other) (inr old_one) = sym (parted.others c other old_one) ∙ is
 
   -- neither part has writes, as the page had none
   writes_same : (x : ℕ) → writes_over (slot_at new x) ≡ writes_over (slot_at old x)

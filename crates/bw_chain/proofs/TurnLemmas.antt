@@ -1,5 +1,5 @@
 -- Where a search goes on from a page.
-use Rattle.std.proofs.Common.{◌≡◌, ℕ, Bool, true, false, not, List, Option, Some, None, MatchOption, refl, sym, ap, ◌∙◌, subst}
+use Rattle.std.proofs.Common.{inl, inr, ◌⊎◌, ◌≡◌, ℕ, Bool, true, false, not, List, [], Option, Some, None, MatchOption, refl, sym, ap, ◌∙◌, subst}
 use Rattle.std.specs.List.{Contains}
 use Rattle.std.specs.Ordering.{is_lt}
 use Rattle.bw_key.specs.Order.{KeyBytes, key_cmp}
@@ -8,8 +8,10 @@ use Rattle.bw_page.specs.Inners.{IsLastUpto}
 use Rattle.bw_page.proofs.Truths.{holds}
 use Rattle.bw_page.proofs.KeyLemmas.{below_upto, upto_below}
 use Rattle.bw_page.specs.Pages.{below}
+use Rattle.bw_page.specs.declared.pages.RemovedPage.{RemovedPage}
 use Rattle.bw_delta.proofs.Filters.{kept, was_there}
-use Rattle.bw_delta.specs.declared.deltas.Delta.TheVariants.{Split, AddChild}
+use Rattle.bw_delta.specs.declared.deltas.Delta.{Delta}
+use Rattle.bw_delta.specs.declared.deltas.Delta.TheVariants.{Split, Absorb, AddChild, DropChild}
 use Rattle.bw_chain.specs.declared.turn.Turn.{Turn}
 use Rattle.bw_chain.specs.declared.turn.Turn.TheVariants.{Here, Right, Down, Left}
 use Rattle.bw_chain.specs.declared.target.Target.{Target}
@@ -18,6 +20,7 @@ use Rattle.bw_chain.specs.Chains.{Bases, change, body_below}
 use Rattle.bw_chain.specs.Scans.{high_of}
 use Rattle.bw_chain.specs.Turns.{IsTurn, IsWithin, slot_without_writes, body_without_writes}
 use Rattle.bw_chain.specs.Targets.{IsLinked, IsTurnFor, IsWithinFor, SeparatorsAgree, StandsFor, StandsOn, is_upto, lies_from, lies_past}
+use Rattle.bw_chain.proofs.ChainLemmas.{as_it_is}
 use Rattle.bw_chain.proofs.TargetLemmas.{holds_not, lies_no_more}
 
 different : false ≡ true → ⊥
@@ -83,7 +86,7 @@ turns_alike target slot other t same turned = λ key stands.
     turn_bare slot key t (subst (λ (o : Slot). IsTurn o key t) (sym same)
     (bare_turn other key t (turned key (bare_stands target other key (subst (λ (o : Slot). StandsOn target key o) same (stands_bare target slot key stands))))))
 
-gone_turn : (l : ℕ) (key : KeyBytes) (t : Turn) → IsWithin (Gone l) key t → IsTurn (Gone l) key t
+gone_turn : (l : RemovedPage) (key : KeyBytes) (t : Turn) → IsWithin (Gone l) key t → IsTurn (Gone l) key t
 gone_turn l key Here h = absurd h
 gone_turn l key (Right q) h = absurd h
 gone_turn l key (Down c) h = absurd h
@@ -166,6 +169,13 @@ pub linked_before : (bases : Bases) (sep : KeyBytes) (child : ℕ) (slot : Slot)
 linked_before bases sep child Free h = h
 linked_before bases sep child (Gone l) h = h
 linked_before bases sep child (Live s) h = h
+
+-- so is one under any change but a write, a split and a removal
+pub linked_under : (d : Delta) (slot : Slot) →
+    ((sep : KeyBytes) × (child : ℕ) × (d ≡ AddChild sep child)) ⊎ (((sep : KeyBytes) × (base : ℕ) × (high : Option KeyBytes) × (side : Option ℕ) × (d ≡ Absorb sep base high side)) ⊎ ((sep : KeyBytes) × (d ≡ DropChild sep))) →
+    IsLinked (change [] d slot) → IsLinked slot
+linked_under d slot (inl added) linked = linked_before [] added.0 added.1 slot (subst (λ (e : Delta). IsLinked (change [] e slot)) added.2 linked)
+linked_under d slot (inr noted) linked = subst IsLinked (as_it_is [] d slot noted) linked
 
 -- what is known where there is no right neighbour to go on at, or one
 pub none_there : {X : Type 0} (P : Type 0) (Q : X → Type 0) (o m : Option X) → m ≡ None → m ≡ o → MatchOption o P Q → P

@@ -3,6 +3,7 @@ use Rattle.std.specs.Prelude.{◌≡◌, ℕ, T, List, [], Option, Some, None}
 use Rattle.std.specs.List.{Contains}
 use Rattle.bw_key.specs.Order.{KeyBytes}
 use Rattle.bw_model.specs.Contents.{is_below_end}
+use Rattle.bw_page.specs.declared.pages.RemovedPage.{RemovedPage}
 use Rattle.bw_chain.specs.Slots.{Slot, PageState, Free, Gone, Live, slot_at}
 use Rattle.bw_chain.specs.Levels.{row}
 use Rattle.bw_chain.specs.Scans.{Reaches}
@@ -18,6 +19,12 @@ abbrev pub low_at : Slot → Option KeyBytes
 low_at (Live s) = Some s.low
 low_at (Gone l) = None
 low_at Free = None
+
+-- what is left of a page that was removed
+abbrev pub removed_at : Slot → Option RemovedPage
+removed_at (Live s) = None
+removed_at (Gone l) = Some l
+removed_at Free = None
 
 -- a leaf that begins below the end and reaches it
 pub record IsBefore (slots : List Slot) (levels : List (List ℕ)) (end : Option KeyBytes) (p : ℕ) : Type 0 where

@@ -1,8 +1,8 @@
 -- Chains of deltas over base pages.
-use Rattle.std.specs.Prelude.{◌≡◌, ℕ, ◌-◌, ◌<◌, ◌≤◌, ◌^◌, not, if◌then◌else◌, nat_lt, Option, Some, None}
-use Rattle.std.specs.Prelude.{List, [], ◌∷◌, ◌++◌, length, filter, map, slice_get}
+use Rattle.std.specs.Prelude.{◌≡◌, ℕ, ◌-◌, ◌<◌, ◌≤◌, ◌^◌, if◌then◌else◌, nat_lt, Option, Some, None}
+use Rattle.std.specs.Prelude.{List, [], ◌∷◌, length, map, slice_get}
 use Rattle.std.specs.FinMap.{put}
-use Rattle.bw_key.specs.Order.{KeyBytes, key_cmp, key_eq}
+use Rattle.bw_key.specs.Order.{KeyBytes, key_cmp}
 use Rattle.bw_page.specs.Pages.{below}
 use Rattle.bw_page.specs.declared.pages.Page.{Page}
 use Rattle.bw_page.specs.declared.pages.Page.TheVariants.{Leaf as LeafPage, Inner as InnerPage, Gone as GonePage}
@@ -16,7 +16,7 @@ use Rattle.bw_chain.specs.Slots.{Slot, PageState, Body, Pairs, Children, Free, G
 abbrev pub plain : Page → Slot
 plain (LeafPage l) = Live (record { low = l.low; high = l.high; side = l.side; body = Pairs l.pairs [] })
 plain (InnerPage p) = Live (record { low = p.low; high = p.high; side = p.side; body = Children p.level p.children })
-plain (GonePage left) = Gone left
+plain (GonePage removed) = Gone removed
 
 -- base pages by their numbers; a number may be vacant
 abbrev pub Bases : Type 0
@@ -35,25 +35,9 @@ abbrev pub body_below : KeyBytes → Body → Body
 body_below k (Pairs pairs writes) = Pairs (below k pairs) writes
 body_below k (Children level children) = Children level (below k children)
 
--- the entries of two pages of one kind
-abbrev pub bodies_joined : Body → Body → Body
-bodies_joined (Pairs pairs writes) (Pairs more others) = Pairs (pairs ++ more) writes
-bodies_joined (Pairs pairs writes) (Children level children) = Pairs pairs writes
-bodies_joined (Children level children) (Pairs pairs writes) = Children level children
-bodies_joined (Children level children) (Children other more) = Children level (children ++ more)
-
-abbrev pub body_absorbing : Slot → Body → Body
-body_absorbing (Live s) body = bodies_joined body s.body
-body_absorbing (Gone l) body = body
-body_absorbing Free body = body
-
 abbrev pub body_with_child : KeyBytes → ℕ → Body → Body
 body_with_child k child (Pairs pairs writes) = Pairs pairs writes
 body_with_child k child (Children level children) = Children level (put key_cmp k child children)
-
-abbrev pub body_without_child : KeyBytes → Body → Body
-body_without_child k (Pairs pairs writes) = Pairs pairs writes
-body_without_child k (Children level children) = Children level (filter (λ c. not (key_eq k c.0)) children)
 
 -- a page that stays, with a change
 abbrev pub page_changed : (PageState → PageState) → Slot → Slot
@@ -61,17 +45,15 @@ page_changed f (Live s) = Live (f s)
 page_changed f (Gone l) = Gone l
 page_changed f Free = Free
 
--- what one delta makes of a page
+-- What one delta makes of a page. An absorption, a removal and a dropped child tell of what the base page has already.
 abbrev pub change : Bases → Delta → Slot → Slot
 change bases (Put w) slot = page_changed (λ s. record s { body = body_written w s.body }) slot
 change bases (Split k to) slot =
     page_changed (λ s. record s { high = Some k; side = Some to; body = body_below k s.body }) slot
-change bases (Absorb k base high side) slot =
-    let other = based (slice_get bases base) in
-    page_changed (λ s. record s { high = high; side = side; body = body_absorbing other s.body }) slot
-change bases (Removed left) slot = Gone left
+change bases (Absorb k base high side) slot = slot
+change bases (Removed left) slot = slot
 change bases (AddChild k child) slot = page_changed (λ s. record s { body = body_with_child k child s.body }) slot
-change bases (DropChild k) slot = page_changed (λ s. record s { body = body_without_child k s.body }) slot
+change bases (DropChild k) slot = slot
 
 -- what deltas, the newest first, make of what lies under them
 abbrev pub changed : Bases → List Delta → Slot → Slot
@@ -118,15 +100,15 @@ slot_of_word bases records word =
     let base = ended (link_of records) (length records) word in
     changed bases (deltas_at records way) (based (slice_get bases base))
 
--- A chain is some writes, then at most one other change, which is a split or an added child so far, then a base page.
+-- A chain is some writes, then at most one other change, then a base page. A removed page is a base page that says so.
 abbrev pub IsShaped : List Delta → Type 0
 IsShaped [] = Unit {0}
 IsShaped (Put w ∷ ds) = IsShaped ds
 IsShaped (Split k to ∷ ds) = ds ≡ []
-IsShaped (Absorb k base high side ∷ ds) = ⊥
+IsShaped (Absorb k base high side ∷ ds) = ds ≡ []
 IsShaped (Removed left ∷ ds) = ⊥
 IsShaped (AddChild k child ∷ ds) = ds ≡ []
-IsShaped (DropChild k ∷ ds) = ⊥
+IsShaped (DropChild k ∷ ds) = ds ≡ []
 
 -- a word leads by links to a base page
 pub record EndsAt (bases : Bases) (records : Records) (word : ℕ) (ws : List ℕ) (e : ℕ) : Type 0 where

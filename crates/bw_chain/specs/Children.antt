@@ -1,11 +1,13 @@
--- An inner page names a page of the level below, beside those that it names already.
-use Rattle.std.specs.Prelude.{◌≡◌, ℕ, suc, ◌<◌, true, T, List, length}
+-- An inner page names a page of the level below, beside those that it names already, or no longer names one.
+use Rattle.std.specs.Prelude.{◌≡◌, ℕ, suc, ◌<◌, true, not, T, List, [], ◌∷◌, ◌++◌, Some, length, filter, slice_set}
 use Rattle.std.specs.List.{Contains}
 use Rattle.std.specs.Ordering.{is_lt}
-use Rattle.bw_key.specs.Order.{KeyBytes, key_cmp}
+use Rattle.bw_key.specs.Order.{KeyBytes, key_cmp, key_eq}
 use Rattle.bw_model.specs.Contents.{is_below_end}
-use Rattle.bw_chain.specs.Chains.{body_with_child}
-use Rattle.bw_chain.specs.Slots.{Slot, PageState, Free, Gone, Live, children_of, slot_at}
+use Rattle.bw_page.specs.declared.pages.Page.{Page}
+use Rattle.bw_delta.specs.declared.deltas.Delta.TheVariants.{DropChild}
+use Rattle.bw_chain.specs.Chains.{ChainsView, body_with_child, page_at, plain}
+use Rattle.bw_chain.specs.Slots.{Slot, PageState, Body, Pairs, Children, Free, Gone, Live, children_of, slot_at}
 use Rattle.bw_chain.specs.Levels.{row}
 
 -- the page with this child at the separator
@@ -35,8 +37,50 @@ pub record HasChild (old new : List Slot) (parent : ℕ) (sep : KeyBytes) (child
   pub now : slot_at new parent ≡ Live (state_with_child sep child was)
   pub others : (r : ℕ) → (r ≡ parent → ⊥) → slot_at new r ≡ slot_at old r
 
+-- the page without the child at the separator
+abbrev pub body_without_child : KeyBytes → Body → Body
+body_without_child sep (Pairs pairs writes) = Pairs pairs writes
+body_without_child sep (Children level children) = Children level (filter (λ c. not (key_eq sep c.0)) children)
+
+abbrev pub state_without_child : KeyBytes → PageState → PageState
+state_without_child sep s = record s { body = body_without_child sep s.body }
+
+abbrev pub slot_without_child : KeyBytes → Slot → Slot
+slot_without_child sep (Live s) = Live (state_without_child sep s)
+slot_without_child sep (Gone l) = Gone l
+slot_without_child sep Free = Free
+
+-- The base page of a word, without a record, has lost the child. A record over it tells of that.
+pub record HasLost (old new : ChainsView) (word : ℕ) (sep : KeyBytes) : Type 0 where
+  pub page : Page
+  pub lost : plain page ≡ slot_without_child sep (page_at old word)
+  pub bases : new.bases ≡ slice_set old.bases word (Some page)
+  pub records : new.records ≡ old.records ++ (DropChild sep, word) ∷ []
+
+-- The page is an inner one, and may do without the child at the separator: that key isn't the one at which it begins.
+pub record MayDropChild (slots : List Slot) (levels : List (List ℕ)) (parent : ℕ) (sep : KeyBytes) : Type 0 where
+  pub level : ℕ
+  pub within : suc level < length levels
+  pub in_level : Contains (row levels (suc level)) parent
+  pub state : PageState
+  pub is : slot_at slots parent ≡ Live state
+  pub above : is_lt (key_cmp state.low sep) ≡ true
+
+-- The page no longer names the child at the separator. All other pages are as before.
+pub record HasDroppedChild (old new : List Slot) (parent : ℕ) (sep : KeyBytes) : Type 0 where
+  pub was : PageState
+  pub is : slot_at old parent ≡ Live was
+  pub now : slot_at new parent ≡ Live (state_without_child sep was)
+  pub others : (r : ℕ) → (r ≡ parent → ⊥) → slot_at new r ≡ slot_at old r
+
 -- the page has an index entry at the key: a child with that separator
 abbrev pub HasEntry : Slot → KeyBytes → Type 0
 HasEntry (Live s) key = (child : ℕ) × Contains (children_of s.body) (key, child)
 HasEntry (Gone l) key = ⊥
 HasEntry Free key = ⊥
+
+-- the page has this child at the key
+abbrev pub HasChildAt : Slot → KeyBytes → ℕ → Type 0
+HasChildAt (Live s) key child = Contains (children_of s.body) (key, child)
+HasChildAt (Gone l) key child = ⊥
+HasChildAt Free key child = ⊥

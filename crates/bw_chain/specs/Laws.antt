@@ -8,9 +8,10 @@ use Rattle.bw_chain.specs.Slots.{Slot, slot_at}
 use Rattle.bw_chain.specs.Levels.{AreLevels, IsHome, IsHomeAt, levels_under, row}
 use Rattle.bw_chain.specs.Reading.{contents_in, row_writes, value_in}
 use Rattle.bw_chain.specs.Chains.{Bases, Records, slot_of_word}
-use Rattle.bw_chain.specs.Children.{FitsChild, HasChild}
+use Rattle.bw_chain.specs.Children.{FitsChild, HasChild, HasDroppedChild, MayDropChild}
 use Rattle.bw_chain.specs.Entries.{AreExact}
-use Rattle.bw_chain.specs.Roots.{IsGrown, levels_grown}
+use Rattle.bw_chain.specs.Merges.{IsMerged, level_merged}
+use Rattle.bw_chain.specs.Roots.{HasOneChild, IsGrown, levels_grown, levels_lowered}
 use Rattle.bw_chain.specs.Splits.{IsParted, level_parted}
 use Rattle.bw_chain.specs.Steps.{AreAlike, KeepsLevels}
 use Rattle.bw_chain.specs.Supports.{KeepsBases, supports_at}
@@ -94,3 +95,23 @@ abbrev pub LevelsAreGrown : Type 0
 LevelsAreGrown =
     (old new : List Slot) (root : ℕ) (levels : List (List ℕ)) (t : ℕ) → AreLevels old root levels →
     IsGrown old new root t → KeepsAll old new t levels (levels_grown levels t)
+
+-- where a page of a level is absorbed by its left neighbour, the levels are lawful without it, and hold the same
+abbrev pub MergesAreKept : Type 0
+MergesAreKept =
+    (old new : List Slot) (root : ℕ) (levels : List (List ℕ)) (level p q : ℕ) → AreLevels old root levels →
+    level < length levels → Contains (row levels level) p → IsMerged old new p q →
+    KeepsAll old new root levels (level_merged levels level q)
+
+-- where a page no longer names a child, the levels stay
+abbrev pub DroppedChildIsKept : Type 0
+DroppedChildIsKept =
+    (old new : List Slot) (root : ℕ) (levels : List (List ℕ)) (parent : ℕ) (sep : KeyBytes) →
+    AreLevels old root levels → MayDropChild old levels parent sep → HasDroppedChild old new parent sep →
+    KeepsAll old new root levels levels
+
+-- where the only child takes the root's place, the levels are lawful without the highest one, and hold the same
+abbrev pub LevelsAreLowered : Type 0
+LevelsAreLowered =
+    (slots : List Slot) (root : ℕ) (levels : List (List ℕ)) (child : ℕ) → AreLevels slots root levels →
+    HasOneChild slots root child → KeepsAll slots slots child levels (levels_lowered levels)

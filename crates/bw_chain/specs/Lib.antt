@@ -18,3 +18,4 @@ pub mod Children
 pub mod Laws
 pub mod Splits
 pub mod Roots
+pub mod Merges

@@ -1,7 +1,8 @@
--- The root grows: a new page one level above it has the root and its right neighbour as its children.
-use Rattle.std.specs.Prelude.{◌≡◌, ℕ, suc, List, [], ◌∷◌, ◌++◌, Some, None}
+-- The root grows: a new page one level above it has the root and its right neighbour as its children. Or its only child
+-- takes its place.
+use Rattle.std.specs.Prelude.{◌≡◌, ℕ, suc, ◌-◌, List, [], ◌∷◌, ◌++◌, length, take, Some, None}
 use Rattle.bw_key.specs.Order.{KeyBytes}
-use Rattle.bw_chain.specs.Slots.{Slot, PageState, Children, Free, Live, level_of, side_of_slot, slot_at, slot_level}
+use Rattle.bw_chain.specs.Slots.{Slot, PageState, Children, Free, Live, children_of, level_of, side_of_slot, slot_at, slot_level}
 use Rattle.bw_chain.specs.Scans.{high_of}
 
 -- two children: one for the keys below this one, and one for those from there on
@@ -28,6 +29,18 @@ pub record IsGrown (old new : List Slot) (root t : ℕ) : Type 0 where
 -- the levels with one more, which has this page alone
 abbrev pub levels_grown : List (List ℕ) → ℕ → List (List ℕ)
 levels_grown levels t = levels ++ (t ∷ []) ∷ []
+
+-- the root has this child alone, and no right neighbour
+pub record HasOneChild (slots : List Slot) (root child : ℕ) : Type 0 where
+  pub state : PageState
+  pub is : slot_at slots root ≡ Live state
+  pub alone : state.side ≡ None
+  pub key : KeyBytes
+  pub only : children_of state.body ≡ (key, child) ∷ []
+
+-- the levels without the highest one
+abbrev pub levels_lowered : List (List ℕ) → List (List ℕ)
+levels_lowered levels = take (length levels - 1) levels
 
 -- a page's level, where its range ends, and its right neighbour
 pub record IsNeighbour (slot : Slot) (level : ℕ) (high : KeyBytes) (side : ℕ) : Type 0 where

@@ -1,15 +1,17 @@
 -- The pairs of a range of keys that lie on a page.
 use Rattle.std.specs.Prelude.{◌≡◌, ℕ, ◌&&◌, T, List, Option, Some, None, MatchOption, if◌then◌else◌}
 use Rattle.std.specs.FinMap.{find, is_sorted}
+use Rattle.std.specs.Borrow.{Bor}
 use Rattle.bw_key.specs.Order.{KeyBytes, key_cmp}
 use Rattle.bw_model.specs.Contents.{is_below_end, is_in_range}
 use Rattle.bw_model.specs.Values.{ValueBytes}
 use Rattle.bw_page.specs.Leaves.{LeafView}
 use Rattle.bw_page.specs.declared.pages.Page.TheVariants.{Leaf as LeafPage}
 use Rattle.bw_delta.specs.declared.deltas.Delta.{Delta}
-use Rattle.bw_chain.specs.Chains.{Bases, change, plain}
+use Rattle.bw_chain.specs.Chains.{Bases, plain}
 use Rattle.bw_chain.specs.Slots.{Slot, Free, Gone, Live, side_of_slot}
 use Rattle.bw_delta.specs.Replays.{ReplayView, IsReplayOf}
+use Rattle.bw_chain.specs.Turns.{over}
 use Rattle.bw_chain.specs.Reading.{base_of, value_in, writes_over}
 
 -- where a page's range ends
@@ -46,12 +48,12 @@ IsLeafReplay slot replay = IsReplayOf (base_of slot) (high_of slot) (writes_over
 abbrev pub IsLowerEnd : Option KeyBytes → Option KeyBytes → Option KeyBytes → Type 0
 IsLowerEnd left right end = (key : KeyBytes) → is_below_end end key ≡ (is_below_end left key && is_below_end right key)
 
--- where the range of a changed leaf ends, with this right neighbour
-abbrev pub EndsLeaf : Delta → LeafView ValueBytes → Option KeyBytes → Option ℕ → Type 0
+-- where the range of a leaf ends, which a change may lie over, with this right neighbour
+abbrev pub EndsLeaf : Option (Bor Delta) → LeafView ValueBytes → Option KeyBytes → Option ℕ → Type 0
 EndsLeaf delta leaf high side =
     (bases : Bases) →
-    (high ≡ high_of (change bases delta (plain (LeafPage leaf)))) ×
-    (side ≡ side_of_slot (change bases delta (plain (LeafPage leaf))))
+    (high ≡ high_of (over bases delta (plain (LeafPage leaf)))) ×
+    (side ≡ side_of_slot (over bases delta (plain (LeafPage leaf))))
 
 -- the right neighbour of a page, where the page doesn't reach an end
 abbrev pub IsAfter : Slot → Option KeyBytes → Option ℕ → Type 0

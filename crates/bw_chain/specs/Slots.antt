@@ -6,6 +6,7 @@ use Rattle.bw_model.specs.Contents.{is_in_range}
 use Rattle.bw_model.specs.Values.{ValueBytes}
 use Rattle.bw_page.specs.Pages.{IsPage}
 use Rattle.bw_page.specs.Inners.{IsInner}
+use Rattle.bw_page.specs.declared.pages.RemovedPage.{RemovedPage}
 use Rattle.bw_delta.specs.Writes.{WriteView}
 
 -- a leaf's base pairs with the writes over them; or an inner page's level and children
@@ -19,10 +20,10 @@ pub record PageState : Type 0 where
   pub side : Option ℕ
   pub body : Body
 
--- an identifier is free, names a removed page with its left neighbour, or a page
+-- an identifier is free, names a removed page, or a page
 pub data Slot : Type 0 where
   Free : Slot
-  Gone : ℕ → Slot
+  Gone : RemovedPage → Slot
   Live : PageState → Slot
 
 abbrev pub slot_at : List Slot → ℕ → Slot
@@ -34,7 +35,7 @@ side_of_slot (Gone l) = None
 side_of_slot Free = None
 
 abbrev pub left_of_slot : Slot → Option ℕ
-left_of_slot (Gone l) = Some l
+left_of_slot (Gone l) = Some l.left
 left_of_slot (Live s) = None
 left_of_slot Free = None
 

@@ -6,14 +6,13 @@ use Rattle.bw_delta.specs.declared.deltas.Delta.TheVariants.{Put, Split, Absorb,
 use Rattle.bw_chain.specs.Chains.{Bases, Records, deltas_at, link_of}
 use Rattle.bw_chain.specs.Walk.{walked, ended}
 
--- Of deltas over the base page e, the newest first: an absorption has a base page of its own, and what was removed is so
--- whatever lies under it.
+-- Of deltas over the base page e, the newest first. A page that was removed keeps its number.
 abbrev pub supports_of : List Delta → ℕ → List ℕ
 supports_of [] e = e ∷ []
 supports_of (Put w ∷ ds) e = supports_of ds e
 supports_of (Split k to ∷ ds) e = supports_of ds e
-supports_of (Absorb k base high side ∷ ds) e = base ∷ supports_of ds e
-supports_of (Removed left ∷ ds) e = []
+supports_of (Absorb k base high side ∷ ds) e = supports_of ds e
+supports_of (Removed left ∷ ds) e = supports_of ds e
 supports_of (AddChild k child ∷ ds) e = supports_of ds e
 supports_of (DropChild k ∷ ds) e = supports_of ds e
 

@@ -22,7 +22,7 @@ IsTurn (Live s) key (Left l) = ⊥
 IsTurn (Gone l) key Here = ⊥
 IsTurn (Gone l) key (Right q) = ⊥
 IsTurn (Gone l) key (Down c) = ⊥
-IsTurn (Gone l) key (Left m) = l ≡ m
+IsTurn (Gone l) key (Left m) = l.left ≡ m
 IsTurn Free key turn = ⊥
 
 -- the same for a key that isn't past the page's range
@@ -34,7 +34,7 @@ IsWithin (Live s) key (Left l) = ⊥
 IsWithin (Gone l) key Here = ⊥
 IsWithin (Gone l) key (Right q) = ⊥
 IsWithin (Gone l) key (Down c) = ⊥
-IsWithin (Gone l) key (Left m) = l ≡ m
+IsWithin (Gone l) key (Left m) = l.left ≡ m
 IsWithin Free key turn = ⊥
 
 -- where there is a page, its range doesn't begin above the key
@@ -62,10 +62,10 @@ over bases (Some d) slot = change bases d.now slot
 abbrev pub IsOther : Delta → Type 0
 IsOther (Put w) = ⊥
 IsOther (Split k to) = Unit {0}
-IsOther (Absorb k base high side) = ⊥
+IsOther (Absorb k base high side) = Unit {0}
 IsOther (Removed left) = ⊥
 IsOther (AddChild k child) = Unit {0}
-IsOther (DropChild k) = ⊥
+IsOther (DropChild k) = Unit {0}
 
 abbrev pub IsNoWrite : Option (Bor Delta) → Type 0
 IsNoWrite None = Unit {0}

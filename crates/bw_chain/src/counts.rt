@@ -70,6 +70,7 @@ fn count_over(delta: &Delta, base: &Page) -> usize
     match delta {
         Delta::Split { sep, .. } => count_split(sep, base),
         Delta::AddChild { sep, .. } => count_with_child(sep, base),
+        Delta::Absorb { .. } | Delta::DropChild { .. } => count_plain(base),
         _ => unreachable!(),
     }
 }

@@ -64,6 +64,7 @@ fn inner_over(alloc: Alloc, delta: Option<&Delta>, base: &Inner) -> Result<Inner
     match delta {
         Delta::Split { sep, to } => lower_part(alloc, base, sep, *to),
         Delta::AddChild { sep, child } => base.with_child(sep, *child),
+        Delta::Absorb { .. } | Delta::DropChild { .. } => base.upper_half(0),
         _ => unreachable!(),
     }
 }

@@ -1,5 +1,5 @@
 // What holds of the definitions.
-ghost use Rattle.bw_chain.specs.Laws.{ChildIsKept, ContentsAreKept, HomeIsOne, HomeIsThere, LevelsAreFound, LevelsAreAlike, LevelsAreGrown, LevelsAreKept, PageIsKept, PartsAreKept, WayIsOne};
+ghost use Rattle.bw_chain.specs.Laws.{ChildIsKept, ContentsAreKept, DroppedChildIsKept, HomeIsOne, HomeIsThere, LevelsAreFound, LevelsAreAlike, LevelsAreGrown, LevelsAreKept, LevelsAreLowered, MergesAreKept, PageIsKept, PartsAreKept, WayIsOne};
 
 /// The law that each walk along links, side links or left links rests on: from a place there is one way only, and one
 /// place where it ends. It does nothing: its contract is the law.
@@ -66,4 +66,23 @@ pub fn child_is_kept()
 /// is the law.
 pub fn levels_are_grown()
     ensures { LevelsAreGrown }
+{}
+
+/// The law of a merge: where a page of some level is removed and its left neighbour takes over its entries and its range,
+/// the levels are lawful without it, also while an index entry still names it; index entries stay exact, and the levels
+/// hold what they held. It does nothing: its contract is the law.
+pub fn merges_are_kept()
+    ensures { MergesAreKept }
+{}
+
+/// The law of an index entry that goes: where a page no longer names a child, which isn't its first one, the levels stay,
+/// their index entries stay exact, and they hold what they held. It does nothing: its contract is the law.
+pub fn dropped_child_is_kept()
+    ensures { DroppedChildIsKept }
+{}
+
+/// The law of a root that goes: where the root's only child takes its place, the levels are lawful without the root's, index
+/// entries stay exact, and the levels hold what they held. It does nothing: its contract is the law.
+pub fn levels_are_lowered()
+    ensures { LevelsAreLowered }
 {}

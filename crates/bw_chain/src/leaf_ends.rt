@@ -49,7 +49,9 @@ fn leaf_end_over<'a>(
             }
             Some(Some(sep))
         }
-        Delta::AddChild { .. } => leaf_end_plain(base, target),
+        Delta::AddChild { .. } | Delta::Absorb { .. } | Delta::DropChild { .. } => {
+            leaf_end_plain(base, target)
+        }
         _ => unreachable!(),
     }
 }

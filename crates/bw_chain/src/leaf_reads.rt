@@ -9,7 +9,7 @@ ghost use Rattle.bw_chain.specs.Chains.{IsChain, page_at};
 ghost use Rattle.bw_chain.specs.LeafChains.{IsLeafChain, LeadsToSame};
 ghost use Rattle.bw_chain.specs.Scans.{EndsLeaf, high_of};
 ghost use Rattle.bw_chain.specs.Before.{low_of};
-ghost use Rattle.bw_chain.specs.Turns.{IsOther};
+ghost use Rattle.bw_chain.specs.Turns.{IsNoWrite};
 
 use crate::chains::Chains;
 use crate::leaf_chain::LeafChain;
@@ -101,10 +101,13 @@ impl Chains {
         ensures high { option_copied result.0 ≡ high_of (page_at self.now head) }
         ensures side { result.1 ≡ side_of_slot (page_at self.now head) }
     {
-        match self.under_writes(head) {
-            (Some(delta), Some(Page::Leaf(leaf))) => end_over(delta, leaf),
-            (None, Some(Page::Leaf(leaf))) => (leaf.high(), leaf.side()),
-            (_, _) => unreachable!(),
+        let (delta, base) = self.under_writes(head);
+        let Some(base) = base else {
+            unreachable!();
+        };
+        match base {
+            Page::Leaf(leaf) => end_over(delta, leaf),
+            Page::Inner(_) | Page::Gone(_) => unreachable!(),
         }
     }
 
@@ -125,14 +128,13 @@ impl Chains {
     }
 }
 
-// Where the range of a changed leaf ends, and its right neighbour.
-fn end_over<'a>(delta: &'a Delta, leaf: &'a Leaf) -> (Option<&'a Key>, Option<PageId>)
-    requires { IsOther delta.now }
-    ensures { EndsLeaf delta.now leaf.now (option_copied result.0) result.1 }
+// Where the range of a leaf ends, which a change may lie over, and its right neighbour.
+fn end_over<'a>(delta: Option<&'a Delta>, leaf: &'a Leaf) -> (Option<&'a Key>, Option<PageId>)
+    requires { IsNoWrite delta }
+    ensures { EndsLeaf delta.entry leaf.now (option_copied result.0) result.1 }
 {
     match delta {
-        Delta::Split { sep, to } => (Some(sep), Some(*to)),
-        Delta::AddChild { .. } => (leaf.high(), leaf.side()),
-        _ => unreachable!(),
+        Some(Delta::Split { sep, to }) => (Some(sep), Some(*to)),
+        _ => (leaf.high(), leaf.side()),
     }
 }

@@ -41,7 +41,9 @@ fn neighbour_over<'a>(delta: &'a Delta, base: &'a Page) -> Option<(u32, &'a Key,
 {
     match delta {
         Delta::Split { sep, to } => neighbour_split(sep, *to, base),
-        Delta::AddChild { .. } => neighbour_plain(base),
+        Delta::AddChild { .. } | Delta::Absorb { .. } | Delta::DropChild { .. } => neighbour_plain(
+            base,
+        ),
         _ => unreachable!(),
     }
 }

@@ -66,7 +66,8 @@ impl Target<'_> {
     /// The last separator that this isn't before, with its child.
     pub(crate) fn last_entry<'i>(self, inner: &'i Inner) -> &'i (Key, PageId)
         requires { T (lies_from self inner.now.low) }
-        ensures { IsEntryFor self.entry inner.now.children result.now }
+        ensures entry { IsEntryFor self.entry inner.now.children result.now }
+        ensures sorted { T (is_sorted key_cmp inner.now.children) }
     {
         let children = inner.children();
         &children[self.count(children) - 1]

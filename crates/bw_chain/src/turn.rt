@@ -50,6 +50,7 @@ fn turn_over(delta: &Delta, base: &Page, target: Target<'_>) -> Turn
     match delta {
         Delta::Split { sep, to } => turn_split(sep, *to, base, target),
         Delta::AddChild { sep, child } => turn_with_child(sep, *child, base, target),
+        Delta::Absorb { .. } | Delta::DropChild { .. } => turn_plain(base, target),
         _ => unreachable!(),
     }
 }
@@ -63,7 +64,7 @@ fn turn_split(sep: &Key, to: PageId, base: &Page, target: Target<'_>) -> Turn
         return turn_within(base, target);
     }
     match base {
-        Page::Gone(left) => Turn::Left(*left),
+        Page::Gone(removed) => Turn::Left(removed.left),
         _ => Turn::Right(to),
     }
 }
@@ -108,6 +109,6 @@ fn turn_within(base: &Page, target: Target<'_>) -> Turn
     match base {
         Page::Leaf(_) => Turn::Here,
         Page::Inner(inner) => Turn::Down(target.child(inner)),
-        Page::Gone(left) => Turn::Left(*left),
+        Page::Gone(removed) => Turn::Left(removed.left),
     }
 }

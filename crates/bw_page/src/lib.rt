@@ -13,7 +13,7 @@ mod sorted_entries;
 pub use inner::Inner;
 pub use leaf::Leaf;
 pub use leaf_pairs::place;
-pub use pages::{Page, PageId};
+pub use pages::{Page, PageId, RemovedPage};
 
 /// The values of an index.
 pub use bw_model::Value;

@@ -1,6 +1,7 @@
 // Names of pages, and base pages.
 use crate::inner::Inner;
 use crate::leaf::Leaf;
+use bw_key::Key;
 use std::marker::Model;
 
 /// The name of a page. The mapping table turns it into the page's present state. Contracts see it as its number.
@@ -22,6 +23,17 @@ impl Model for PageId {
 pub enum Page {
     Leaf(Leaf),
     Inner(Inner),
-    /// A removed page. It names its left neighbour, which took over its range.
-    Gone(PageId),
+    /// A page that was removed.
+    Gone(RemovedPage),
+}
+
+/// What is left of a page that its left neighbour took over, until nothing names it any more.
+#[derive(Debug, Drop)]
+pub struct RemovedPage {
+    /// The left neighbour, where a search goes on that comes to this page.
+    pub left: PageId,
+    /// The level on which it stood.
+    pub level: u32,
+    /// The key at which its range began: if a page of the level above still names it, then with this separator.
+    pub low: Key,
 }

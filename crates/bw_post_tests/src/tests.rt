@@ -2,6 +2,7 @@
 mod consolidation;
 mod half_done;
 mod making;
+mod merging;
 mod rows;
 mod shapes;
 mod side_by_side;

@@ -5,3 +5,4 @@ pub mod PartLemmas
 pub mod TidyLemmas
 pub mod WholeLemmas
 pub mod PlainLemmas
+pub mod MergeLemmas

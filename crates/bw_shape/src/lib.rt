@@ -1,10 +1,12 @@
-//! Restructuring of a Bw-tree, step by step (ICDE 2013): chains are consolidated, pages split, and the root grows. A step
-//! asks first whether it is needed, and changes nothing where it isn't; each leaves what the tree holds. A sweep goes over
-//! all pages, so that records and stamps can start over. Tidying keeps the pages that it looks at within limits.
+//! Restructuring of a Bw-tree, step by step (ICDE 2013): chains are consolidated, pages split and merged, and the root
+//! grows and goes. A step asks first whether it is needed, and changes nothing where it isn't; each leaves what the tree
+//! holds. A sweep goes over all pages, so that records and stamps can start over. Tidying keeps the pages that it looks at
+//! within limits.
 #![tactic(auto)]
 
 mod due;
 mod limits;
+mod merges;
 mod outcome;
 mod page_lists;
 mod right_neighbours;
@@ -15,6 +17,7 @@ mod whole_tree;
 
 pub use due::Due;
 pub use limits::Limits;
+pub use merges::{absorb, drop_root, finish_absorb};
 pub use outcome::Tidy;
 pub use steps::{Did, consolidate, finish_split, grow_root, split};
 pub use sweeps::{sweep, sweep_due};

@@ -137,8 +137,8 @@ fn name_child(tree: &mut Tree, parent: PageId, sep: Key, child: PageId) -> Resul
     tree.set_child(parent, sep, child)
 }
 
-// Leaves an inner page as a base page by itself.
-fn rebase(tree: &mut Tree, inner: PageId) -> Result<(), Memory>
+/// Leaves an inner page as a base page by itself.
+pub(crate) fn rebase(tree: &mut Tree, inner: PageId) -> Result<(), Memory>
     requires none { tree.old.staged ≡ None }
     requires page { IsInnerPage tree.old inner }
     ensures ok { OnOk result (IsRebased tree.old tree.new inner) }

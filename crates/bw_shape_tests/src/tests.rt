@@ -2,8 +2,10 @@
 // refused in turn.
 mod leaves;
 mod making;
+mod merging;
 mod naming;
 mod refused;
+mod refused_merges;
 mod shapes;
 mod steps;
 mod sweeping;

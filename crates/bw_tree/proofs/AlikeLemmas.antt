@@ -4,6 +4,7 @@ use Rattle.std.specs.List.{AllByRecursion, list_all}
 use Rattle.bw_key.specs.Order.{KeyBytes}
 use Rattle.bw_model.specs.Contents.{is_in_range}
 use Rattle.bw_page.proofs.Truths.{both_of}
+use Rattle.bw_page.specs.declared.pages.RemovedPage.{RemovedPage}
 use Rattle.bw_delta.specs.Writes.{WriteView}
 use Rattle.bw_delta.specs.declared.deltas.Delta.TheVariants.{Put}
 use Rattle.bw_chain.specs.Slots.{Slot, PageState, Body, Pairs, Children, Free, Gone, Live, slot_at, level_of, children_of, IsSoundBody}
@@ -24,7 +25,7 @@ one_state e = cc
 no_live : {s : PageState} → Free ≡ Live s → ⊥
 no_live e = cc
 
-no_gone : {l : ℕ} {s : PageState} → Gone l ≡ Live s → ⊥
+no_gone : {l : RemovedPage} {s : PageState} → Gone l ≡ Live s → ⊥
 no_gone e = cc
 
 abbrev pub AreInside : PageState → List WriteView → Type 0
@@ -63,7 +64,7 @@ put_free : (bases : Bases) (ws : List WriteView) → put_over bases ws Free ≡ 
 put_free bases [] = refl
 put_free bases (w ∷ ws) = ap (change bases (Put w)) (put_free bases ws)
 
-put_gone : (bases : Bases) (ws : List WriteView) (l : ℕ) → put_over bases ws (Gone l) ≡ Gone l
+put_gone : (bases : Bases) (ws : List WriteView) (l : RemovedPage) → put_over bases ws (Gone l) ≡ Gone l
 put_gone bases [] l = refl
 put_gone bases (w ∷ ws) l = ap (change bases (Put w)) (put_gone bases ws l)
 

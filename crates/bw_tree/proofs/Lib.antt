@@ -30,4 +30,9 @@ pub mod UnnamedLemmas
 pub mod ShapeLemmas
 pub mod BoundLemmas
 pub mod NamingLemmas
+pub mod NeighbourLemmas
 pub mod PageLemmas
+pub mod MergeLemmas
+pub mod DropLemmas
+pub mod LoweringLemmas
+pub mod RemovedLemmas

@@ -12,12 +12,13 @@ use Rattle.bw_model.specs.Contents.{Contents}
 use Rattle.bw_model.specs.Values.{ValueBytes}
 use Rattle.bw_page.specs.Leaves.{LeafView}
 use Rattle.bw_page.specs.Inners.{InnerView, IsUpto}
+use Rattle.bw_page.specs.declared.pages.RemovedPage.{RemovedPage}
 use Rattle.bw_page.specs.declared.pages.Page.TheVariants.{Inner as InnerPage}
 use Rattle.bw_page.proofs.KeyLemmas.{below_self}
 use Rattle.bw_delta.specs.Writes.{WriteView}
 use Rattle.bw_delta.specs.History.{HasDistinctStamps}
 use Rattle.bw_delta.specs.ContentsAsOf.{contents_as_of}
-use Rattle.bw_chain.specs.Slots.{Slot, PageState, Children, Live, slot_at, left_of_slot, children_of}
+use Rattle.bw_chain.specs.Slots.{Slot, PageState, Children, Gone, Live, slot_at, left_of_slot, children_of}
 use Rattle.bw_chain.specs.Levels.{AreLevels, SideBySide, Stands, StartsWith, LeadsBelow, BeginsWith, FirstChild, row}
 use Rattle.bw_chain.specs.Entries.{AreExact}
 use Rattle.bw_chain.specs.Steps.{IsTerm}
@@ -32,6 +33,9 @@ use Rattle.bw_tree.proofs.MakingLemmas.{StandAt, over_slots, slot_based, from_no
 
 one_state : {s t : PageState} → Live s ≡ Live t → s ≡ t
 one_state e = cc
+
+not_gone : {s : PageState} {g : RemovedPage} → Live s ≡ Gone g → ⊥
+not_gone e = cc
 
 no_link : (w : ℕ) → link_of [] w ≡ None
 no_link w = elim (nat_lt w 4294967296) as (λ b. linked_word (cond b None None) ≡ None) [ true ↦ refl | false ↦ refl ]
@@ -153,7 +157,7 @@ alone_over l abut rules =
     }
   where
     one_level : {slots : List Slot} → AreExact slots ((0 ∷ []) ∷ [])
-    one_level = record { begins = λ n k c s within. absurd (omega (arith, within)); once = λ n k h c within. absurd (omega (arith, within)) }
+    one_level = record { begins = λ n k c s within. absurd (omega (arith, within)); began = λ n k c g within. absurd (omega (arith, within)); once = λ n k h c within. absurd (omega (arith, within)) }
 
     rows : (slots : List Slot) → SideBySide slots 0 [] (0 ∷ []) → (n : ℕ) → n < 1 → SideBySide slots n [] (row ((0 ∷ []) ∷ []) n)
     rows slots h zero within = h
@@ -247,6 +251,7 @@ module _ (l k : LeafView ValueBytes) (rest : List (LeafView ValueBytes)) (abut :
     begins = λ n key c s within term is.
         let at = child_at n key c within term in
         ap (λ (t : PageState). t.low) (one_state (sym is ∙ at.1)) ∙ at.2;
+    began = λ n key c g within term is. absurd (not_gone (sym (child_at n key c within term).1 ∙ is));
     once = λ n key other c within one more.
         let a = child_at n key c within one in
         let b = child_at n other c within more in

@@ -30,6 +30,7 @@ use Rattle.bw_tree.specs.Pages.{HasNoLeft, HasNoNamer, IsAbove, IsLeft, IsNamer}
 use Rattle.bw_tree.specs.Routing.{AreAtHomeOn, IsInLevel, IsInNoLevel}
 use Rattle.bw_tree.specs.View.{TreeView}
 use Rattle.bw_tree.proofs.LeafLemmas.{side_is}
+use Rattle.bw_tree.proofs.NeighbourLemmas.{left_beside}
 
 one_state : {s t : PageState} → Live s ≡ Live t → s ≡ t
 one_state e = cc
@@ -77,31 +78,16 @@ module _ (tree : TreeView) (root : ℕ) (lawful : AreLevels tree.slots root tree
     begins : low_of (slot_at tree.slots p) ≡ low
 
   beside : (p q : ℕ) → IsLeft tree p q → IsBeside p q
-  beside p q left = by at.high at.side refl refl
-    where
-      n : ℕ
-      n = left.0.level
-
-      at : InRow tree.slots n (row tree.levels n) left.0.in_level.0 q
-      at = row_at n q (left.0.within, left.0.in_level)
-
-      linked : at.side ≡ Some p
-      linked = sym (side_is tree.slots n at.low at.high at.side q at.stands) ∙ left.1
-
-      by : (high : Option KeyBytes) (side : Option ℕ) → at.high ≡ high → at.side ≡ side → IsBeside p q
-      by None side e f = absurd (no_page (sym (at.ends e) ∙ linked))
-      by (Some low) side e f =
-          let g = at.goes_on low e in
-          let one : g.0 ≡ p = one_page (sym g.1 ∙ linked) in
-          let st = g.4.1.1 in
-          record {
-            level = n;
-            in_level = (left.0.within, subst (Contains (row tree.levels n)) one (suc left.0.in_level.0, g.2, g.3));
-            start = at.low;
-            low = low;
-            left = subst (λ (o : Option ℕ). Stands tree.slots n at.low (Some low) o q) linked (subst (λ (o : Option KeyBytes). Stands tree.slots n at.low o at.side q) e at.stands);
-            begins = ap (λ x. low_of (slot_at tree.slots x)) (sym one) ∙ ap low_of st.is ∙ st.from_low;
-          }
+  beside p q left =
+      let b = left_beside tree root lawful p q left in
+      record {
+        level = left.0.level;
+        in_level = (left.0.within, b.in_row);
+        start = b.low;
+        low = b.key;
+        left = b.left;
+        begins = ap low_of b.right.is ∙ b.right.from_low;
+      }
 
   -- a page of no level has no left neighbour, nor has the first of a level
   pub none_off : (p : ℕ) → IsInNoLevel tree p → HasNoLeft tree p
@@ -193,7 +179,7 @@ module _ (tree : TreeView) (root : ℕ) (lawful : AreLevels tree.slots root tree
   found_left p n on target before starts (Some q) homes = is_left p n on target before starts q homes
 
   -- a page of the level above that has an index entry at a key has the key in its range
-  entry_home : (parent n : ℕ) (key : KeyBytes) → IsInLevel tree parent (suc n) → HasEntry (slot_at tree.slots parent) key → IsHomeAt tree.slots tree.levels key (suc n) parent
+  pub entry_home : (parent n : ℕ) (key : KeyBytes) → IsInLevel tree parent (suc n) → HasEntry (slot_at tree.slots parent) key → IsHomeAt tree.slots tree.levels key (suc n) parent
   entry_home parent n key on has = record {
     reached = record { within = on.0; in_level = on.1; state = st.state; is = st.is; from_low = left_of _ _ inside };
     ends_above = right_of _ _ inside;
@@ -222,6 +208,14 @@ module _ (tree : TreeView) (root : ℕ) (lawful : AreLevels tree.slots root tree
 
   namer_level : (p n parent : ℕ) → IsInLevel tree p n → (u : IsNamer tree p parent) → u.level ≡ n
   namer_level p n parent on u = sym (own_level tree.slots root tree.levels lawful p u.level u.in_level.0 u.in_level.1) ∙ own_level tree.slots root tree.levels lawful p n on.0 on.1
+
+  -- one page names a page
+  pub one_namer : (p parent other : ℕ) → IsNamer tree p parent → IsNamer tree p other → parent ≡ other
+  one_namer p parent other u v =
+      let low = low_of (slot_at tree.slots p) in
+      let there : IsHomeAt tree.slots tree.levels low (suc v.level) parent =
+      subst (λ m. IsHomeAt tree.slots tree.levels low (suc m) parent) (namer_level p v.level parent v.in_level u) (entry_home parent u.level low u.above (entry_of p parent u)) in
+      one_above tree.slots root tree.levels lawful (suc v.level) low parent other there (entry_home other v.level low v.above (entry_of p other v))
 
   -- no page names one of no level, nor one of a level that has none above
   pub no_namer_off : (p : ℕ) → IsInNoLevel tree p → HasNoNamer tree p
@@ -280,7 +274,7 @@ module _ (tree : TreeView) (root : ℕ) (lawful : AreLevels tree.slots root tree
 
       by : (o : Slot) → slot_at tree.slots entry.0 ≡ o → (entry.0 ≡ p) ⊎ ((left : ℕ) × (left_of_slot (slot_at tree.slots entry.0) ≡ Some left))
       by Free free = absurd (child_there tree.slots root tree.levels lawful n (low_of (slot_at tree.slots p)) entry.0 home.reached.within term free)
-      by (Gone l) gone = inr (l, ap left_of_slot gone)
+      by (Gone l) gone = inr (l.left, ap left_of_slot gone)
       by (Live s) live = inl (the_page s live)
 
   -- so the page above names it exactly where it has an entry there

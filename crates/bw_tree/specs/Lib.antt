@@ -23,5 +23,6 @@ pub use Rattle.bw_chain.specs.Laws
 pub mod Splits
 pub mod Children
 pub mod Roots
+pub mod Merges
 pub mod Shapes
 pub mod Pages

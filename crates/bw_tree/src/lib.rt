@@ -22,4 +22,4 @@ pub use bw_chain::LeafChain;
 /// Out of memory.
 pub use bw_key::Memory;
 /// The names of pages, and the leaves that a tree is made of.
-pub use bw_page::{Leaf, PageId};
+pub use bw_page::{Leaf, PageId, RemovedPage};

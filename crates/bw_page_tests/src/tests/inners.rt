@@ -1,8 +1,9 @@
 // Inner pages.
 use super::making::{c_with, from_c, from_start, from_start_and_c};
 use bw_fixtures::{heap, key};
+use bw_key::Key;
 use bw_memory::Alloc;
-use bw_page::{Inner, Page, PageId};
+use bw_page::{Inner, Page, PageId, RemovedPage};
 use std::process::Abort;
 
 // Compares a page's separators and children with the wanted ones.
@@ -117,8 +118,18 @@ fn told(page: &Page) -> u32 {
     match page {
         Page::Leaf(_) => 0,
         Page::Inner(inner) => inner.level(),
-        Page::Gone(left) => left.0,
+        Page::Gone(removed) => removed.left.0,
     }
+}
+
+// A leaf that began at c and was taken over by this page.
+fn removed_into(rt: &impl Abort, alloc: Alloc, left: PageId) -> Page {
+    let low = Key::new(alloc, b"c").expect(rt, "memory");
+    Page::Gone(RemovedPage {
+        left,
+        level: 0,
+        low,
+    })
 }
 
 #[test]
@@ -126,5 +137,5 @@ fn a_page_is_of_one_kind(rt: HostRuntime) {
     let alloc = heap(rt.alloc()).expect(&rt, "memory");
     assert!(rt; told(&Page::Leaf(c_with(&rt, alloc, b"3"))) == 0);
     assert!(rt; told(&Page::Inner(from_c(&rt, alloc))) == 1);
-    assert!(rt; told(&Page::Gone(PageId(4))) == 4);
+    assert!(rt; told(&removed_into(&rt, alloc, PageId(4))) == 4);
 }

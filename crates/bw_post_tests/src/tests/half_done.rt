@@ -13,8 +13,8 @@ use bw_shape::{Did, Limits, finish_split, grow_root, split};
 use std::process::Abort;
 use std::thread::Threads;
 
-// One write, and five pairs.
-fn five_pairs() -> Limits {
+/// One write, and five pairs.
+pub fn five_pairs() -> Limits {
     Limits::new(1, 5, 1)
 }
 
@@ -45,8 +45,13 @@ fn grow<R: Abort>(rt: &R, tree: &mut Tree)
     assert!(rt; grow_root(tree) == Ok(Did::Done));
 }
 
-// Runs a batch of stamps from 5 on: get d, upsert d 9, upsert b 8.
-fn put_on_halves<R: Abort + Threads + Sync>(rt: &R, alloc: Alloc, tree: &mut Tree, homes: &[PageId])
+/// Runs a batch of stamps from 5 on: get d, upsert d 9, upsert b 8.
+pub fn put_on_halves<R: Abort + Threads + Sync>(
+    rt: &R,
+    alloc: Alloc,
+    tree: &mut Tree,
+    homes: &[PageId],
+)
     requires none { tree.old.staged ≡ None }
     requires next { tree.old.next ≡ 5 }
     ensures next { tree.new.next ≡ 8 }
@@ -60,8 +65,8 @@ fn put_on_halves<R: Abort + Threads + Sync>(rt: &R, alloc: Alloc, tree: &mut Tre
     run(rt, alloc, tree, &ops, homes);
 }
 
-// Compares what each operation of that batch sees, and what it leaves.
-fn has_put_on_halves<R: Abort>(rt: &R, alloc: Alloc, tree: &Tree) {
+/// Compares what each operation of that batch sees, and what it leaves.
+pub fn has_put_on_halves<R: Abort>(rt: &R, alloc: Alloc, tree: &Tree) {
     has(rt, alloc, tree, 5, &[(b"d", Some(b"4"))]);
     has(rt, alloc, tree, 6, &[(b"d", Some(b"4"))]);
     has(
@@ -86,10 +91,16 @@ fn has_put_on_halves<R: Abort>(rt: &R, alloc: Alloc, tree: &Tree) {
     );
 }
 
-// Runs a batch of stamps from 8 on: delete e, get b, upsert d 7.
-fn put_on_leaves<R: Abort + Threads + Sync>(rt: &R, alloc: Alloc, tree: &mut Tree, homes: &[PageId])
+/// Runs a batch of stamps from 8 on: delete e, get b, upsert d 7.
+pub fn put_on_leaves<R: Abort + Threads + Sync>(
+    rt: &R,
+    alloc: Alloc,
+    tree: &mut Tree,
+    homes: &[PageId],
+)
     requires none { tree.old.staged ≡ None }
     requires next { tree.old.next ≡ 8 }
+    ensures { tree.new.staged ≡ None }
 {
     let ops = [
         Op::Delete(key(alloc, b"e").expect(rt, "a key")),
@@ -99,8 +110,8 @@ fn put_on_leaves<R: Abort + Threads + Sync>(rt: &R, alloc: Alloc, tree: &mut Tre
     run(rt, alloc, tree, &ops, homes);
 }
 
-// Compares what each operation of that batch sees, and what it leaves.
-fn has_put_on_leaves<R: Abort>(rt: &R, alloc: Alloc, tree: &Tree) {
+/// Compares what each operation of that batch sees, and what it leaves.
+pub fn has_put_on_leaves<R: Abort>(rt: &R, alloc: Alloc, tree: &Tree) {
     has(rt, alloc, tree, 8, &[(b"e", Some(b"5"))]);
     has(rt, alloc, tree, 9, &[(b"e", None), (b"b", Some(b"8"))]);
     has(rt, alloc, tree, 10, &[(b"d", Some(b"9"))]);

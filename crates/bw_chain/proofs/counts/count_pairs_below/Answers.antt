@@ -1,4 +1,4 @@
-use Rattle.std.proofs.Common.{◌≡◌, ◌∙◌, List, T, ap, subst, sym}
+use Rattle.std.proofs.Common.{◌∙◌, List, T, ap, subst, sym}
 use Rattle.std.specs.FinMap.{is_sorted}
 use Rattle.bw_key.specs.Order.{key_cmp}
 use Rattle.bw_model.specs.Sorted.{place_of}

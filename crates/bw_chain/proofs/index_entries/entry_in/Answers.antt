@@ -8,4 +8,4 @@ returns c =
     let key = c.args.key.now in
     let children = c.args.inner.now.children in
     subst (λ (r : Bool). Decides r ((child : ℕ) × Contains children (key, child))) (sym c.eq.ensures)
-    (last_decides key children c.last_entry.result.now (c.last_entry.ensures key (λ e has. refl)))
+    (last_decides key children c.last_entry.result.now (c.last_entry.ensures.entry key (λ e has. refl)))

@@ -5,6 +5,7 @@ use Rattle.bw_chain.specs.Chains.{change}
 use Rattle.bw_chain.specs.Searches.{plain_inner}
 use Rattle.bw_chain.specs.Slots.{IsSoundInner}
 use Rattle.bw_chain.specs.Turns.{over}
+use Rattle.bw_chain.proofs.ChainLemmas.{as_it_is}
 use Rattle.bw_chain.proofs.InnerLemmas.{put_in_range, some_child}
 use Rattle.bw_chain.proofs.inners.inner_over.Goals as goal
 
@@ -25,3 +26,10 @@ with_child-requires c =
     put_in_range base.low base.high c.in-AddChild.sep c.in-AddChild.child base.children
     (subst (λ (d : Delta). IsSoundInner (change [] d (plain_inner base))) c.in-AddChild.is
     (subst (λ (o : Option (Bor Delta)). IsSoundInner (over [] o (plain_inner base))) c.in-Some.is (c.requires.sound []))).1.page.inside
+
+pub upper_half-requires-in-Absorb : goal.upper_half-requires-in-Absorb
+upper_half-requires-in-Absorb c =
+    let base = plain_inner c.args.base.now in
+    some_child c.args.base.now
+    (subst IsSoundInner (as_it_is [] c.in-Some.delta.now base c.in-Absorb.is)
+    (subst (λ (o : Option (Bor Delta)). IsSoundInner (over [] o base)) c.in-Some.is (c.requires.sound []))).1

@@ -4,13 +4,11 @@ use Rattle.bw_delta.specs.declared.deltas.Delta.{Delta}
 use Rattle.bw_chain.specs.Chains.{Bases, change, plain}
 use Rattle.bw_chain.specs.Roots.{IsNeighbour}
 use Rattle.bw_chain.specs.Slots.{side_of_slot}
-use Rattle.bw_chain.specs.Targets.{IsLinked}
-use Rattle.bw_chain.proofs.TurnLemmas.{linked_before}
+use Rattle.bw_chain.proofs.TurnLemmas.{linked_under}
 use Rattle.bw_chain.proofs.neighbours.neighbour_over.Goals as goal
 
 pub neighbour_plain-requires : goal.neighbour_plain-requires
-neighbour_plain-requires c =
-    linked_before [] c.in-AddChild.sep c.in-AddChild.child (plain c.args.base.now) (subst (λ (d : Delta). IsLinked (change [] d (plain c.args.base.now))) c.in-AddChild.is (c.requires.linked []))
+neighbour_plain-requires c = linked_under c.args.delta.now (plain c.args.base.now) c.in-AddChild.is (c.requires.linked [])
 
 pub returns-in-Split-clause-there : goal.returns-in-Split-clause-there
 returns-in-Split-clause-there c = λ bases.

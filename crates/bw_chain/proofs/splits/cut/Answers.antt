@@ -1,7 +1,5 @@
 use Rattle.std.proofs.Common.{◌≡◌, ◌∙◌, ◌<◌, [], ap, arith, get_or, length, sym}
-use Rattle.bw_model.specs.Values.{ValueBytes}
 use Rattle.bw_page.specs.declared.pages.Page.{Page}
-use Rattle.bw_page.specs.Leaves.{LeafView}
 use Rattle.bw_page.proofs.Entries.{first_read}
 use Rattle.bw_page.proofs.Search.{read_at}
 use Rattle.bw_chain.specs.Chains.{plain}

@@ -2,6 +2,7 @@ use Rattle.std.proofs.Common.{[], sym, subst}
 use Rattle.bw_delta.specs.declared.deltas.Delta.{Delta}
 use Rattle.bw_chain.specs.Chains.{change, plain}
 use Rattle.bw_chain.specs.Targets.{IsLinked, IsTurnFor}
+use Rattle.bw_chain.proofs.ChainLemmas.{as_it_is}
 use Rattle.bw_chain.proofs.TurnLemmas.{linked_before}
 use Rattle.bw_chain.proofs.turn.turn_over.Goals as goal
 
@@ -16,3 +17,6 @@ returns-in-Split c = λ bases.
 pub returns-in-AddChild : goal.returns-in-AddChild
 returns-in-AddChild c = λ bases.
     subst (λ (d : Delta). IsTurnFor c.args.target (change bases d (plain c.args.base.now)) c.turn_with_child.result) (sym c.in-AddChild.is) (c.turn_with_child.ensures bases)
+
+pub turn_plain-requires-clause-linked : goal.turn_plain-requires-clause-linked
+turn_plain-requires-clause-linked c = subst IsLinked (as_it_is [] c.args.delta.now (plain c.args.base.now) c.in-Absorb.is) (c.requires.linked [])

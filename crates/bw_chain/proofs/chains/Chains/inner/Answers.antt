@@ -1,6 +1,7 @@
-use Rattle.std.proofs.Common.{inl, inr, ◌⊎◌, ◌≡◌, ℕ, true, false, ap, sym, ◌∙◌}
+use Rattle.std.proofs.Common.{inl, inr, ◌⊎◌, ◌≡◌, true, false, ap, sym, ◌∙◌}
 use Rattle.bw_model.specs.Values.{ValueBytes}
 use Rattle.bw_page.specs.Leaves.{LeafView}
+use Rattle.bw_page.specs.declared.pages.RemovedPage.{RemovedPage}
 use Rattle.bw_page.specs.declared.pages.Page.TheVariants.{Leaf as LeafPage, Gone as GonePage}
 use Rattle.bw_chain.specs.Chains.{plain}
 use Rattle.bw_chain.specs.Searches.{plain_inner}
@@ -26,6 +27,6 @@ returns-in-Leaf-clause-some c none inner is = by c.in-Leaf.is
     there : plain c.in-Some.base.now ≡ plain_inner inner
     there = ap plain_at (sym c.in-Some.is) ∙ c.base.ensures ∙ sym (on_base c.args.self.now.bases c.args.self.now.records c.args.head c.requires none) ∙ is
 
-    by : ((leaf : LeafView ValueBytes) × (c.in-Some.base.now ≡ LeafPage leaf)) ⊎ ((left : ℕ) × (c.in-Some.base.now ≡ GonePage left)) → false ≡ true
+    by : ((leaf : LeafView ValueBytes) × (c.in-Some.base.now ≡ LeafPage leaf)) ⊎ ((removed : RemovedPage) × (c.in-Some.base.now ≡ GonePage removed)) → false ≡ true
     by (inl leaf) = inner_is inner (sym (ap plain leaf.1) ∙ there)
     by (inr gone) = inner_is inner (sym (ap plain gone.1) ∙ there)

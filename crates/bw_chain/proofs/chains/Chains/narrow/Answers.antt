@@ -1,4 +1,4 @@
-use Rattle.std.proofs.Common.{◌≡◌, ◌<◌, ◌∙◌, set, [], Option, Some, None, ap, get_or, length, subst, sym, arith}
+use Rattle.std.proofs.Common.{◌∙◌, set, [], Option, Some, None, ap, get_or, length, subst, sym, arith}
 use Rattle.std.proofs.lemmas.List.{length-set, set-set}
 use Rattle.std.proofs.lemmas.Option.{get_or_from_slice_get}
 use Rattle.bw_key.specs.Order.{KeyBytes}

@@ -11,8 +11,8 @@ overflow_sub-result c =
     (subst (λ (l : List (KeyBytes × ℕ)). PartsChildren c.args.self l c.count.result) same c.count.ensures.parts)
     (subst (λ (l : List (KeyBytes × ℕ)). c.count.result ≤ length l) same c.count.ensures.bound)
 
-pub returns : goal.returns
-returns c =
+pub returns-clause-entry : goal.returns-clause-entry
+returns-clause-entry c =
     let inner = c.args.inner.now in
     let same = c.children-children.ensures.value in
     let read = c.index-children-count in

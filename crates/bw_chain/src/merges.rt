@@ -1,0 +1,207 @@
+// Base pages that take over their right neighbours, and that lose a child.
+ghost use Rattle.std.specs.Prelude.{◌≡◌, ◌≢◌, ◌+◌, ◌<◌, ◌^◌, ◌++◌, ◌∷◌, [], true, is_some, length, IfOk, OnOk, OnErr};
+ghost use Rattle.bw_chain.specs.Before.{low_at, low_of};
+ghost use Rattle.bw_chain.specs.Chains.{IsChain, floor_word, page_at, plain};
+ghost use Rattle.bw_chain.specs.Children.{HasLost, slot_without_child};
+ghost use Rattle.bw_chain.specs.Merges.{AreNeighbours, IsJoined, absorption, slot_joined, slot_removed};
+ghost use Rattle.bw_chain.specs.Slots.{IsSoundInner};
+ghost use Rattle.bw_chain.specs.Targets.{IsLinked};
+ghost use Rattle.bw_page.specs.declared.pages.Page.TheVariants.{Leaf as LeafPage, Inner as InnerPage};
+
+use crate::chains::Chains;
+use bw_delta::Delta;
+use bw_key::{Key, Memory};
+use bw_page::{Inner, Leaf, Page, PageId, RemovedPage};
+
+impl Chains {
+    /// Joins a page and its right neighbour, neither of which has a record: the base page of the first gets the entries of
+    /// both and goes on to the end of the second. What is left of that one says that it was removed, into the page `left`.
+    /// Answers the word that names the record of it, which stands over the first page; another record tells of the removal.
+    ///
+    /// The entries of both are copied, those of leaves as blocks. `Memory` is answered where a list or the copy of a key
+    /// finds none, and where there are 2^32 - 1 records; all is as before.
+    pub fn merge(&mut self, word: u64, right: u64, left: PageId) -> Result<u64, Memory>
+        requires ends { IsChain self.old word }
+        requires right_ends { IsChain self.old right }
+        requires plain { word < floor_word }
+        requires right_plain { right < floor_word }
+        requires neighbours { AreNeighbours (page_at self.old word) (page_at self.old right) }
+        ensures ok { OnOk result (IsJoined self.old self.new word right left) }
+        ensures word { IfOk result (λ word. word ≡ 2 ^ 32 + length self.old.records + 1) }
+        ensures few { OnOk result (length self.old.records + 1 < 2 ^ 32) }
+        ensures err { OnErr result (self.new ≡ self.old) }
+    {
+        let page = self.joined(word, right)?;
+        let removed = self.removed(right, left)?;
+        let absorption = self.absorption(right)?;
+        let record = self.add_both(Delta::Removed { left }, right, absorption, word)?;
+        self.bases.set(word as usize, Some(page));
+        self.bases.set(right as usize, Some(removed));
+        Ok(record)
+    }
+
+    // Both pages as one.
+    fn joined(&self, word: u64, right: u64) -> Result<Page, Memory>
+        requires ends { IsChain self.now word }
+        requires right_ends { IsChain self.now right }
+        requires plain { word < floor_word }
+        requires right_plain { right < floor_word }
+        requires neighbours { AreNeighbours (page_at self.now word) (page_at self.now right) }
+        ensures { IfOk result (λ page. plain page ≡ slot_joined (page_at self.now word) (page_at self.now right)) }
+    {
+        let Some(page) = self.base(word) else {
+            unreachable!();
+        };
+        let Some(other) = self.base(right) else {
+            unreachable!();
+        };
+        join(page, other)
+    }
+
+    // What is left of a page that is removed into this left neighbour.
+    fn removed(&self, word: u64, left: PageId) -> Result<Page, Memory>
+        requires ends { IsChain self.now word }
+        requires there { is_some (low_at (page_at self.now word)) ≡ true }
+        ensures { IfOk result (λ page. plain page ≡ slot_removed left (page_at self.now word)) }
+    {
+        let Some(low) = self.low(word) else {
+            unreachable!();
+        };
+        Ok(Page::Gone(RemovedPage {
+            left,
+            level: self.level(word),
+            low: low.copy()?,
+        }))
+    }
+
+    // The record of the absorption of a page.
+    fn absorption(&self, word: u64) -> Result<Delta, Memory>
+        requires ends { IsChain self.now word }
+        requires linked { IsLinked (page_at self.now word) }
+        requires there { is_some (low_at (page_at self.now word)) ≡ true }
+        ensures { IfOk result (λ delta. delta ≡ absorption word (page_at self.now word)) }
+    {
+        let Some(low) = self.low(word) else {
+            unreachable!();
+        };
+        let sep = low.copy()?;
+        let Some((_, end, next)) = self.neighbour(word) else {
+            return Ok(Delta::Absorb {
+                sep,
+                base: word,
+                high: None,
+                side: None,
+            });
+        };
+        Ok(Delta::Absorb {
+            sep,
+            base: word,
+            high: Some(end.copy()?),
+            side: Some(next),
+        })
+    }
+
+    // Adds two records behind the others, and answers the word that names the second.
+    fn add_both(
+        &mut self,
+        first: Delta,
+        under: u64,
+        second: Delta,
+        other: u64,
+    ) -> Result<u64, Memory>
+        ensures bases { self.new.bases ≡ self.old.bases }
+        ensures ok { OnOk result (self.new.records ≡ self.old.records ++ (first, under) ∷ (second, other) ∷ []) }
+        ensures word { IfOk result (λ word. word ≡ 2 ^ 32 + length self.old.records + 1) }
+        ensures few { OnOk result (length self.old.records + 1 < 2 ^ 32) }
+        ensures err { OnErr result (self.new.records ≡ self.old.records) }
+    {
+        let before = self.arena.len();
+        self.add_record(first, under)?;
+        let added = self.add_record(second, other);
+        if added.is_err() {
+            self.arena.truncate(before);
+        }
+        added
+    }
+
+    /// Takes the child at a separator, which isn't the first one, from an inner page without a record. Answers the word that
+    /// names the record of it, which stands over the page.
+    ///
+    /// It copies the other children. `Memory` is answered where their list or the copy of a key finds none, where there is no
+    /// room for the record, and where there are 2^32 of them; all is as before.
+    pub fn drop_child(&mut self, word: u64, sep: Key) -> Result<u64, Memory>
+        requires ends { IsChain self.old word }
+        requires plain { word < floor_word }
+        requires inner { IsSoundInner (page_at self.old word) }
+        requires other { sep ≢ low_of (page_at self.old word) }
+        ensures ok { OnOk result (HasLost self.old self.new word sep) }
+        ensures word { IfOk result (λ word. word ≡ 2 ^ 32 + length self.old.records) }
+        ensures few { OnOk result (length self.old.records < 2 ^ 32) }
+        ensures err { OnErr result (self.new ≡ self.old) }
+    {
+        let page = self.without_child(word, &sep)?;
+        let record = self.add_record(Delta::DropChild { sep }, word)?;
+        self.bases.set(word as usize, Some(page));
+        Ok(record)
+    }
+
+    // An inner page without a child.
+    fn without_child(&self, word: u64, sep: &Key) -> Result<Page, Memory>
+        requires ends { IsChain self.now word }
+        requires plain { word < floor_word }
+        requires inner { IsSoundInner (page_at self.now word) }
+        requires other { sep.now ≢ low_of (page_at self.now word) }
+        ensures { IfOk result (λ page. plain page ≡ slot_without_child sep.now (page_at self.now word)) }
+    {
+        let Some(page) = self.base(word) else {
+            unreachable!();
+        };
+        without_child(page, sep)
+    }
+}
+
+// A page with its right neighbour.
+fn join(page: &Page, right: &Page) -> Result<Page, Memory>
+    requires { AreNeighbours (plain page.now) (plain right.now) }
+    ensures { IfOk result (λ joined. plain joined ≡ slot_joined (plain page.now) (plain right.now)) }
+{
+    match page {
+        Page::Leaf(leaf) => join_leaf(leaf, right),
+        Page::Inner(inner) => join_inner(inner, right),
+        Page::Gone(_) => unreachable!(),
+    }
+}
+
+// A leaf with its right neighbour.
+fn join_leaf(leaf: &Leaf, right: &Page) -> Result<Page, Memory>
+    requires { AreNeighbours (plain (LeafPage leaf.now)) (plain right.now) }
+    ensures { IfOk result (λ page. plain page ≡ slot_joined (plain (LeafPage leaf.now)) (plain right.now)) }
+{
+    match right {
+        Page::Leaf(other) => Ok(Page::Leaf(leaf.joined(other)?)),
+        Page::Inner(_) | Page::Gone(_) => unreachable!(),
+    }
+}
+
+// An inner page with its right neighbour.
+fn join_inner(inner: &Inner, right: &Page) -> Result<Page, Memory>
+    requires { AreNeighbours (plain (InnerPage inner.now)) (plain right.now) }
+    ensures { IfOk result (λ page. plain page ≡ slot_joined (plain (InnerPage inner.now)) (plain right.now)) }
+{
+    match right {
+        Page::Inner(other) => Ok(Page::Inner(inner.joined(other)?)),
+        Page::Leaf(_) | Page::Gone(_) => unreachable!(),
+    }
+}
+
+// An inner page without a child.
+fn without_child(page: &Page, sep: &Key) -> Result<Page, Memory>
+    requires inner { IsSoundInner (plain page.now) }
+    requires other { sep.now ≢ low_of (plain page.now) }
+    ensures { IfOk result (λ less. plain less ≡ slot_without_child sep.now (plain page.now)) }
+{
+    match page {
+        Page::Inner(inner) => Ok(Page::Inner(inner.without_child(sep)?)),
+        Page::Leaf(_) | Page::Gone(_) => unreachable!(),
+    }
+}

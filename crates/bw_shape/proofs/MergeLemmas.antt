@@ -1,0 +1,247 @@
+-- Pages that may be merged into their left neighbours, index entries that may go, and roots that have one child.
+use Rattle.std.proofs.Common.{◌≡◌, ℕ, suc, ◌-◌, ◌<◌, ◌≤◌, ◌^◌, Bool, true, false, nat_eq, List, [], ◌∷◌, length, Option, Some, None, Decides, is_some, slice_index, slice_set, refl, sym, ap, ◌∙◌, subst, arith}
+use Rattle.std.proofs.lemmas.Bool.{eq-eqb, eqb-true}
+use Rattle.std.proofs.lemmas.List.{set-set}
+use Rattle.std.specs.List.{Contains}
+use Rattle.std.specs.Ordering.{is_lt}
+use Rattle.bw_key.specs.Order.{KeyBytes, key_cmp, key_eq, key_eq_equiv}
+use Rattle.bw_page.specs.declared.pages.RemovedPage.{RemovedPage}
+use Rattle.bw_page.proofs.KeyLemmas.{neither_below}
+use Rattle.bw_page.proofs.Search.{same_keys}
+use Rattle.bw_page.proofs.Truths.{holds_not}
+use Rattle.bw_chain.specs.Before.{low_at, low_of}
+use Rattle.bw_chain.specs.Children.{HasChildAt, HasEntry, MayDropChild}
+use Rattle.bw_chain.specs.Levels.{AreLevels, BeginsWith, IsHomeAt, row}
+use Rattle.bw_chain.specs.Roots.{HasOneChild}
+use Rattle.bw_chain.specs.Searches.{IsInLevels}
+use Rattle.bw_chain.specs.Slots.{Slot, PageState, Body, Pairs, Children, Free, Gone, Live, IsSoundBody, children_of, level_of, side_of, side_of_slot, slot_at}
+use Rattle.bw_chain.specs.Splits.{entry_count, slot_entries}
+use Rattle.bw_chain.proofs.AboveLemmas.{one_above}
+use Rattle.bw_tree.specs.Consolidation.{IsRebased}
+use Rattle.bw_tree.specs.Merges.{HasLostChild, IsLowered, MayBeLowered, StillNames}
+use Rattle.bw_tree.specs.Pages.{IsLeft, IsNamer, IsPlain}
+use Rattle.bw_tree.specs.Routing.{IsInnerPage}
+use Rattle.bw_tree.specs.View.{TreeView}
+use Rattle.bw_tree.proofs.NeighbourLemmas.{left_beside, one_left}
+use Rattle.bw_tree.proofs.PageLemmas.{entry_home, one_namer}
+use Rattle.bw_tree.proofs.RootLemmas.{IsTop, top_of}
+use Rattle.bw_shape.specs.Merges.{HasLoweredRoot, IsDroppable, MayBeAbsorbed}
+use Rattle.bw_shape.proofs.PlainLemmas.{has_record}
+
+different : false ≡ true → ⊥
+different e = cc
+
+one_state : {s t : PageState} → Live s ≡ Live t → s ≡ t
+one_state e = cc
+
+no_key : {k : KeyBytes} → Some k ≡ None → ⊥
+no_key e = cc
+
+one_key : {k q : KeyBytes} → Some k ≡ Some q → k ≡ q
+one_key e = cc
+
+one_removed : {g h : RemovedPage} → Gone g ≡ Gone h → g ≡ h
+one_removed e = cc
+
+-- what isn't there isn't decided to be
+pub decides_not : {A : Type 0} → (A → ⊥) → Decides false A
+decides_not none = (λ e. absurd (different e), λ a. absurd (none a))
+
+-- a page that has a record isn't one by itself
+pub not_plain : (tree : TreeView) (p : ℕ) (plain : Bool) → Decides plain (IsPlain tree p) → plain ≡ false → p < length tree.heads → slice_index tree.heads p < 2 ^ 32 → ⊥
+not_plain tree p plain tells not there low = omega (arith, low, has_record tree p plain tells not there)
+
+no_child : {e : KeyBytes × ℕ} → ◌≡◌ {A = List (KeyBytes × ℕ)} [] (e ∷ []) → ⊥
+no_child e = cc
+
+-- a page with one child is above the leaves, and has one entry
+raised_over : (low : KeyBytes) (high : Option KeyBytes) (side : Option ℕ) (b : Body) (e : KeyBytes × ℕ) → children_of b ≡ e ∷ [] → IsSoundBody low high side b → 1 ≤ level_of b
+raised_over low high side (Pairs pairs writes) e only sound = absurd (no_child only)
+raised_over low high side (Children level children) e only sound = sound.raised
+
+count_of : (b : Body) (e : KeyBytes × ℕ) → children_of b ≡ e ∷ [] → entry_count b ≡ 1
+count_of (Pairs pairs writes) e only = absurd (no_child only)
+count_of (Children level children) e only = ap length only
+
+one_entry : (es : List (KeyBytes × ℕ)) → length es ≡ 1 → (e : KeyBytes × ℕ) × (es ≡ e ∷ [])
+one_entry [] one = absurd (omega (arith, one))
+one_entry (e ∷ []) one = (e, refl)
+one_entry (e ∷ f ∷ es) one = absurd (omega (arith, one))
+
+-- the keys at which a removed page and the page above begin
+low_is : (slot : Slot) (low : KeyBytes) → Some low ≡ low_at slot → low_of slot ≡ low
+low_is Free low e = absurd (no_key e)
+low_is (Gone g) low e = absurd (no_key e)
+low_is (Live s) low e = one_key (sym e)
+
+key_eq_of : (k q : KeyBytes) → k ≡ q → key_eq k q ≡ true
+key_eq_of k q same = subst (λ x. key_eq k x ≡ true) same (key_eq_equiv.refl k)
+
+-- a page is removed once, so both tell of the same key
+pub low_same : (tree : TreeView) (p parent : ℕ) (s : StillNames tree p parent) (g : RemovedPage) → slot_at tree.slots p ≡ Gone g → s.removed.low ≡ g.low
+low_same tree p parent s g gone = ap (λ (h : RemovedPage). h.low) (one_removed (sym s.is ∙ gone))
+
+pub compared : (tree : TreeView) (p parent : ℕ) (s : StillNames tree p parent) (g : RemovedPage) (low : KeyBytes) (b : Bool) → slot_at tree.slots p ≡ Gone g → Some low ≡ low_at (slot_at tree.slots parent) → b ≡ key_eq g.low low → Decides b (s.removed.low ≡ low_of (slot_at tree.slots parent))
+compared tree p parent s g low b gone begins is = (
+  λ yes. same ∙ same_keys g.low low (sym is ∙ yes) ∙ sym at,
+  λ e. is ∙ key_eq_of g.low low (sym same ∙ e ∙ at),
+)
+  where
+    same : s.removed.low ≡ g.low
+    same = low_same tree p parent s g gone
+
+    at : low_of (slot_at tree.slots parent) ≡ low
+    at = low_is (slot_at tree.slots parent) low begins
+
+-- nothing is there
+pub none_of : (o : Option ℕ) → is_some o ≡ false → o ≡ None
+none_of None e = refl
+none_of (Some x) e = absurd (different (sym e))
+
+module _ (tree : TreeView) (root : ℕ) (lawful : AreLevels tree.slots root tree.levels) where
+  -- one page names both exactly where the namers are the same
+  pub under_one : (page other a b : ℕ) → IsNamer tree page a → IsNamer tree other b → (x y : ℕ) → x ≡ a → y ≡ b → Decides (nat_eq x y) ((parent : ℕ) × (IsNamer tree page parent × IsNamer tree other parent))
+  under_one page other a b u v x y x_is y_is = (
+    λ e. (a, (u, subst (IsNamer tree other) (sym y_is ∙ sym (eqb-true x y e) ∙ x_is) v)),
+    λ w. eq-eqb x y (x_is ∙ one_namer tree root lawful page a w.0 u w.1.0 ∙ one_namer tree root lawful other w.0 b w.1.1 v ∙ sym y_is),
+  )
+
+  -- the left neighbour of a page that may be absorbed
+  pub absorber_is : (p q r : ℕ) → IsLeft tree p q → MayBeAbsorbed tree p r → r ≡ q
+  absorber_is p q r left m = one_left tree root lawful p r q m.left left
+
+  -- such a page and its left neighbour have mapping words
+  pub page_on : (p q : ℕ) → MayBeAbsorbed tree p q → IsInLevels tree.levels p
+  page_on p q m = record { level = m.left.0.level; within = m.left.0.within; in_level = (left_beside tree root lawful p q m.left).in_row }
+
+  entry_of : (slot : Slot) (key : KeyBytes) (child : ℕ) → HasChildAt slot key child → HasEntry slot key
+  entry_of Free key child has = absurd has
+  entry_of (Gone g) key child has = absurd has
+  entry_of (Live s) key child has = (child, has)
+
+  -- the key of an index entry is in the range of its page
+  named_home : (p parent : ℕ) (s : StillNames tree p parent) → IsHomeAt tree.slots tree.levels s.removed.low (suc s.removed.level) parent
+  named_home p parent s = entry_home tree root lawful parent s.removed.level s.removed.low s.above (entry_of (slot_at tree.slots parent) s.removed.low p s.named)
+
+  -- one page of the level above still names a removed page
+  pub one_naming : (p a b : ℕ) → StillNames tree p a → StillNames tree p b → a ≡ b
+  one_naming p a b s t =
+      let same : s.removed ≡ t.removed = one_removed (sym s.is ∙ t.is) in
+      one_above tree.slots root tree.levels lawful (suc t.removed.level) t.removed.low a b
+      (subst (λ (g : RemovedPage). IsHomeAt tree.slots tree.levels g.low (suc g.level) a) same (named_home p a s))
+      (named_home p b t)
+
+  -- a page that begins with the entry doesn't drop it
+  pub begins_with : (p parent : ℕ) (s : StillNames tree p parent) → s.removed.low ≡ low_of (slot_at tree.slots parent) → (other : ℕ) → IsDroppable tree p other → ⊥
+  begins_with p parent s begins other d =
+      let one : other ≡ parent = one_naming p other parent d.names s in
+      let same : d.names.removed ≡ s.removed = one_removed (sym d.names.is ∙ s.is) in
+      d.behind (ap (λ (g : RemovedPage). g.low) same ∙ begins ∙ ap (λ x. low_of (slot_at tree.slots x)) (sym one))
+
+  -- an entry behind the first one may go
+  pub may_drop : (p parent : ℕ) (d : IsDroppable tree p parent) → MayDropChild tree.slots tree.levels parent d.names.removed.low
+  may_drop p parent d = record {
+    level = d.names.removed.level;
+    within = home.reached.within;
+    in_level = home.reached.in_level;
+    state = home.reached.state;
+    is = home.reached.is;
+    above = by (is_lt (key_cmp home.reached.state.low key)) refl;
+  }
+    where
+      key : KeyBytes
+      key = d.names.removed.low
+
+      home : IsHomeAt tree.slots tree.levels d.names.removed.low (suc d.names.removed.level) parent
+      home = named_home p parent d.names
+
+      by : (b : Bool) → is_lt (key_cmp home.reached.state.low d.names.removed.low) ≡ b → b ≡ true
+      by true e = refl
+      by false e =
+          absurd (d.behind (
+          neither_below d.names.removed.low home.reached.state.low (holds_not _ home.reached.from_low) e
+          ∙ ap low_of (sym home.reached.is)))
+
+  -- the root stands on the highest level
+  abbrev top : IsTop tree.slots root (length tree.levels - 1)
+  top = top_of tree.slots root tree.levels lawful
+
+  begins_there : (ps : List ℕ) → BeginsWith ps root → Contains ps root
+  begins_there [] begins = absurd begins
+  begins_there (x ∷ ps) begins = (0, omega arith, begins)
+
+  pub root_on : IsInLevels tree.levels root
+  root_on = record { level = length tree.levels - 1; within = omega (arith, lawful.some); in_level = begins_there (row tree.levels (length tree.levels - 1)) lawful.top }
+
+  its_state : (child : ℕ) (h : HasOneChild tree.slots root child) → h.state ≡ top.stands.state
+  its_state child h = one_state (sym h.is ∙ top.stands.is)
+
+  -- above the leaves, if it has one child
+  pub root_raised : (child : ℕ) → HasOneChild tree.slots root child → 1 ≤ length tree.levels - 1
+  root_raised child h =
+      let st = top.stands in
+      let over : 1 ≤ level_of st.state.body = raised_over st.state.low st.state.high st.state.side st.state.body (h.key, child) (ap (λ (s : PageState). children_of s.body) (sym (its_state child h)) ∙ h.only) st.sound in
+      omega (arith, over, st.at_level)
+
+  pub root_inner : (child : ℕ) → HasOneChild tree.slots root child → IsInnerPage tree root
+  unfolding root_on
+  root_inner child h = record { in_levels = root_on; raised = root_raised child h }
+
+  -- the root has one child alone exactly where it has one entry
+  module _ (raised : 0 < length tree.levels - 1) (alone : side_of tree.slots root ≡ None) where
+    none_beside : top.stands.state.side ≡ None
+    none_beside = ap side_of_slot (sym top.stands.is) ∙ alone
+
+    counted : slot_entries (slot_at tree.slots root) ≡ entry_count top.stands.state.body
+    counted = ap slot_entries top.stands.is
+
+    by_one : (b : Body) → top.stands.state.body ≡ b → entry_count b ≡ 1 → level_of b ≡ length tree.levels - 1 → (child : ℕ) × HasOneChild tree.slots root child
+    by_one (Pairs pairs writes) same one at = absurd (omega (arith, at, raised))
+    by_one (Children level children) same one at =
+        let e = one_entry children one in
+        (e.0.1, record { state = top.stands.state; is = top.stands.is; alone = none_beside; key = e.0.0; only = ap children_of same ∙ e.1 })
+
+    pub decides_one : (n : ℕ) → n ≡ slot_entries (slot_at tree.slots root) → Decides (nat_eq n 1) ((child : ℕ) × HasOneChild tree.slots root child)
+    decides_one n counts = (
+      λ e. by_one top.stands.state.body refl (sym counted ∙ sym counts ∙ eqb-true n 1 e) top.stands.at_level,
+      λ w. eq-eqb n 1 (counts ∙ ap slot_entries w.1.is ∙ count_of w.1.state.body (w.1.key, w.0) w.1.only),
+    )
+
+-- the root that goes, after it was left as a base page by itself
+pub lowered_over : (old mid new : TreeView) (child : ℕ) → HasOneChild old.slots old.root child → IsRebased old mid old.root → ((child : ℕ) → MayBeLowered mid child → IsLowered mid new child) → HasLoweredRoot old new child
+lowered_over old mid new child one rebased lowers =
+    let on : IsLowered (record old { heads = slice_set old.heads old.root (slice_index mid.heads old.root) }) new child =
+    subst (λ (v : TreeView). IsLowered v new child) rebased.view (lowers child (record {
+      one = subst (λ (v : TreeView). HasOneChild v.slots v.root child) (sym rebased.view) one;
+      plain = subst (λ r. slice_index mid.heads r < 2 ^ 32) (sym (ap (λ (v : TreeView). v.root) rebased.view)) rebased.plain;
+    })) in
+    let word : slice_index new.heads old.root ≡ slice_index mid.heads old.root =
+    ap (λ (h : List ℕ). slice_index h old.root) (on.heads ∙ sym (ap (λ (v : TreeView). v.heads) rebased.view)) in
+    record {
+      one = one;
+      slots = on.slots;
+      levels = on.levels;
+      contents = on.contents;
+      heads = on.heads ∙ ap (slice_set old.heads old.root) (sym word);
+      plain = omega (arith, word, rebased.plain);
+      root = on.root;
+      records = on.records;
+      next = on.next;
+      staged = on.staged;
+    }
+
+-- the page that loses a child, after it was left as a base page by itself
+pub lost_over : (old mid new : TreeView) (p : ℕ) (sep : KeyBytes) → IsRebased old mid p → HasLostChild mid new p sep → HasLostChild old new p sep
+lost_over old mid new p sep rebased lost =
+    let on = subst (λ (v : TreeView). HasLostChild v new p sep) rebased.view lost in
+    record {
+      dropped = on.dropped;
+      levels = on.levels;
+      contents = on.contents;
+      heads = on.heads ∙ set-set old.heads p (slice_index mid.heads p) (slice_index new.heads p);
+      changed = on.changed;
+      root = on.root;
+      records = on.records;
+      next = on.next;
+      staged = on.staged;
+    }

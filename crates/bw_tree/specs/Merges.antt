@@ -1,0 +1,81 @@
+-- Merges: a page is absorbed by its left neighbour, its index entry goes, and a root that has one child alone goes.
+use Rattle.std.specs.Prelude.{◌≡◌, ℕ, suc, ◌+◌, ◌<◌, ◌≤◌, ◌^◌, length, Some, None, slice_index, slice_set}
+use Rattle.std.specs.List.{Contains}
+use Rattle.bw_key.specs.Order.{KeyBytes}
+use Rattle.bw_page.specs.declared.pages.RemovedPage.{RemovedPage}
+use Rattle.bw_chain.specs.Children.{HasChildAt, HasDroppedChild, MayDropChild}
+use Rattle.bw_chain.specs.Levels.{row}
+use Rattle.bw_chain.specs.Merges.{IsMerged, level_merged}
+use Rattle.bw_chain.specs.Roots.{HasOneChild, levels_lowered}
+use Rattle.bw_chain.specs.Slots.{Gone, side_of, slot_at}
+use Rattle.bw_tree.specs.Routing.{IsInLevel}
+use Rattle.bw_tree.specs.View.{TreeView, contents_at}
+
+-- two neighbours of a level, base pages by themselves
+pub record MayMerge (tree : TreeView) (p q : ℕ) : Type 0 where
+  pub level : ℕ
+  pub within : level < length tree.levels
+  pub in_level : Contains (row tree.levels level) p
+  pub linked : side_of tree.slots p ≡ Some q
+  pub plain : slice_index tree.heads p < 2 ^ 32
+  pub other_plain : slice_index tree.heads q < 2 ^ 32
+
+-- The page q was absorbed by its left neighbour p, over which there is a record now, and stands on its level no more. There
+-- are two records more. All other pages are as before, and so is what the tree holds.
+pub record HasMerged (old new : TreeView) (p q : ℕ) : Type 0 where
+  pub merged : IsMerged old.slots new.slots p q
+  pub levels : (level : ℕ) → level < length old.levels → Contains (row old.levels level) p →
+      new.levels ≡ level_merged old.levels level q
+  pub contents : (stamp : ℕ) → contents_at new stamp ≡ contents_at old stamp
+  pub heads : new.heads ≡ slice_set old.heads p (slice_index new.heads p)
+  pub changed : 2 ^ 32 ≤ slice_index new.heads p
+  pub root : new.root ≡ old.root
+  pub records : new.records ≡ old.records + 2
+  pub next : new.next ≡ old.next
+  pub staged : new.staged ≡ None
+
+-- an inner page that is a base page by itself, and that may do without the child at the separator
+pub record MayLoseChild (tree : TreeView) (parent : ℕ) (sep : KeyBytes) : Type 0 where
+  pub drops : MayDropChild tree.slots tree.levels parent sep
+  pub plain : slice_index tree.heads parent < 2 ^ 32
+
+-- The page no longer names the child at the separator, and there is a record over it. There is one record more. All other
+-- pages are as before, and so are the levels and what the tree holds.
+pub record HasLostChild (old new : TreeView) (parent : ℕ) (sep : KeyBytes) : Type 0 where
+  pub dropped : HasDroppedChild old.slots new.slots parent sep
+  pub levels : new.levels ≡ old.levels
+  pub contents : (stamp : ℕ) → contents_at new stamp ≡ contents_at old stamp
+  pub heads : new.heads ≡ slice_set old.heads parent (slice_index new.heads parent)
+  pub changed : 2 ^ 32 ≤ slice_index new.heads parent
+  pub root : new.root ≡ old.root
+  pub records : new.records ≡ old.records + 1
+  pub next : new.next ≡ old.next
+  pub staged : new.staged ≡ None
+
+-- a root that is a base page by itself, with one child alone
+pub record MayBeLowered (tree : TreeView) (child : ℕ) : Type 0 where
+  pub one : HasOneChild tree.slots tree.root child
+  pub plain : slice_index tree.heads tree.root < 2 ^ 32
+
+-- The root's only child is the root, and the old root stands on no level. All pages are as before, and so is what the tree
+-- holds.
+pub record IsLowered (old new : TreeView) (child : ℕ) : Type 0 where
+  pub slots : new.slots ≡ old.slots
+  pub levels : new.levels ≡ levels_lowered old.levels
+  pub contents : (stamp : ℕ) → contents_at new stamp ≡ contents_at old stamp
+  pub heads : new.heads ≡ old.heads
+  pub root : new.root ≡ child
+  pub records : new.records ≡ old.records
+  pub next : new.next ≡ old.next
+  pub staged : new.staged ≡ None
+
+-- This page of the level above still names a page that was removed, at the key where that one began.
+pub record StillNames (tree : TreeView) (p parent : ℕ) : Type 0 where
+  pub removed : RemovedPage
+  pub is : slot_at tree.slots p ≡ Gone removed
+  pub above : IsInLevel tree parent (suc removed.level)
+  pub named : HasChildAt (slot_at tree.slots parent) removed.low p
+
+-- the page isn't a removed one, or none still names it
+abbrev pub IsNamedNoMore : TreeView → ℕ → Type 0
+IsNamedNoMore tree p = (parent : ℕ) → StillNames tree p parent → ⊥

@@ -1,0 +1,118 @@
+// Pages that are absorbed by their left neighbours, their index entries, and roots that have one child.
+ghost use Rattle.std.specs.Prelude.{◌≡◌, ℕ, None, Decides, MatchOption, OnOk, OnErr};
+ghost use Rattle.std.specs.Option.{option_copied};
+ghost use Rattle.bw_chain.specs.Before.{removed_at};
+ghost use Rattle.bw_chain.specs.Children.{HasChildAt};
+ghost use Rattle.bw_chain.specs.Slots.{slot_at};
+ghost use Rattle.bw_chain.specs.Turns.{StartsUpto};
+
+use super::Tree;
+use bw_key::{Key, Memory};
+use bw_page::{PageId, RemovedPage};
+
+impl Tree {
+    ghost use Rattle.bw_tree.specs.Merges.{HasLostChild, HasMerged, IsLowered, IsNamedNoMore, MayBeLowered, MayLoseChild, MayMerge, StillNames};
+    ghost use Rattle.bw_tree.specs.Routing.{IsInnerPage};
+
+    /// Merges a page into its left neighbour, which gets its entries and goes on to its end. The page is a removed one from
+    /// then on: a search that comes to it, as the page above still names it, goes on at the left neighbour. Both are base
+    /// pages by themselves, and no batch is staged.
+    ///
+    /// It adds two records, one of them over the left neighbour, and copies the entries of both, those of leaves as blocks.
+    /// `Memory` is answered where a list or the copy of a key finds none, and where there are 2^32 - 1 records; the tree is
+    /// as before.
+    pub fn set_merge(&mut self, page: PageId, left: PageId) -> Result<(), Memory>
+        requires none { self.old.staged ≡ None }
+        requires pages { MayMerge self.old left page }
+        ensures ok { OnOk result (HasMerged self.old self.new left page) }
+        ensures err { OnErr result (self.new ≡ self.old) }
+    {
+        let head = self.heads[left.0 as usize];
+        let right = self.heads[page.0 as usize];
+        let word = self.chains.merge(head, right, left)?;
+        self.heads[left.0 as usize] = word;
+        Ok(())
+    }
+
+    /// Drops an inner page's index entry at a separator, which isn't the first one, as after a merge. The page is a base page
+    /// by itself, and no batch is staged.
+    ///
+    /// It adds one record, over the page, and copies the page's other children. `Memory` is answered where their list or the
+    /// copy of a key finds none, and where the list of records can't grow; the tree is as before.
+    pub fn unset_child(&mut self, parent: PageId, sep: Key) -> Result<(), Memory>
+        requires none { self.old.staged ≡ None }
+        requires page { MayLoseChild self.old parent sep }
+        ensures ok { OnOk result (HasLostChild self.old self.new parent sep) }
+        ensures err { OnErr result (self.new ≡ self.old) }
+    {
+        let head = self.heads[parent.0 as usize];
+        let word = self.chains.drop_child(head, sep)?;
+        self.heads[parent.0 as usize] = word;
+        Ok(())
+    }
+
+    /// Makes the root's only child the root: the tree has one level fewer, and the old root stands on none. The root is a base
+    /// page by itself without a right neighbour, and no batch is staged. It takes no memory.
+    pub fn lower_root(&mut self)
+        requires none { self.old.staged ≡ None }
+        requires root { (child : ℕ) × MayBeLowered self.old child }
+        ensures { (child : ℕ) → MayBeLowered self.old child → IsLowered self.old self.new child }
+    {
+        self.root = self.only_child();
+    }
+
+    /// What is left of a page that was removed, or none for another page, a free identifier and one that was never given out.
+    /// It costs a walk along the page's chain, and takes no memory.
+    pub fn removed(&self, page: PageId) -> Option<&RemovedPage>
+        ensures { option_copied result ≡ removed_at (slot_at self.now.slots page) }
+    {
+        if page.0 as usize >= self.heads.len() {
+            return None;
+        }
+        self.chains.removed_page(self.heads[page.0 as usize])
+    }
+
+    /// The page of the level above that still names a page which was removed, as after a merge that isn't finished: at the key
+    /// where the removed page began. It is none where no page names it, and for a page that isn't a removed one. It costs a
+    /// search for that key, and one more among the separators of the page above. It takes no memory.
+    pub fn namer_of_removed(&self, page: PageId) -> Option<PageId>
+        ensures { MatchOption result (IsNamedNoMore self.now page) (StillNames self.now page) }
+    {
+        self.know_levels();
+        let Some(removed) = self.removed(page) else {
+            return None;
+        };
+        if removed.level >= self.root_level() {
+            return None;
+        }
+        let Some(parent) = self.above(removed.level + 1, &removed.low) else {
+            return None;
+        };
+        if self.has_child(parent, &removed.low, page) {
+            return Some(parent);
+        }
+        None
+    }
+
+    // The child of a root that has one alone.
+    fn only_child(&self) -> PageId
+        requires { (child : ℕ) × MayBeLowered self.now child }
+        ensures { MayBeLowered self.now result }
+    {
+        let root = self.root;
+        let Some(inner) = self.chains.inner(self.heads[root.0 as usize]) else {
+            unreachable!();
+        };
+        inner.children()[0].1
+    }
+
+    // Whether an inner page that doesn't begin above a key has this child at it.
+    fn has_child(&self, page: PageId, key: &Key, child: PageId) -> bool
+        requires inner { IsInnerPage self.now page }
+        requires starts { StartsUpto (slot_at self.now.slots page) key.now }
+        ensures { Decides result (HasChildAt (slot_at self.now.slots page) key.now child) }
+    {
+        self.chains
+            .has_child(self.heads[page.0 as usize], key, child)
+    }
+}
