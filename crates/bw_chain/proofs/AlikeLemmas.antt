@@ -1,8 +1,9 @@
 -- Trees whose pages are alike have the same levels.
 use Rattle.std.proofs.Common.{◌≡◌, ℕ, List, [], Option, refl, sym, ap, ◌∙◌, subst}
 use Rattle.std.specs.List.{Contains}
-use Rattle.bw_key.specs.Order.{KeyBytes}
 use Rattle.bw_page.specs.Inners.{IsUpto}
+use Rattle.std.specs.Ordering.{is_lt}
+use Rattle.bw_key.specs.Order.{KeyBytes, key_cmp}
 use Rattle.bw_page.specs.declared.pages.RemovedPage.{RemovedPage}
 use Rattle.bw_chain.specs.Slots.{Slot, PageState, Free, Gone, Live, slot_at, left_of, left_of_slot, children_of}
 use Rattle.bw_chain.specs.Levels.{Stands, AreLevels, StartsWith, LeadsBelow, row}
@@ -80,11 +81,15 @@ module _ (old new : List Slot) (over : (p : ℕ) → AreAlike (slot_at old p) (s
       record { page = term.page; in_level = term.in_level; state = a.0; is = a.1; named = subst (λ cs. Contains cs (k, c)) a.2 term.named }
 
   pub exact_alike : (levels : List (List ℕ)) → AreExact old levels → AreExact new levels
+  unfolding was_live term_was
   exact_alike levels exact = record {
     begins = λ n k c s within term is.
         let b = was_live (slot_at old c) (slot_at new c) s (over c) is in
         b.3 ∙ exact.begins n k c b.0 within (term_was levels n k c term) b.1;
     began = λ n k c g within term is. exact.began n k c g within (term_was levels n k c term) (was_gone (slot_at old c) (slot_at new c) g (over c) is);
+    behind = λ n k c g within term is.
+        ap (λ (low : KeyBytes). is_lt (key_cmp low k)) (was_live (slot_at old term.page) (slot_at new term.page) term.state (over term.page) term.is).3
+        ∙ exact.behind n k c g within (term_was levels n k c term) (was_gone (slot_at old c) (slot_at new c) g (over c) is);
     once = λ n k h c within one other. exact.once n k h c within (term_was levels n k c one) (term_was levels n h c other);
   }
 

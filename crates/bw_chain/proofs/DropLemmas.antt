@@ -170,27 +170,36 @@ module _ (old new : List Slot) (root : ℕ) (levels : List (List ℕ)) (p : ℕ)
           (was, ap (slot_at old) here ∙ given.is, (first.2.0, starts_with was.low was.high was.side sep above was.body first.2.0 c sound (subst (λ (s : PageState). StartsWith (children_of s.body) first.2.0 c) same first.2.1)))
       by (inr other) = (first.0, sym (given.others r other) ∙ first.1, first.2)
 
-  -- an index entry was one
-  term_was : (n : ℕ) (k : KeyBytes) (c : ℕ) → IsTerm new levels n k c → IsTerm old levels n k c
-  term_was n k c t = by (cases_eq t.page p)
+  -- an index entry was one, of a page that began there
+  was_term : (n : ℕ) (k : KeyBytes) (c : ℕ) (t : IsTerm new levels n k c) → (had : IsTerm old levels n k c) × (t.state.low ≡ had.state.low)
+  was_term n k c t = by (cases_eq t.page p)
     where
-      by : (t.page ≡ p) ⊎ (t.page ≡ p → ⊥) → IsTerm old levels n k c
+      by : (t.page ≡ p) ⊎ (t.page ≡ p → ⊥) → (had : IsTerm old levels n k c) × (t.state.low ≡ had.state.low)
       by (inl here) =
-          let same : t.state ≡ now = now_state t.state (ap (slot_at new) (sym here) ∙ t.is) in
-          record {
-            page = p;
-            in_level = subst (Contains (row levels (suc n))) here t.in_level;
-            state = was;
-            is = given.is;
-            named = children_were sep was.body (k, c) (subst (λ (s : PageState). Contains (children_of s.body) (k, c)) same t.named);
-          }
-      by (inr other) = record { page = t.page; in_level = t.in_level; state = t.state; is = sym (given.others t.page other) ∙ t.is; named = t.named }
+          let same : t.state ≡ now = now_state t.state (ap (slot_at new) (sym here) ∙ t.is) in (
+            record {
+              page = p;
+              in_level = subst (Contains (row levels (suc n))) here t.in_level;
+              state = was;
+              is = given.is;
+              named = children_were sep was.body (k, c) (subst (λ (s : PageState). Contains (children_of s.body) (k, c)) same t.named);
+            },
+            ap (λ (s : PageState). s.low) same,
+          )
+      by (inr other) = (record { page = t.page; in_level = t.in_level; state = t.state; is = sym (given.others t.page other) ∙ t.is; named = t.named }, refl)
+
+  abbrev term_was : (n : ℕ) (k : KeyBytes) (c : ℕ) → IsTerm new levels n k c → IsTerm old levels n k c
+  term_was n k c t = (was_term n k c t).0
+
+  low_was : (n : ℕ) (k : KeyBytes) (c : ℕ) (t : IsTerm new levels n k c) → is_lt (key_cmp (term_was n k c t).state.low k) ≡ true → is_lt (key_cmp t.state.low k) ≡ true
+  low_was n k c t lies = ap (λ (low : KeyBytes). is_lt (key_cmp low k)) (was_term n k c t).1 ∙ lies
 
   -- each child begins where it began
   exact_still : AreExact old levels → AreExact new levels
   exact_still exact = record {
     begins = λ n k c s lt t is. begins_there n k c s lt is (term_was n k c t) (cases_eq c p);
-    began = λ n k c g lt t is. began_there n k c g lt is (term_was n k c t) (cases_eq c p);
+    began = λ n k c g lt t is. exact.began n k c g lt (term_was n k c t) (was_gone c g is (cases_eq c p));
+    behind = λ n k c g lt t is. low_was n k c t (exact.behind n k c g lt (term_was n k c t) (was_gone c g is (cases_eq c p)));
     once = λ n k h c lt one other. exact.once n k h c lt (term_was n k c one) (term_was n h c other);
   }
     where
@@ -199,9 +208,9 @@ module _ (old new : List Slot) (root : ℕ) (levels : List (List ℕ)) (p : ℕ)
           ap (λ (x : PageState). x.low) (now_state s (ap (slot_at new) (sym here) ∙ is)) ∙ exact.begins n k c was lt had (ap (slot_at old) here ∙ given.is)
       begins_there n k c s lt is had (inr other) = exact.begins n k c s lt had (sym (given.others c other) ∙ is)
 
-      began_there : (n : ℕ) (k : KeyBytes) (c : ℕ) (g : RemovedPage) → suc n < length levels → slot_at new c ≡ Gone g → IsTerm old levels n k c → (c ≡ p) ⊎ (c ≡ p → ⊥) → (g.low ≡ k) × (g.level ≡ n)
-      began_there n k c g lt is had (inl here) = absurd (not_gone (sym given.now ∙ ap (slot_at new) (sym here) ∙ is))
-      began_there n k c g lt is had (inr other) = exact.began n k c g lt had (sym (given.others c other) ∙ is)
+      was_gone : (c : ℕ) (g : RemovedPage) → slot_at new c ≡ Gone g → (c ≡ p) ⊎ (c ≡ p → ⊥) → slot_at old c ≡ Gone g
+      was_gone c g is (inl here) = absurd (not_gone (sym given.now ∙ ap (slot_at new) (sym here) ∙ is))
+      was_gone c g is (inr other) = sym (given.others c other) ∙ is
 
   -- the change keeps levels
   keeps : KeepsLevels old new levels levels

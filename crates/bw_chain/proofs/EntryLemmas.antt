@@ -215,6 +215,7 @@ module _ (old new : List Slot) (root : ℕ) (levels : List (List ℕ)) (p : ℕ)
   exact_still exact = record {
     begins = λ n k c s lt t is. begins_there n k c s lt is (term_was n k c lt t) (cases_eq c p);
     began = λ n k c g lt t is. began_there n k c g lt is (term_was n k c lt t) (cases_eq c p);
+    behind = λ n k c g lt t is. behind_there n k c g lt t is (cases_eq t.page p);
     once = λ n k h c lt one other. same_key n k h c lt (term_was n k c lt one) (term_was n h c lt other);
   }
     where
@@ -238,11 +239,30 @@ module _ (old new : List Slot) (root : ℕ) (levels : List (List ℕ)) (p : ℕ)
       begins_there n k c s lt is (inl had) (inr other) = exact.begins n k c s lt had (sym (given.others c other) ∙ is)
 
       -- the new child isn't a removed page, nor is the page that has it
+      was_gone : (c : ℕ) (g : RemovedPage) → slot_at new c ≡ Gone g → (c ≡ p) ⊎ (c ≡ p → ⊥) → slot_at old c ≡ Gone g
+      was_gone c g is (inl here) = absurd (not_gone (sym given.now ∙ ap (slot_at new) (sym here) ∙ is))
+      was_gone c g is (inr other) = sym (given.others c other) ∙ is
+
       began_there : (n : ℕ) (k : KeyBytes) (c : ℕ) (g : RemovedPage) → suc n < length levels → slot_at new c ≡ Gone g → IsTerm old levels n k c ⊎ ((fits.level ≡ n) × IsNew (k, c)) → (c ≡ p) ⊎ (c ≡ p → ⊥) → (g.low ≡ k) × (g.level ≡ n)
       began_there n k c g lt is (inr (same, added)) h =
           absurd (not_gone (sym (still child fits.child_state fits.child_is).1 ∙ ap (slot_at new) (sym (new_child k c added)) ∙ is))
-      began_there n k c g lt is (inl had) (inl here) = absurd (not_gone (sym given.now ∙ ap (slot_at new) (sym here) ∙ is))
-      began_there n k c g lt is (inl had) (inr other) = exact.began n k c g lt had (sym (given.others c other) ∙ is)
+      began_there n k c g lt is (inl had) h = exact.began n k c g lt had (was_gone c g is h)
+
+      -- the page begins where it began, and its other entries were there
+      behind_there : (n : ℕ) (k : KeyBytes) (c : ℕ) (g : RemovedPage) → suc n < length levels → (t : IsTerm new levels n k c) → slot_at new c ≡ Gone g → (t.page ≡ p) ⊎ (t.page ≡ p → ⊥) → is_lt (key_cmp t.state.low k) ≡ true
+      behind_there n k c g lt t is (inr other) =
+          exact.behind n k c g lt (record { page = t.page; in_level = t.in_level; state = t.state; is = sym (given.others t.page other) ∙ t.is; named = t.named }) (was_gone c g is (cases_eq c p))
+      behind_there n k c g lt t is (inl here) =
+          by (children_with sep child was.body (k, c) (subst (λ (s : PageState). Contains (children_of s.body) (k, c)) same t.named))
+        where
+          same : t.state ≡ now
+          same = one_state (sym t.is ∙ ap (slot_at new) here ∙ given.now)
+
+          by : Contains (children_of was.body) (k, c) ⊎ IsNew (k, c) → is_lt (key_cmp t.state.low k) ≡ true
+          by (inl had) =
+              ap (λ (s : PageState). is_lt (key_cmp s.low k)) same
+              ∙ exact.behind n k c g lt (record { page = p; in_level = subst (Contains (row levels (suc n))) here t.in_level; state = was; is = given.is; named = had }) (was_gone c g is (cases_eq c p))
+          by (inr added) = absurd (not_gone (sym (still child fits.child_state fits.child_is).1 ∙ ap (slot_at new) (sym (new_child k c added)) ∙ is))
 
       same_key : (n : ℕ) (k h : KeyBytes) (c : ℕ) → suc n < length levels → IsTerm old levels n k c ⊎ ((fits.level ≡ n) × IsNew (k, c)) → IsTerm old levels n h c ⊎ ((fits.level ≡ n) × IsNew (h, c)) → k ≡ h
       same_key n k h c lt (inl one) (inl other) = exact.once n k h c lt one other

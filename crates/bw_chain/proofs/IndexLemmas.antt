@@ -16,7 +16,7 @@ use Rattle.bw_delta.proofs.Filters.{kept, was_there}
 use Rattle.bw_delta.specs.declared.deltas.Delta.{Delta}
 use Rattle.bw_delta.specs.declared.deltas.Delta.TheVariants.{Put, Split, Absorb, Removed, AddChild, DropChild}
 use Rattle.bw_chain.specs.Chains.{Bases, change}
-use Rattle.bw_chain.specs.Children.{HasChildAt, HasEntry}
+use Rattle.bw_chain.specs.Children.{HasChildAt}
 use Rattle.bw_chain.specs.Searches.{plain_inner}
 use Rattle.bw_chain.specs.Slots.{Slot, Body, Pairs, Children, Free, Gone, Live, children_of}
 use Rattle.bw_chain.specs.Targets.{IsLastEntry}
@@ -34,7 +34,7 @@ abbrev HasAmong : KeyBytes → List (KeyBytes × ℕ) → Type 0
 HasAmong key es = (child : ℕ) × Contains es (key, child)
 
 -- where one is, it is the last one whose key isn't above
-pub last_decides : (key : KeyBytes) (es : List (KeyBytes × ℕ)) (e : KeyBytes × ℕ) → IsLastEntry key es e → Decides (key_eq e.0 key) (HasAmong key es)
+last_decides : (key : KeyBytes) (es : List (KeyBytes × ℕ)) (e : KeyBytes × ℕ) → IsLastEntry key es e → Decides (key_eq e.0 key) (HasAmong key es)
 last_decides key es e last = (yes, no)
   where
     yes : key_eq e.0 key ≡ true → HasAmong key es
@@ -45,42 +45,6 @@ last_decides key es e last = (yes, no)
         let upto : IsUpto key e.0 = last.greatest (key, has.0) has.1 (not_holds _ (below_self key)) in
         ap (λ (k : KeyBytes). key_eq k key) (neither_below e.0 key (holds_not _ upto) (holds_not _ last.not_above)) ∙ eq_self key
 
--- a split takes the entries from its key on
-pub split_decides : (key sep : KeyBytes) (es : List (KeyBytes × ℕ)) (r : Bool) → is_lt (key_cmp key sep) ≡ true → Decides r (HasAmong key es) → Decides r (HasAmong key (below sep es))
-split_decides key sep es r less decides = (
-  λ yes. let has = decides.0 yes in (has.0, kept (λ (x : KeyBytes × ℕ). is_lt (key_cmp x.0 sep)) es (key, has.0) has.1 less),
-  λ has. decides.1 (has.0, (was_there (λ (x : KeyBytes × ℕ). is_lt (key_cmp x.0 sep)) es (key, has.0) has.1).0),
-)
-
-pub split_none : (key sep : KeyBytes) (es : List (KeyBytes × ℕ)) → is_lt (key_cmp key sep) ≡ false → Decides false (HasAmong key (below sep es))
-split_none key sep es not_less =
-    (λ yes. absurd (different (sym yes)), λ has. absurd (different (sym (was_there (λ (x : KeyBytes × ℕ). is_lt (key_cmp x.0 sep)) es (key, has.0) has.1).1 ∙ not_less)))
-
--- a further child adds the entry at its key
-pub added_decides : (key sep : KeyBytes) (child : ℕ) (es : List (KeyBytes × ℕ)) → key_eq key sep ≡ true → Decides true (HasAmong key (put key_cmp sep child es))
-added_decides key sep child es same =
-    (λ yes. (child, subst (λ (k : KeyBytes). Contains (put key_cmp sep child es) (k, child)) (sym (same_keys key sep same)) (put_there sep child es)), λ has. refl)
-
-pub other_decides : (key sep : KeyBytes) (child : ℕ) (es : List (KeyBytes × ℕ)) (r : Bool) → key_eq key sep ≡ false → Decides r (HasAmong key es) → Decides r (HasAmong key (put key_cmp sep child es))
-other_decides key sep child es r other decides = (yes, no)
-  where
-    not_same : key ≡ sep → ⊥
-    not_same same = different (sym (ap (λ (k : KeyBytes). key_eq k sep) same ∙ eq_self sep) ∙ other)
-
-    yes : r ≡ true → HasAmong key (put key_cmp sep child es)
-    yes e = let has = decides.0 e in (has.0, by has.0 (put_keeps sep child es (key, has.0) has.1))
-      where
-        by : (c : ℕ) → Contains (put key_cmp sep child es) (key, c) ⊎ (key ≡ sep) → Contains (put key_cmp sep child es) (key, c)
-        by c (inl there) = there
-        by c (inr same) = absurd (not_same same)
-
-    no : HasAmong key (put key_cmp sep child es) → r ≡ true
-    no has = by (put_was sep child es (key, has.0) has.1)
-      where
-        by : Contains es (key, has.0) ⊎ ◌≡◌ {A = KeyBytes × ℕ} (key, has.0) (sep, child) → r ≡ true
-        by (inl was) = decides.1 (has.0, was)
-        by (inr new) = absurd (not_same (ap (λ (x : KeyBytes × ℕ). x.0) new))
-
 pub not_false : (b : Bool) → not b ≡ false → b ≡ true
 not_false true e = refl
 not_false false e = absurd (different e)
@@ -90,7 +54,7 @@ not_true true e = absurd (different (sym e))
 not_true false e = refl
 
 -- a key has one child
-behind_first : (first : KeyBytes) (es : List (KeyBytes × ℕ)) (x : KeyBytes × ℕ) → T (below_all key_cmp first es) → Contains es x → is_lt (key_cmp first x.0) ≡ true
+pub behind_first : (first : KeyBytes) (es : List (KeyBytes × ℕ)) (x : KeyBytes × ℕ) → T (below_all key_cmp first es) → Contains es x → is_lt (key_cmp first x.0) ≡ true
 behind_first first [] x above has = absurd (omega (arith, has.1))
 behind_first first (e ∷ es) x above (zero, lt, at) = ap (λ (y : KeyBytes × ℕ). is_lt (key_cmp first y.0)) (sym at) ∙ holds _ (left_of _ _ above)
 behind_first first (e ∷ es) x above (suc i, lt, at) = behind_first first es x (right_of _ _ above) (i, omega (arith, lt), at)
@@ -188,31 +152,6 @@ over_child key child bases o at delta slot r some is decides =
     subst (λ (x : Option (Bor Delta)). Decides r (HasChildAt (over bases x slot) key child)) (sym some)
     (subst (λ (d : Delta). Decides r (HasChildAt (change bases d slot) key child)) (sym is) decides)
 
--- writes are nothing to index entries
-bare_has : (key : KeyBytes) (slot : Slot) → HasEntry slot key → HasEntry (slot_without_writes slot) key
-bare_has key Free h = h
-bare_has key (Gone l) h = h
-bare_has key (Live s) h = by s.body h
-  where
-    by : (b : Body) → HasAmong key (children_of b) → HasAmong key (children_of (body_without_writes b))
-    by (Pairs pairs writes) h = h
-    by (Children level children) h = h
-
-has_bare : (key : KeyBytes) (slot : Slot) → HasEntry (slot_without_writes slot) key → HasEntry slot key
-has_bare key Free h = h
-has_bare key (Gone l) h = h
-has_bare key (Live s) h = by s.body h
-  where
-    by : (b : Body) → HasAmong key (children_of (body_without_writes b)) → HasAmong key (children_of b)
-    by (Pairs pairs writes) h = h
-    by (Children level children) h = h
-
-pub entries_alike : (key : KeyBytes) (slot other : Slot) (r : Bool) → slot_without_writes slot ≡ slot_without_writes other → Decides r (HasEntry other key) → Decides r (HasEntry slot key)
-entries_alike key slot other r same decides = (
-  λ yes. has_bare key slot (subst (λ (o : Slot). HasEntry o key) (sym same) (bare_has key other (decides.0 yes))),
-  λ has. decides.1 (has_bare key other (subst (λ (o : Slot). HasEntry o key) same (bare_has key slot has))),
-)
-
 -- nor to where a page begins
 pub starts_alike : (key : KeyBytes) (slot other : Slot) → slot_without_writes slot ≡ slot_without_writes other → StartsUpto slot key → StartsUpto other key
 starts_alike key slot other same starts = has_bare_start other (subst (λ (o : Slot). StartsUpto o key) same (bare_start slot starts))
@@ -239,8 +178,3 @@ starts_under key bases (Some d) inner none starts = by d.now none starts
     by (Removed left) h starts = absurd h
     by (AddChild k child) h starts = starts
     by (DropChild k) h starts = starts
-
-pub over_decides : (key : KeyBytes) (bases : Bases) (o : Option (Bor Delta)) (at : Bor Delta) (delta : Delta) (slot : Slot) (r : Bool) → o ≡ Some at → at.now ≡ delta → Decides r (HasEntry (change bases delta slot) key) → Decides r (HasEntry (over bases o slot) key)
-over_decides key bases o at delta slot r some is decides =
-    subst (λ (x : Option (Bor Delta)). Decides r (HasEntry (over bases x slot) key)) (sym some)
-    (subst (λ (d : Delta). Decides r (HasEntry (change bases d slot) key)) (sym is) decides)

@@ -108,9 +108,11 @@ module _ (slots : List Slot) (root : ℕ) (levels : List (List ℕ)) (child : �
 
   -- each child begins where it began
   exact_new : AreExact slots levels → AreExact slots after
+  unfolding term_was
   exact_new exact = record {
     begins = λ m k c s lt t is. exact.begins m k c s (was_within (suc m) lt) (term_was m k c lt t) is;
     began = λ m k c g lt t is. exact.began m k c g (was_within (suc m) lt) (term_was m k c lt t) is;
+    behind = λ m k c g lt t is. exact.behind m k c g (was_within (suc m) lt) (term_was m k c lt t) is;
     once = λ m k h c lt one other. exact.once m k h c (was_within (suc m) lt) (term_was m k c lt one) (term_was m h c lt other);
   }
 

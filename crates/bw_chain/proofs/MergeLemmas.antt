@@ -20,7 +20,7 @@ use Rattle.bw_delta.specs.Writes.{WriteView}
 use Rattle.bw_chain.specs.Entries.{AreExact}
 use Rattle.bw_chain.specs.Laws.{MergesAreKept}
 use Rattle.bw_chain.specs.Levels.{AreLevels, BeginsWith, FirstChild, IsHome, LeadsBelow, SideBySide, Stands, StartsWith, row}
-use Rattle.bw_chain.specs.Merges.{IsMerged, bodies_joined, level_merged, state_joined, without_page}
+use Rattle.bw_chain.specs.Merges.{IsNoFirstChild, IsMerged, bodies_joined, level_merged, state_joined, without_page}
 use Rattle.bw_chain.specs.Reading.{body_pairs, body_writes, contents_in, row_writes, value_in, writes_over}
 use Rattle.bw_chain.specs.Slots.{Slot, PageState, Body, Pairs, Children, Gone, Live, IsSoundBody, IsSoundPage, children_of, left_of, left_of_slot, level_of, slot_at}
 use Rattle.bw_chain.specs.Steps.{IsTerm, KeepsLevels}
@@ -168,7 +168,7 @@ had_before q r (x ∷ ps) has = by (nat_eq x q) has (had_before q r ps)
     by false (zero, lt, is) more = (zero, omega arith, is)
     by false (suc i, lt, is) more = later (more (i, omega arith, is))
 
-module _ (old new : List Slot) (root : ℕ) (levels : List (List ℕ)) (level p q : ℕ) (lawful : AreLevels old root levels) (within : level < length levels) (has : Contains (row levels level) p) (merged : IsMerged old new p q) where
+module _ (old new : List Slot) (root : ℕ) (levels : List (List ℕ)) (level p q : ℕ) (lawful : AreLevels old root levels) (within : level < length levels) (has : Contains (row levels level) p) (inner : IsNoFirstChild old levels q) (merged : IsMerged old new p q) where
   abbrev left : PageState
   left = merged.left
 
@@ -543,11 +543,43 @@ module _ (old new : List Slot) (root : ℕ) (levels : List (List ℕ)) (level p 
         ap (λ (x : RemovedPage). x.level) same ∙ right_level ∙ sym here,
       )
 
+  -- no page begins with a removed child: neither with q nor with one of before, and p begins before q did
+  lies_behind : AreExact old levels → (n : ℕ) (k : KeyBytes) (c : ℕ) (g : RemovedPage) → suc n < length levels → (had : IsTerm old levels n k c) → slot_at new c ≡ Gone g → (c ≡ p) ⊎ (c ≡ p → ⊥) → (c ≡ q) ⊎ (c ≡ q → ⊥) → is_lt (key_cmp had.state.low k) ≡ true
+  lies_behind exact n k c g lt had is (inl here) h = absurd (not_live (sym is ∙ ap (slot_at new) here ∙ merged.joined))
+  lies_behind exact n k c g lt had is (inr other) (inl there) =
+      inner n k lt (record { page = had.page; in_level = had.in_level; state = had.state; is = had.is; named = subst (λ x. Contains (children_of had.state.body) (k, x)) there had.named })
+  lies_behind exact n k c g lt had is (inr other) (inr differs) = exact.behind n k c g lt had (sym (merged.others c other differs) ∙ is)
+
+  behind_there : AreExact old levels → (n : ℕ) (k : KeyBytes) (c : ℕ) (g : RemovedPage) → suc n < length levels → (t : IsTerm new after n k c) → slot_at new c ≡ Gone g → is_lt (key_cmp t.state.low k) ≡ true
+  behind_there exact n k c g lt t is = by (cases_eq t.page p) (was_in (suc n) t.page t.in_level)
+    where
+      lies : (had : IsTerm old levels n k c) → is_lt (key_cmp had.state.low k) ≡ true
+      lies had = lies_behind exact n k c g lt had is (cases_eq c p) (cases_eq c q)
+
+      by : (t.page ≡ p) ⊎ (t.page ≡ p → ⊥) → Contains (row levels (suc n)) t.page → is_lt (key_cmp t.state.low k) ≡ true
+      by (inl here) there =
+          ap (λ (s : PageState). is_lt (key_cmp s.low k)) same
+          ∙ of_either (joined_children left.body right.body (k, c) (subst (λ (s : PageState). Contains (children_of s.body) (k, c)) same t.named))
+        where
+          same : t.state ≡ both
+          same = one_state (sym t.is ∙ ap (slot_at new) here ∙ merged.joined)
+
+          p_there : Contains (row levels (suc n)) p
+          p_there = subst (Contains (row levels (suc n))) here there
+
+          of_either : Contains (children_of left.body) (k, c) ⊎ Contains (children_of right.body) (k, c) → is_lt (key_cmp left.low k) ≡ true
+          of_either (inl named) = lies (record { page = p; in_level = p_there; state = left; is = merged.left_is; named = named })
+          of_either (inr named) =
+              below_trans left.low right.low k rises
+              (lies (record { page = q; in_level = subst (λ m. Contains (row levels m) q) (sym (level_of_left (suc n) lt p_there)) behind.in_level; state = right; is = merged.right_is; named = named }))
+      by (inr other) there = lies (record { page = t.page; in_level = there; state = t.state; is = sym (merged.others t.page other (not_gone t.page t.state t.is)) ∙ t.is; named = t.named })
+
   -- so index entries stay exact
   exact_new : AreExact old levels → AreExact new after
   exact_new exact = record {
     begins = λ n k c s lt term is. let b = began c s is in sym b.2 ∙ exact.begins n k c b.0 (above n lt) (term_was n k c (above n lt) term) b.1;
     began = λ n k c g lt term is. began_there exact n k c g (above n lt) (term_was n k c (above n lt) term) is (cases_eq c p) (cases_eq c q);
+    behind = λ n k c g lt term is. behind_there exact n k c g (above n lt) term is;
     once = λ n k h c lt one other. exact.once n k h c (above n lt) (term_was n k c (above n lt) one) (term_was n h c (above n lt) other);
   }
     where
@@ -649,9 +681,9 @@ module _ (old new : List Slot) (root : ℕ) (levels : List (List ℕ)) (level p 
       m.value stamp ∙ ap (λ z. value_in (slot_at old z) key stamp) (one_home old root levels lawful key m.page x m.home h))
 
 pub merges_kept : MergesAreKept
-merges_kept old new root levels level p q lawful within has merged = record {
-  lawful = lawful_new old new root levels level p q lawful within has merged;
-  exact = exact_new old new root levels level p q lawful within has merged;
-  writes = writes_kept old new root levels level p q lawful within has merged;
-  contents = contents_new old new root levels level p q lawful within has merged;
+merges_kept old new root levels level p q lawful within has inner merged = record {
+  lawful = lawful_new old new root levels level p q lawful within has inner merged;
+  exact = exact_new old new root levels level p q lawful within has inner merged;
+  writes = writes_kept old new root levels level p q lawful within has inner merged;
+  contents = contents_new old new root levels level p q lawful within has inner merged;
 }

@@ -282,21 +282,27 @@ module _ (old new : List Slot) (root : ℕ) (levels : List (List ℕ)) (t : ℕ)
       (begins_still grown.high begins.second.0 begins.second.1.0 grown.side begins.second.1.1)
   top_begins k c (suc (suc i), lt, is) = absurd (omega arith)
 
-  -- an entry was one, or is one of the new root's two
-  term_was : (m : ℕ) (k : KeyBytes) (c : ℕ) → IsTerm new after m k c → (suc m < length levels) ⊎ (suc m ≡ length levels) → (suc m < length levels × IsTerm old levels m k c) ⊎ BeginsAt k c
-  term_was m k c term (inl low) =
+  -- an entry of a level that was there was one
+  old_term : (m : ℕ) (k : KeyBytes) (c : ℕ) → IsTerm new after m k c → suc m < length levels → IsTerm old levels m k c
+  old_term m k c term low =
       let there : Contains (row levels (suc m)) term.page = subst (λ (ps : List ℕ). Contains ps term.page) (row_same (suc m) low) term.in_level in
       let st = (in_row old (suc m) [] (row levels (suc m)) there.0 term.page (lawful.rows (suc m) low) there.1 there.2).stands in
-      inl (low, record { page = term.page; in_level = there; state = term.state; is = sym (still_live term.page st.state st.is) ∙ term.is; named = term.named })
+      record { page = term.page; in_level = there; state = term.state; is = sym (still_live term.page st.state st.is) ∙ term.is; named = term.named }
+
+  -- an entry was one, or is one of the new root's two
+  term_was : (m : ℕ) (k : KeyBytes) (c : ℕ) → IsTerm new after m k c → (suc m < length levels) ⊎ (suc m ≡ length levels) → (suc m < length levels × IsTerm old levels m k c) ⊎ BeginsAt k c
+  term_was m k c term (inl low) = inl (low, old_term m k c term low)
   term_was m k c term (inr last) =
       let at : t ≡ term.page = only t term.page (subst (λ (ps : List ℕ). Contains ps term.page) (row_top (suc m) last) term.in_level) in
       let state : term.state ≡ top = one_state (sym term.is ∙ ap (slot_at new) (sym at) ∙ grown.top) in
       inr (top_begins k c (subst (λ (z : PageState). Contains (children_of z.body) (k, c)) state term.named))
 
   exact_new : AreExact old levels → AreExact new after
+  unfolding old_term
   exact_new exact = record {
     begins = λ m k c s lt term is. begins_there m k c s is (term_was m k c term (which (suc m) lt));
     began = λ m k c g lt term is. began_there m k c g is (term_was m k c term (which (suc m) lt));
+    behind = λ m k c g lt term is. behind_there m k c g term is (which (suc m) lt);
     once = λ m k h c lt one other. same_key m k h c (term_was m k c one (which (suc m) lt)) (term_was m h c other (which (suc m) lt));
   }
     where
@@ -308,10 +314,23 @@ module _ (old new : List Slot) (root : ℕ) (levels : List (List ℕ)) (t : ℕ)
       begins_there m k c s is (inl (low, had)) =
           exact.begins m k c s low had (sym (grown.others c (λ added. child_there old root levels lawful m k c low had (ap (slot_at old) added ∙ grown.free))) ∙ is)
 
+      was_gone : (m : ℕ) (k : KeyBytes) (c : ℕ) (g : RemovedPage) → suc m < length levels → IsTerm old levels m k c → slot_at new c ≡ Gone g → slot_at old c ≡ Gone g
+      was_gone m k c g low had is = sym (grown.others c (λ added. child_there old root levels lawful m k c low had (ap (slot_at old) added ∙ grown.free))) ∙ is
+
       began_there : (m : ℕ) (k : KeyBytes) (c : ℕ) (g : RemovedPage) → slot_at new c ≡ Gone g → (suc m < length levels × IsTerm old levels m k c) ⊎ BeginsAt k c → (g.low ≡ k) × (g.level ≡ m)
       began_there m k c g is (inr b) = absurd (not_gone (sym b.1 ∙ is))
-      began_there m k c g is (inl (low, had)) =
-          exact.began m k c g low had (sym (grown.others c (λ added. child_there old root levels lawful m k c low had (ap (slot_at old) added ∙ grown.free))) ∙ is)
+      began_there m k c g is (inl (low, had)) = exact.began m k c g low had (was_gone m k c g low had is)
+
+      -- an entry of the new root isn't one of a removed page
+      behind_there : (m : ℕ) (k : KeyBytes) (c : ℕ) (g : RemovedPage) (term : IsTerm new after m k c) → slot_at new c ≡ Gone g → (suc m < length levels) ⊎ (suc m ≡ length levels) → is_lt (key_cmp term.state.low k) ≡ true
+      behind_there m k c g term is (inl low) =
+          let had : IsTerm old levels m k c = old_term m k c term low in
+          exact.behind m k c g low had (was_gone m k c g low had is)
+      behind_there m k c g term is (inr last) = by (term_was m k c term (inr last))
+        where
+          by : (suc m < length levels × IsTerm old levels m k c) ⊎ BeginsAt k c → is_lt (key_cmp term.state.low k) ≡ true
+          by (inl had) = absurd (omega (arith, had.0, last))
+          by (inr b) = absurd (not_gone (sym b.1 ∙ is))
 
       same_key : (m : ℕ) (k h : KeyBytes) (c : ℕ) → (suc m < length levels × IsTerm old levels m k c) ⊎ BeginsAt k c → (suc m < length levels × IsTerm old levels m h c) ⊎ BeginsAt h c → k ≡ h
       same_key m k h c (inl (low, one)) (inl (_, other)) = exact.once m k h c low one other

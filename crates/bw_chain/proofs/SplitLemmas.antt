@@ -4,8 +4,10 @@ use Rattle.std.proofs.lemmas.Bool.{cases_eq}
 use Rattle.std.proofs.lemmas.Bool.Decides.{nat_tests}
 use Rattle.std.proofs.lemmas.List.{get_or-set_same, get_or-set_other, length-set}
 use Rattle.std.specs.List.{Contains, list_all}
+use Rattle.std.specs.Prelude.{slice_get}
 use Rattle.std.specs.Ordering.{is_lt}
-use Rattle.std.specs.FinMap.{find}
+use Rattle.std.specs.FinMap.{find, is_sorted}
+use Rattle.std.specs.Option.{option_map}
 use Rattle.bw_key.specs.Order.{KeyBytes, key_cmp}
 use Rattle.bw_model.specs.Contents.{is_below_end, is_in_range, is_pair_in_range}
 use Rattle.bw_model.specs.Values.{ValueBytes}
@@ -18,16 +20,18 @@ use Rattle.bw_page.proofs.Truths.{holds, true_holds, holds_not, not_holds, left_
 use Rattle.bw_delta.specs.Batches.{writes_to}
 use Rattle.bw_delta.specs.History.{HasDistinctStamps, history, action_at}
 use Rattle.bw_delta.specs.Writes.{WriteView}
+use Rattle.bw_chain.specs.Before.{removed_at}
 use Rattle.bw_chain.specs.Chains.{body_below}
 use Rattle.bw_chain.specs.Entries.{AreExact}
 use Rattle.bw_chain.specs.Laws.{PartsAreKept}
 use Rattle.bw_chain.specs.Levels.{AreLevels, BeginsWith, FirstChild, IsHome, LeadsBelow, SideBySide, Stands, StartsWith, row}
 use Rattle.bw_chain.specs.Reading.{body_pairs, body_writes, contents_in, row_writes, value_in, writes_over}
 use Rattle.bw_chain.specs.Slots.{Slot, PageState, Body, Pairs, Children, Free, Gone, Live, IsSoundBody, IsSoundPage, children_of, left_of, left_of_slot, level_of, slot_at}
-use Rattle.bw_chain.specs.Splits.{IsParted, entry_count, first_entries, left_part, level_parted, other_entries, put_behind, right_part, separator}
+use Rattle.bw_chain.specs.Splits.{HasNoRemovedAt, IsParted, entry_count, first_entries, left_part, level_parted, other_entries, put_behind, right_part, separator, slot_child}
 use Rattle.bw_chain.specs.Steps.{IsTerm, KeepsLevels}
 use Rattle.bw_chain.proofs.CutLemmas.{below_cut, find_first, find_other, lower_inner, lower_page}
 use Rattle.bw_chain.proofs.HomeLemmas.{one_home}
+use Rattle.bw_chain.proofs.IndexLemmas.{behind_first}
 use Rattle.bw_chain.proofs.LeafRowLemmas.{wide_of}
 use Rattle.bw_chain.proofs.RowLemmas.{InRow, in_row, first_stands, row_on, same_each}
 use Rattle.bw_chain.proofs.StepLemmas.{child_there, contents_kept, levels_kept}
@@ -41,6 +45,9 @@ not_free e = cc
 
 not_gone : {s : PageState} {g : RemovedPage} → Live s ≡ Gone g → ⊥
 not_gone e = cc
+
+none_removed : {g : RemovedPage} → None ≡ Some g → ⊥
+none_removed e = cc
 
 is_here : (x p : ℕ) → x ≡ p → nat_eq x p ≡ true
 is_here x p e = grind (arith, nat_tests)
@@ -123,6 +130,22 @@ starts_first zero (Children level children) k c some starts = absurd (omega arit
 starts_first (suc keep) (Children level []) k c some starts = starts
 starts_first (suc keep) (Children level (x ∷ children)) k c some starts = starts
 
+-- a child from a place on is the one at that place, or its separator lies above that one's
+first_or_behind : (keep : ℕ) (es : List (KeyBytes × ℕ)) (k : KeyBytes) (c : ℕ) → T (is_sorted key_cmp es) → Contains (drop keep es) (k, c) → (slice_get es keep ≡ Some (k, c)) ⊎ (is_lt (key_cmp (first_key (drop keep es)) k) ≡ true)
+first_or_behind zero [] k c sorted has = absurd (omega (arith, has.1))
+first_or_behind zero (e ∷ es) k c sorted (zero, lt, at) = inl (ap Some at)
+first_or_behind zero (e ∷ es) k c sorted (suc i, lt, at) = inr (behind_first e.0 es (k, c) (left_of_both _ _ sorted) (i, omega (arith, lt), at))
+first_or_behind (suc keep) [] k c sorted has = absurd (omega (arith, has.1))
+first_or_behind (suc keep) (e ∷ es) k c sorted has = first_or_behind keep es k c (right_of_both _ _ sorted) has
+
+moved_behind : (low : KeyBytes) (high : Option KeyBytes) (side : Option ℕ) (keep : ℕ) (b : Body) (k : KeyBytes) (c : ℕ) → IsSoundBody low high side b → Contains (children_of (other_entries keep b)) (k, c) → (option_map (λ (e : KeyBytes × ℕ). e.1) (slice_get (children_of b) keep) ≡ Some c) ⊎ (is_lt (key_cmp (separator keep b) k) ≡ true)
+moved_behind low high side keep (Pairs pairs writes) k c sound has = absurd (omega (arith, has.1))
+moved_behind low high side keep (Children level children) k c sound has = by (first_or_behind keep children k c sound.page.sorted has)
+  where
+    by : (slice_get children keep ≡ Some (k, c)) ⊎ (is_lt (key_cmp (first_key (drop keep children)) k) ≡ true) → (option_map (λ (e : KeyBytes × ℕ). e.1) (slice_get children keep) ≡ Some c) ⊎ (is_lt (key_cmp (first_key (drop keep children)) k) ≡ true)
+    by (inl at) = inl (ap (option_map (λ (e : KeyBytes × ℕ). e.1)) at)
+    by (inr above) = inr above
+
 -- a split record leaves a page that was cut there as it is
 pub cut_is : (low : KeyBytes) (high : Option KeyBytes) (side : Option ℕ) (keep : ℕ) (b : Body) → IsSoundBody low high side b → keep < entry_count b → body_below (separator keep b) (first_entries keep b) ≡ first_entries keep b
 cut_is low high side keep (Pairs pairs writes) sound fewer = ap (λ (es : List (KeyBytes × ValueBytes)). Pairs es writes) (below_cut keep pairs sound.page.sorted fewer)
@@ -159,7 +182,7 @@ had p q r (x ∷ ps) has = by (nat_eq x p) refl has (had p q r ps)
     by true test (suc (suc i), lt, is) more = later (more (i, omega arith, is))
     by false test (suc i, lt, is) more = later (more (i, omega arith, is))
 
-module _ (old new : List Slot) (root : ℕ) (levels : List (List ℕ)) (level p q keep : ℕ) (lawful : AreLevels old root levels) (within : level < length levels) (has : Contains (row levels level) p) (parted : IsParted old new p q keep) where
+module _ (old new : List Slot) (root : ℕ) (levels : List (List ℕ)) (level p q keep : ℕ) (lawful : AreLevels old root levels) (within : level < length levels) (has : Contains (row levels level) p) (live : HasNoRemovedAt old p keep) (parted : IsParted old new p q keep) where
   abbrev was : PageState
   was = parted.was
 
@@ -356,6 +379,7 @@ module _ (old new : List Slot) (root : ℕ) (levels : List (List ℕ)) (level p 
         let b = began n k c s (above n lt) had is in
         sym b.2 ∙ exact.begins n k c b.0 (above n lt) had b.1;
     began = λ n k c g lt term is. exact.began n k c g (above n lt) (term_was n k c (above n lt) term) (was_gone c g is (cases_eq c p) (cases_eq c q));
+    behind = λ n k c g lt term is. behind_there n k c g (above n lt) term (was_gone c g is (cases_eq c p) (cases_eq c q));
     once = λ n k h c lt one other. exact.once n k h c (above n lt) (term_was n k c (above n lt) one) (term_was n h c (above n lt) other);
   }
     where
@@ -366,6 +390,33 @@ module _ (old new : List Slot) (root : ℕ) (levels : List (List ℕ)) (level p 
       was_gone c g is (inl here) h = absurd (not_gone (sym parted.left ∙ ap (slot_at new) (sym here) ∙ is))
       was_gone c g is (inr other) (inl added) = absurd (not_gone (sym parted.right ∙ ap (slot_at new) (sym added) ∙ is))
       was_gone c g is (inr other) (inr old_one) = sym (parted.others c other old_one) ∙ is
+
+      -- the new page doesn't begin with a removed child, and p begins where it began
+      behind_there : (n : ℕ) (k : KeyBytes) (c : ℕ) (g : RemovedPage) → suc n < length levels → (t : IsTerm new after n k c) → slot_at old c ≡ Gone g → is_lt (key_cmp t.state.low k) ≡ true
+      behind_there n k c g lt t gone = by (was_in (suc n) t.page t.in_level)
+        where
+          moved : Contains (children_of (other_entries keep was.body)) (k, c) → is_lt (key_cmp key_at k) ≡ true
+          moved named = of (moved_behind was.low was.high was.side keep was.body k c sound named)
+            where
+              of : (option_map (λ (e : KeyBytes × ℕ). e.1) (slice_get (children_of was.body) keep) ≡ Some c) ⊎ (is_lt (key_cmp key_at k) ≡ true) → is_lt (key_cmp key_at k) ≡ true
+              of (inl at) = absurd (none_removed (sym (live c (ap (slot_child keep) parted.is ∙ at)) ∙ ap removed_at gone))
+              of (inr lies) = lies
+
+          at_page : Contains (row levels (suc n)) t.page → (t.page ≡ p) ⊎ (t.page ≡ p → ⊥) → is_lt (key_cmp t.state.low k) ≡ true
+          at_page there (inl here) =
+              let same : t.state ≡ left_part keep q was = one_state (sym t.is ∙ ap (slot_at new) here ∙ parted.left) in
+              let named = first_children keep was.body (k, c) (subst (λ (s : PageState). Contains (children_of s.body) (k, c)) same t.named) in
+              ap (λ (s : PageState). is_lt (key_cmp s.low k)) same
+              ∙ exact.behind n k c g lt (record { page = p; in_level = subst (Contains (row levels (suc n))) here there; state = was; is = parted.is; named = named }) gone
+          at_page there (inr other) =
+              let st = (in_row old (suc n) [] (row levels (suc n)) there.0 t.page (lawful.rows (suc n) lt) there.1 there.2).stands in
+              exact.behind n k c g lt (record { page = t.page; in_level = there; state = t.state; is = sym (parted.others t.page other (not_new t.page st.state st.is)) ∙ t.is; named = t.named }) gone
+
+          by : Contains (row levels (suc n)) t.page ⊎ ((t.page ≡ q) × Contains (row levels (suc n)) p) → is_lt (key_cmp t.state.low k) ≡ true
+          by (inl there) = at_page there (cases_eq t.page p)
+          by (inr added) =
+              let same : t.state ≡ right_part keep was = one_state (sym t.is ∙ ap (slot_at new) added.0 ∙ parted.right) in
+              ap (λ (s : PageState). is_lt (key_cmp s.low k)) same ∙ moved (subst (λ (s : PageState). Contains (children_of s.body) (k, c)) same t.named)
 
   -- neither part has writes, as the page had none
   writes_same : (x : ℕ) → writes_over (slot_at new x) ≡ writes_over (slot_at old x)
@@ -473,9 +524,9 @@ module _ (old new : List Slot) (root : ℕ) (levels : List (List ℕ)) (level p 
       m.value stamp ∙ ap (λ z. value_in (slot_at old z) key stamp) (one_home old root levels lawful key m.page x m.home h))
 
 pub parts_kept : PartsAreKept
-parts_kept old new root levels level p q keep lawful within has parted = record {
-  lawful = lawful_new old new root levels level p q keep lawful within has parted;
-  exact = exact_new old new root levels level p q keep lawful within has parted;
-  writes = writes_kept old new root levels level p q keep lawful within has parted;
-  contents = contents_new old new root levels level p q keep lawful within has parted;
+parts_kept old new root levels level p q keep lawful within has live parted = record {
+  lawful = lawful_new old new root levels level p q keep lawful within has live parted;
+  exact = exact_new old new root levels level p q keep lawful within has live parted;
+  writes = writes_kept old new root levels level p q keep lawful within has live parted;
+  contents = contents_new old new root levels level p q keep lawful within has live parted;
 }

@@ -5,6 +5,7 @@ use Rattle.std.specs.Ordering.{is_lt}
 use Rattle.bw_key.specs.Order.{KeyBytes, key_cmp, key_eq}
 use Rattle.bw_model.specs.Contents.{is_below_end}
 use Rattle.bw_page.specs.declared.pages.Page.{Page}
+use Rattle.bw_page.specs.declared.pages.RemovedPage.{RemovedPage}
 use Rattle.bw_delta.specs.declared.deltas.Delta.TheVariants.{DropChild}
 use Rattle.bw_chain.specs.Chains.{ChainsView, body_with_child, page_at, plain}
 use Rattle.bw_chain.specs.Slots.{Slot, PageState, Body, Pairs, Children, Free, Gone, Live, children_of, slot_at}
@@ -57,7 +58,7 @@ pub record HasLost (old new : ChainsView) (word : ℕ) (sep : KeyBytes) : Type 0
   pub bases : new.bases ≡ slice_set old.bases word (Some page)
   pub records : new.records ≡ old.records ++ (DropChild sep, word) ∷ []
 
--- The page is an inner one, and may do without the child at the separator: that key isn't the one at which it begins.
+-- The page is an inner one and names a removed page at the separator, which isn't the key at which it begins.
 pub record MayDropChild (slots : List Slot) (levels : List (List ℕ)) (parent : ℕ) (sep : KeyBytes) : Type 0 where
   pub level : ℕ
   pub within : suc level < length levels
@@ -65,6 +66,10 @@ pub record MayDropChild (slots : List Slot) (levels : List (List ℕ)) (parent :
   pub state : PageState
   pub is : slot_at slots parent ≡ Live state
   pub above : is_lt (key_cmp state.low sep) ≡ true
+  pub child : ℕ
+  pub named : Contains (children_of state.body) (sep, child)
+  pub removed : RemovedPage
+  pub gone : slot_at slots child ≡ Gone removed
 
 -- The page no longer names the child at the separator. All other pages are as before.
 pub record HasDroppedChild (old new : List Slot) (parent : ℕ) (sep : KeyBytes) : Type 0 where
@@ -73,13 +78,7 @@ pub record HasDroppedChild (old new : List Slot) (parent : ℕ) (sep : KeyBytes)
   pub now : slot_at new parent ≡ Live (state_without_child sep was)
   pub others : (r : ℕ) → (r ≡ parent → ⊥) → slot_at new r ≡ slot_at old r
 
--- the page has an index entry at the key: a child with that separator
-abbrev pub HasEntry : Slot → KeyBytes → Type 0
-HasEntry (Live s) key = (child : ℕ) × Contains (children_of s.body) (key, child)
-HasEntry (Gone l) key = ⊥
-HasEntry Free key = ⊥
-
--- the page has this child at the key
+-- the page has an index entry at the key: this child, with that separator
 abbrev pub HasChildAt : Slot → KeyBytes → ℕ → Type 0
 HasChildAt (Live s) key child = Contains (children_of s.body) (key, child)
 HasChildAt (Gone l) key child = ⊥

@@ -10,9 +10,9 @@ use Rattle.bw_chain.specs.Reading.{contents_in, row_writes, value_in}
 use Rattle.bw_chain.specs.Chains.{Bases, Records, slot_of_word}
 use Rattle.bw_chain.specs.Children.{FitsChild, HasChild, HasDroppedChild, MayDropChild}
 use Rattle.bw_chain.specs.Entries.{AreExact}
-use Rattle.bw_chain.specs.Merges.{IsMerged, level_merged}
+use Rattle.bw_chain.specs.Merges.{IsMerged, IsNoFirstChild, level_merged}
 use Rattle.bw_chain.specs.Roots.{HasOneChild, IsGrown, levels_grown, levels_lowered}
-use Rattle.bw_chain.specs.Splits.{IsParted, level_parted}
+use Rattle.bw_chain.specs.Splits.{HasNoRemovedAt, IsParted, level_parted}
 use Rattle.bw_chain.specs.Steps.{AreAlike, KeepsLevels}
 use Rattle.bw_chain.specs.Supports.{KeepsBases, supports_at}
 
@@ -80,7 +80,7 @@ pub record KeepsAll (old new : List Slot) (root : ℕ) (levels levels' : List (L
 abbrev pub PartsAreKept : Type 0
 PartsAreKept =
     (old new : List Slot) (root : ℕ) (levels : List (List ℕ)) (level p q keep : ℕ) → AreLevels old root levels →
-    level < length levels → Contains (row levels level) p → IsParted old new p q keep →
+    level < length levels → Contains (row levels level) p → HasNoRemovedAt old p keep → IsParted old new p q keep →
     KeepsAll old new root levels (level_parted levels level p q)
 
 -- where a page of a level names one more page of the level below, the levels stay
@@ -100,7 +100,7 @@ LevelsAreGrown =
 abbrev pub MergesAreKept : Type 0
 MergesAreKept =
     (old new : List Slot) (root : ℕ) (levels : List (List ℕ)) (level p q : ℕ) → AreLevels old root levels →
-    level < length levels → Contains (row levels level) p → IsMerged old new p q →
+    level < length levels → Contains (row levels level) p → IsNoFirstChild old levels q → IsMerged old new p q →
     KeepsAll old new root levels (level_merged levels level q)
 
 -- where a page no longer names a child, the levels stay

@@ -1,5 +1,7 @@
 -- A page is absorbed by its left neighbour: it is removed, and that neighbour has its entries and goes on to its end.
-use Rattle.std.specs.Prelude.{◌≡◌, ℕ, if◌then◌else◌, nat_eq, List, [], ◌∷◌, ◌++◌, Some, is_some, slice_set}
+use Rattle.std.specs.Prelude.{◌≡◌, ℕ, suc, ◌<◌, true, if◌then◌else◌, nat_eq, List, [], ◌∷◌, ◌++◌, Some, is_some, length, slice_set}
+use Rattle.std.specs.Ordering.{is_lt}
+use Rattle.bw_key.specs.Order.{KeyBytes, key_cmp}
 use Rattle.bw_page.specs.declared.pages.Page.{Page}
 use Rattle.bw_delta.specs.declared.deltas.Delta.{Delta}
 use Rattle.bw_delta.specs.declared.deltas.Delta.TheVariants.{Absorb, Removed}
@@ -9,6 +11,7 @@ use Rattle.bw_chain.specs.Levels.{row}
 use Rattle.bw_chain.specs.Reading.{body_writes}
 use Rattle.bw_chain.specs.Scans.{high_of}
 use Rattle.bw_chain.specs.Slots.{Slot, PageState, Body, Pairs, Children, Free, Gone, Live, body_is_leaf, level_of, side_of_slot, slot_at}
+use Rattle.bw_chain.specs.Steps.{IsTerm}
 
 -- the entries of two pages of one kind
 abbrev pub bodies_joined : Body → Body → Body
@@ -39,6 +42,11 @@ pub record IsMerged (old new : List Slot) (p q : ℕ) : Type 0 where
   pub joined : slot_at new p ≡ Live (state_joined left right)
   pub gone : slot_at new q ≡ Gone (record { left = p; level = level_of right.body; low = right.low })
   pub others : (r : ℕ) → (r ≡ p → ⊥) → (r ≡ q → ⊥) → slot_at new r ≡ slot_at old r
+
+-- no page of the level above begins with this child: its separator lies above the key where the page begins
+abbrev pub IsNoFirstChild : List Slot → List (List ℕ) → ℕ → Type 0
+IsNoFirstChild slots levels c = (n : ℕ) (k : KeyBytes) → suc n < length levels →
+    (term : IsTerm slots levels n k c) → is_lt (key_cmp term.state.low k) ≡ true
 
 -- two pages of one kind and level, the second of which begins where the first one ends
 pub record AreNeighbours (slot right : Slot) : Type 0 where

@@ -1,12 +1,14 @@
 -- A page parts in two: it keeps its first entries, and a new page right of it has the others.
-use Rattle.std.specs.Prelude.{◌≡◌, ℕ, ◌<◌, Bool, true, false, if◌then◌else◌, nat_eq, List, [], ◌∷◌, ◌++◌, Option, Some, None, length, take, drop, slice_set}
+use Rattle.std.specs.Prelude.{◌≡◌, ℕ, ◌<◌, Bool, true, false, if◌then◌else◌, nat_eq, List, [], ◌∷◌, ◌++◌, Option, Some, None, length, take, drop, slice_get, slice_set}
+use Rattle.std.specs.Option.{option_map}
 use Rattle.bw_key.specs.Order.{KeyBytes}
 use Rattle.bw_page.specs.Pages.{first_key}
 use Rattle.bw_page.specs.declared.pages.Page.{Page}
 use Rattle.bw_delta.specs.declared.deltas.Delta.{Delta}
 use Rattle.bw_delta.specs.declared.deltas.Delta.TheVariants.{Put, Split, Absorb, Removed, AddChild, DropChild}
+use Rattle.bw_chain.specs.Before.{removed_at}
 use Rattle.bw_chain.specs.Chains.{ChainsView, page_at, plain}
-use Rattle.bw_chain.specs.Slots.{Slot, PageState, Body, Pairs, Children, Free, Gone, Live, slot_at}
+use Rattle.bw_chain.specs.Slots.{Slot, PageState, Body, Pairs, Children, Free, Gone, Live, children_of, slot_at}
 use Rattle.bw_chain.specs.Levels.{row}
 use Rattle.bw_chain.specs.Reading.{body_writes}
 use Rattle.bw_chain.specs.Supports.{base_under}
@@ -89,6 +91,17 @@ abbrev pub slot_left : ℕ → Slot → Slot
 slot_left keep (Live s) = Live (record s { body = first_entries keep s.body })
 slot_left keep (Gone l) = Gone l
 slot_left keep Free = Free
+
+-- the child of an inner page at a place among its children
+abbrev pub slot_child : ℕ → Slot → Option ℕ
+slot_child place (Live s) = option_map (λ e. e.1) (slice_get (children_of s.body) place)
+slot_child place (Gone l) = None
+slot_child place Free = None
+
+-- the child of an inner page at this place, if it has so many, isn't a removed page
+abbrev pub HasNoRemovedAt : List Slot → ℕ → ℕ → Type 0
+HasNoRemovedAt slots p place =
+    (c : ℕ) → slot_child place (slot_at slots p) ≡ Some c → removed_at (slot_at slots c) ≡ None
 
 -- A base page without a record is cut: it keeps its bounds and first entries, and a base page behind all others has the
 -- other entries. A record over it, the last one, says where the page ends and that it has this right neighbour.

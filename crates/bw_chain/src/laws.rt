@@ -49,8 +49,9 @@ pub fn contents_are_kept()
     ensures { ContentsAreKept }
 {}
 
-/// The law of a split: where a page of some level parts in two, the levels are lawful with the new page behind it, index
-/// entries stay exact, and the levels hold what they held. It does nothing: its contract is the law.
+/// The law of a split: where a page of some level parts in two, and the new page doesn't begin with a removed child, the
+/// levels are lawful with that page behind it, index entries stay exact, and the levels hold what they held. It does nothing:
+/// its contract is the law.
 pub fn parts_are_kept()
     ensures { PartsAreKept }
 {}
@@ -68,14 +69,14 @@ pub fn levels_are_grown()
     ensures { LevelsAreGrown }
 {}
 
-/// The law of a merge: where a page of some level is removed and its left neighbour takes over its entries and its range,
-/// the levels are lawful without it, also while an index entry still names it; index entries stay exact, and the levels
-/// hold what they held. It does nothing: its contract is the law.
+/// The law of a merge: where a page of some level is removed, with which no page above begins, and its left neighbour takes
+/// over its entries and its range, the levels are lawful without it, also while an index entry still names it; index entries
+/// stay exact, and the levels hold what they held. It does nothing: its contract is the law.
 pub fn merges_are_kept()
     ensures { MergesAreKept }
 {}
 
-/// The law of an index entry that goes: where a page no longer names a child, which isn't its first one, the levels stay,
+/// The law of an index entry that goes: where a page no longer names a removed child, not its first one, the levels stay,
 /// their index entries stay exact, and they hold what they held. It does nothing: its contract is the law.
 pub fn dropped_child_is_kept()
     ensures { DroppedChildIsKept }

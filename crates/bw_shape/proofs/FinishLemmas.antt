@@ -1,12 +1,13 @@
 -- A page above that is left as a base page by itself, and then names one more page.
-use Rattle.std.proofs.Common.{ℕ, ◌∙◌, subst, slice_index, arith}
+use Rattle.std.proofs.Common.{inl, inr, ◌≡◌, ℕ, ◌∙◌, sym, subst, slice_index, arith}
 use Rattle.std.proofs.lemmas.List.{set-set}
 use Rattle.bw_key.specs.Order.{KeyBytes}
 use Rattle.bw_chain.specs.Children.{FitsChild}
-use Rattle.bw_tree.specs.Children.{IsNamed}
+use Rattle.bw_tree.specs.Children.{IsNamed, IsUnnamed}
 use Rattle.bw_tree.specs.Consolidation.{IsRebased}
 use Rattle.bw_tree.specs.Routing.{IsInnerPage}
 use Rattle.bw_tree.specs.View.{TreeView}
+use Rattle.bw_shape.specs.Steps.{IsNamerToBe, IsSameOver}
 
 -- a page that may name one of the level below is an inner page
 pub fits_inner : (tree : TreeView) (parent : ℕ) (sep : KeyBytes) (child : ℕ) → FitsChild tree.slots tree.levels parent sep child → IsInnerPage tree parent
@@ -30,3 +31,8 @@ named_over old mid new p sep child rebased named =
       next = on.next;
       staged = on.staged;
     }
+
+-- the page above may be a base page by itself now: it is the one that was to name the neighbour
+pub over_namer : (old new : TreeView) (p parent : ℕ) (sep : KeyBytes) (q : ℕ) → IsUnnamed old p parent sep q → IsSameOver (λ r. r ≡ parent) old new → IsSameOver (IsNamerToBe old p) old new
+over_namer old new p parent sep q u (inl same) = inl same
+over_namer old new p parent sep q u (inr page) = inr (page.0, (sep, (q, subst (λ r. IsUnnamed old p r sep q) (sym page.1.0) u)), page.1.1)

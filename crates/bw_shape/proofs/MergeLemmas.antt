@@ -10,7 +10,8 @@ use Rattle.bw_page.proofs.KeyLemmas.{neither_below}
 use Rattle.bw_page.proofs.Search.{same_keys}
 use Rattle.bw_page.proofs.Truths.{holds_not}
 use Rattle.bw_chain.specs.Before.{low_at, low_of}
-use Rattle.bw_chain.specs.Children.{HasChildAt, HasEntry, MayDropChild}
+use Rattle.bw_chain.specs.Children.{HasChildAt, MayDropChild}
+use Rattle.bw_chain.specs.Entries.{AreExact}
 use Rattle.bw_chain.specs.Levels.{AreLevels, BeginsWith, IsHomeAt, row}
 use Rattle.bw_chain.specs.Roots.{HasOneChild}
 use Rattle.bw_chain.specs.Searches.{IsInLevels}
@@ -18,14 +19,14 @@ use Rattle.bw_chain.specs.Slots.{Slot, PageState, Body, Pairs, Children, Free, G
 use Rattle.bw_chain.specs.Splits.{entry_count, slot_entries}
 use Rattle.bw_chain.proofs.AboveLemmas.{one_above}
 use Rattle.bw_tree.specs.Consolidation.{IsRebased}
-use Rattle.bw_tree.specs.Merges.{HasLostChild, IsLowered, MayBeLowered, StillNames}
+use Rattle.bw_tree.specs.Merges.{HasLostChild, IsLowered, IsNamerOfRemoved, MayBeLowered, MayMerge}
 use Rattle.bw_tree.specs.Pages.{IsLeft, IsNamer, IsPlain}
 use Rattle.bw_tree.specs.Routing.{IsInnerPage}
 use Rattle.bw_tree.specs.View.{TreeView}
 use Rattle.bw_tree.proofs.NeighbourLemmas.{left_beside, one_left}
 use Rattle.bw_tree.proofs.PageLemmas.{entry_home, one_namer}
 use Rattle.bw_tree.proofs.RootLemmas.{IsTop, top_of}
-use Rattle.bw_shape.specs.Merges.{HasLoweredRoot, IsDroppable, MayBeAbsorbed}
+use Rattle.bw_shape.specs.Merges.{HasLoweredRoot}
 use Rattle.bw_shape.proofs.PlainLemmas.{has_record}
 
 different : false ≡ true → ⊥
@@ -68,30 +69,9 @@ one_entry [] one = absurd (omega (arith, one))
 one_entry (e ∷ []) one = (e, refl)
 one_entry (e ∷ f ∷ es) one = absurd (omega (arith, one))
 
--- the keys at which a removed page and the page above begin
-low_is : (slot : Slot) (low : KeyBytes) → Some low ≡ low_at slot → low_of slot ≡ low
-low_is Free low e = absurd (no_key e)
-low_is (Gone g) low e = absurd (no_key e)
-low_is (Live s) low e = one_key (sym e)
-
-key_eq_of : (k q : KeyBytes) → k ≡ q → key_eq k q ≡ true
-key_eq_of k q same = subst (λ x. key_eq k x ≡ true) same (key_eq_equiv.refl k)
-
 -- a page is removed once, so both tell of the same key
-pub low_same : (tree : TreeView) (p parent : ℕ) (s : StillNames tree p parent) (g : RemovedPage) → slot_at tree.slots p ≡ Gone g → s.removed.low ≡ g.low
+pub low_same : (tree : TreeView) (p parent : ℕ) (s : IsNamerOfRemoved tree p parent) (g : RemovedPage) → slot_at tree.slots p ≡ Gone g → s.removed.low ≡ g.low
 low_same tree p parent s g gone = ap (λ (h : RemovedPage). h.low) (one_removed (sym s.is ∙ gone))
-
-pub compared : (tree : TreeView) (p parent : ℕ) (s : StillNames tree p parent) (g : RemovedPage) (low : KeyBytes) (b : Bool) → slot_at tree.slots p ≡ Gone g → Some low ≡ low_at (slot_at tree.slots parent) → b ≡ key_eq g.low low → Decides b (s.removed.low ≡ low_of (slot_at tree.slots parent))
-compared tree p parent s g low b gone begins is = (
-  λ yes. same ∙ same_keys g.low low (sym is ∙ yes) ∙ sym at,
-  λ e. is ∙ key_eq_of g.low low (sym same ∙ e ∙ at),
-)
-  where
-    same : s.removed.low ≡ g.low
-    same = low_same tree p parent s g gone
-
-    at : low_of (slot_at tree.slots parent) ≡ low
-    at = low_is (slot_at tree.slots parent) low begins
 
 -- nothing is there
 pub none_of : (o : Option ℕ) → is_some o ≡ false → o ≡ None
@@ -107,60 +87,42 @@ module _ (tree : TreeView) (root : ℕ) (lawful : AreLevels tree.slots root tree
   )
 
   -- the left neighbour of a page that may be absorbed
-  pub absorber_is : (p q r : ℕ) → IsLeft tree p q → MayBeAbsorbed tree p r → r ≡ q
-  absorber_is p q r left m = one_left tree root lawful p r q m.left left
+  abbrev merges_left : (p q : ℕ) → MayMerge tree q p → IsLeft tree p q
+  merges_left p q m = (record { level = m.level; within = m.within; in_level = m.in_level }, m.linked)
 
-  -- such a page and its left neighbour have mapping words
-  pub page_on : (p q : ℕ) → MayBeAbsorbed tree p q → IsInLevels tree.levels p
-  page_on p q m = record { level = m.left.0.level; within = m.left.0.within; in_level = (left_beside tree root lawful p q m.left).in_row }
+  pub absorber_is : (p q r : ℕ) → IsLeft tree p q → MayMerge tree r p → r ≡ q
+  absorber_is p q r left m = one_left tree root lawful p r q (merges_left p r m) left
 
-  entry_of : (slot : Slot) (key : KeyBytes) (child : ℕ) → HasChildAt slot key child → HasEntry slot key
-  entry_of Free key child has = absurd has
-  entry_of (Gone g) key child has = absurd has
-  entry_of (Live s) key child has = (child, has)
+  -- such a page has a mapping word
+  pub page_on : (p q : ℕ) → MayMerge tree q p → IsInLevels tree.levels p
+  page_on p q m = record { level = m.level; within = m.within; in_level = (left_beside tree root lawful p q (merges_left p q m)).in_row }
 
-  -- the key of an index entry is in the range of its page
-  named_home : (p parent : ℕ) (s : StillNames tree p parent) → IsHomeAt tree.slots tree.levels s.removed.low (suc s.removed.level) parent
-  named_home p parent s = entry_home tree root lawful parent s.removed.level s.removed.low s.above (entry_of (slot_at tree.slots parent) s.removed.low p s.named)
-
-  -- one page of the level above still names a removed page
-  pub one_naming : (p a b : ℕ) → StillNames tree p a → StillNames tree p b → a ≡ b
-  one_naming p a b s t =
-      let same : s.removed ≡ t.removed = one_removed (sym s.is ∙ t.is) in
-      one_above tree.slots root tree.levels lawful (suc t.removed.level) t.removed.low a b
-      (subst (λ (g : RemovedPage). IsHomeAt tree.slots tree.levels g.low (suc g.level) a) same (named_home p a s))
-      (named_home p b t)
-
-  -- a page that begins with the entry doesn't drop it
-  pub begins_with : (p parent : ℕ) (s : StillNames tree p parent) → s.removed.low ≡ low_of (slot_at tree.slots parent) → (other : ℕ) → IsDroppable tree p other → ⊥
-  begins_with p parent s begins other d =
-      let one : other ≡ parent = one_naming p other parent d.names s in
-      let same : d.names.removed ≡ s.removed = one_removed (sym d.names.is ∙ s.is) in
-      d.behind (ap (λ (g : RemovedPage). g.low) same ∙ begins ∙ ap (λ x. low_of (slot_at tree.slots x)) (sym one))
-
-  -- an entry behind the first one may go
-  pub may_drop : (p parent : ℕ) (d : IsDroppable tree p parent) → MayDropChild tree.slots tree.levels parent d.names.removed.low
-  may_drop p parent d = record {
-    level = d.names.removed.level;
+  -- an entry of a removed page may go
+  pub may_drop : AreExact tree.slots tree.levels → (p parent : ℕ) (s : IsNamerOfRemoved tree p parent) → MayDropChild tree.slots tree.levels parent s.removed.low
+  may_drop exact p parent s = record {
+    level = s.removed.level;
     within = home.reached.within;
     in_level = home.reached.in_level;
     state = home.reached.state;
     is = home.reached.is;
-    above = by (is_lt (key_cmp home.reached.state.low key)) refl;
+    above = exact.behind s.removed.level s.removed.low p s.removed home.reached.within (record {
+      page = parent;
+      in_level = home.reached.in_level;
+      state = home.reached.state;
+      is = home.reached.is;
+      named = named;
+    }) s.is;
+    child = p;
+    named = named;
+    removed = s.removed;
+    gone = s.is;
   }
     where
-      key : KeyBytes
-      key = d.names.removed.low
+      home : IsHomeAt tree.slots tree.levels s.removed.low (suc s.removed.level) parent
+      home = entry_home tree root lawful parent s.removed.level s.removed.low p s.above s.named
 
-      home : IsHomeAt tree.slots tree.levels d.names.removed.low (suc d.names.removed.level) parent
-      home = named_home p parent d.names
-
-      by : (b : Bool) → is_lt (key_cmp home.reached.state.low d.names.removed.low) ≡ b → b ≡ true
-      by true e = refl
-      by false e =
-          absurd (d.behind (
-          neither_below d.names.removed.low home.reached.state.low (holds_not _ home.reached.from_low) e
-          ∙ ap low_of (sym home.reached.is)))
+      named : Contains (children_of home.reached.state.body) (s.removed.low, p)
+      named = subst (λ (o : Slot). HasChildAt o s.removed.low p) home.reached.is s.named
 
   -- the root stands on the highest level
   abbrev top : IsTop tree.slots root (length tree.levels - 1)

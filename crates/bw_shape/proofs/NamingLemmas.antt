@@ -8,6 +8,7 @@ use Rattle.bw_model.specs.Contents.{is_below_end}
 use Rattle.bw_page.proofs.KeyLemmas.{below_back, below_self, upto_below}
 use Rattle.bw_page.proofs.Truths.{both_of, holds, true_holds}
 use Rattle.bw_chain.specs.Before.{low_of}
+use Rattle.bw_chain.specs.Entries.{AreExact}
 use Rattle.bw_chain.specs.Levels.{AreLevels, IsHomeAt, row}
 use Rattle.bw_chain.specs.Scans.{high_of}
 use Rattle.bw_chain.specs.Searches.{IsInLevels}
@@ -43,11 +44,6 @@ module _ (tree : TreeView) (parent : ℕ) where
   some_unnamed p (e ∷ es) sep q all one = omega arith
 
 module _ (tree : TreeView) (root : ℕ) (lawful : AreLevels tree.slots root tree.levels) (parent : ℕ) where
-  -- they fit
-  pub all_fit : (p : ℕ) (es : List (KeyBytes × ℕ)) → AreUnnamed tree p parent es → MayHaveChildren tree parent es
-  all_fit p [] all = tt
-  all_fit p (e ∷ es) all = (fits_child tree root lawful p parent e.0 e.1 all.0, all_fit e.1 es all.1)
-
   -- one page alone is to name a page's right neighbour
   pub one_parent : (p other : ℕ) (k m : KeyBytes) (q r : ℕ) → IsUnnamed tree p parent k q → IsUnnamed tree p other m r → other ≡ parent
   one_parent p other k m q r one two =
@@ -60,11 +56,17 @@ module _ (tree : TreeView) (root : ℕ) (lawful : AreLevels tree.slots root tree
       one_key : {x y : KeyBytes} → Some x ≡ Some y → x ≡ y
       one_key e = cc
 
+module _ (tree : TreeView) (root : ℕ) (lawful : AreLevels tree.slots root tree.levels) (exact : AreExact tree.slots tree.levels) (parent : ℕ) where
+  -- they fit
+  pub all_fit : (p : ℕ) (es : List (KeyBytes × ℕ)) → AreUnnamed tree p parent es → MayHaveChildren tree parent es
+  all_fit p [] all = tt
+  all_fit p (e ∷ es) all = (fits_child tree root lawful p exact parent e.0 e.1 all.0, all_fit e.1 es all.1)
+
   -- the last one stands on a level
   pub last_in_levels : (p : ℕ) (es : List (KeyBytes × ℕ)) → IsInLevels tree.levels p → AreUnnamed tree p parent es → IsInLevels tree.levels (last_page p es)
   last_in_levels p [] on all = on
   last_in_levels p (e ∷ es) on all =
-      let fits = fits_child tree root lawful p parent e.0 e.1 all.0 in
+      let fits = fits_child tree root lawful p exact parent e.0 e.1 all.0 in
       last_in_levels e.1 es (record { level = fits.level; within = omega (arith, fits.within); in_level = fits.child_in_level }) all.1
 
   module _ (p : ℕ) (sep : KeyBytes) (q : ℕ) (one : IsUnnamed tree p parent sep q) where
@@ -80,7 +82,7 @@ module _ (tree : TreeView) (root : ℕ) (lawful : AreLevels tree.slots root tree
         ∙ holds _ (subst (λ (o : Option KeyBytes). T (is_below_end o st.state.low)) high (wide st.state.low st.state.high st.state.side st.state.body st.sound))
 
     begins_there : low_of (slot_at tree.slots q) ≡ sep
-    begins_there = let fits = fits_child tree root lawful p parent sep q one in ap low_of fits.child_is ∙ fits.begins
+    begins_there = let fits = fits_child tree root lawful p exact parent sep q one in ap low_of fits.child_is ∙ fits.begins
 
     -- there is less to walk from it
     pub walks_less : length (walked (side_of tree.slots) (length tree.slots) q) < length (walked (side_of tree.slots) (length tree.slots) p)

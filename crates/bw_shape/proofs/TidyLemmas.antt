@@ -234,9 +234,9 @@ tidy_rebased old new p none h = subst (KeepsTidy old) (sym h.view) (record {
   more = omega (arith, length-set old.heads p (slice_index new.heads p));
 })
 
-pub tidy_same : (old new : TreeView) → old.staged ≡ None → IsSameOver old new → KeepsTidy old new
-tidy_same old new none (inl is) = tidy_still old new none is
-tidy_same old new none (inr page) = tidy_rebased old new page.0 none page.1
+pub tidy_same : (IsOne : ℕ → Type 0) (old new : TreeView) → old.staged ≡ None → IsSameOver IsOne old new → KeepsTidy old new
+tidy_same IsOne old new none (inl is) = tidy_still old new none is
+tidy_same IsOne old new none (inr page) = tidy_rebased old new page.0 none page.1.1
 
 pub tidy_named : (old new : TreeView) (p parent : ℕ) → IsFinished old new p parent → KeepsTidy old new
 tidy_named old new p parent h = record {

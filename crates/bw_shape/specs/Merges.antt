@@ -1,40 +1,23 @@
 -- What the steps do by which pages are merged and the tree loses a level, and where they aren't needed.
 use Rattle.std.specs.Prelude.{◌≡◌, ℕ, ◌<◌, ◌^◌, None, slice_index, slice_set}
-use Rattle.bw_chain.specs.Before.{low_of}
 use Rattle.bw_chain.specs.Roots.{HasOneChild, levels_lowered}
-use Rattle.bw_chain.specs.Slots.{slot_at}
-use Rattle.bw_tree.specs.Merges.{HasLostChild, HasMerged, StillNames}
-use Rattle.bw_tree.specs.Pages.{IsLeft, IsNamer}
+use Rattle.bw_tree.specs.Merges.{HasLostChild, HasMerged, HasNoNamerOfRemoved, IsNamerOfRemoved, MayMerge}
 use Rattle.bw_tree.specs.View.{TreeView, contents_at}
 use Rattle.bw_shape.specs.declared.steps.Did.{Did}
 use Rattle.bw_shape.specs.declared.steps.Did.TheVariants.{Done, NotNeeded}
 
--- The page p and its left neighbour q are base pages by themselves, and one page of the level above names both.
-pub record MayBeAbsorbed (tree : TreeView) (p q : ℕ) : Type 0 where
-  pub left : IsLeft tree p q
-  pub plain : slice_index tree.heads p < 2 ^ 32
-  pub left_plain : slice_index tree.heads q < 2 ^ 32
-  pub parent : ℕ
-  pub namer : IsNamer tree p parent
-  pub left_namer : IsNamer tree q parent
-
 abbrev pub IsAbsorptionStep : TreeView → TreeView → ℕ → Did → Type 0
-IsAbsorptionStep old new p Done = (q : ℕ) × (MayBeAbsorbed old p q × HasMerged old new q p)
-IsAbsorptionStep old new p NotNeeded = (new ≡ old) × ((q : ℕ) → MayBeAbsorbed old p q → ⊥)
-
--- This page of the level above still names a page that was removed, and doesn't begin with it.
-pub record IsDroppable (tree : TreeView) (p parent : ℕ) : Type 0 where
-  pub names : StillNames tree p parent
-  pub behind : names.removed.low ≡ low_of (slot_at tree.slots parent) → ⊥
+IsAbsorptionStep old new p Done = (q : ℕ) × (MayMerge old q p × HasMerged old new q p)
+IsAbsorptionStep old new p NotNeeded = (new ≡ old) × ((q : ℕ) → MayMerge old q p → ⊥)
 
 -- the page above, which still named a page that was removed, has no index entry any more at the key where that one began
-pub record IsForgotten (old new : TreeView) (p parent : ℕ) : Type 0 where
-  pub was : IsDroppable old p parent
-  pub lost : HasLostChild old new parent was.names.removed.low
+pub record HasDroppedRemoved (old new : TreeView) (p parent : ℕ) : Type 0 where
+  pub was : IsNamerOfRemoved old p parent
+  pub lost : HasLostChild old new parent was.removed.low
 
-abbrev pub IsForgettingStep : TreeView → TreeView → ℕ → Did → Type 0
-IsForgettingStep old new p Done = (parent : ℕ) × IsForgotten old new p parent
-IsForgettingStep old new p NotNeeded = (new ≡ old) × ((parent : ℕ) → IsDroppable old p parent → ⊥)
+abbrev pub IsAbsorptionFinishStep : TreeView → TreeView → ℕ → Did → Type 0
+IsAbsorptionFinishStep old new p Done = (parent : ℕ) × HasDroppedRemoved old new p parent
+IsAbsorptionFinishStep old new p NotNeeded = (new ≡ old) × HasNoNamerOfRemoved old p
 
 -- The root's only child is the root, and the old root, a base page by itself, stands on no level. All pages are as before,
 -- and so is what the tree holds.

@@ -42,6 +42,10 @@ abbrev pub IsFinishStep : TreeView → TreeView → ℕ → Did → Type 0
 IsFinishStep old new p Done = (parent : ℕ) × IsFinished old new p parent
 IsFinishStep old new p NotNeeded = (new ≡ old) × HasNoUnnamed old p
 
--- the same tree, of which one page may be a base page by itself now
-abbrev pub IsSameOver : TreeView → TreeView → Type 0
-IsSameOver old new = (new ≡ old) ⊎ ((p : ℕ) × IsRebased old new p)
+-- this page of the level above is to name the right neighbour of p
+abbrev pub IsNamerToBe : TreeView → ℕ → ℕ → Type 0
+IsNamerToBe tree p parent = (sep : KeyBytes) × ((q : ℕ) × IsUnnamed tree p parent sep q)
+
+-- the same tree, of which one such page may be a base page by itself now
+abbrev pub IsSameOver : (ℕ → Type 0) → TreeView → TreeView → Type 0
+IsSameOver IsOne old new = (new ≡ old) ⊎ ((p : ℕ) × (IsOne p × IsRebased old new p))

@@ -2,9 +2,9 @@
 ghost use Rattle.std.specs.Prelude.{◌≡◌, ℕ, None, Decides, MatchOption, IfOk, OnOk, OnErr};
 ghost use Rattle.bw_chain.specs.Children.{MayDropChild};
 ghost use Rattle.bw_chain.specs.Roots.{HasOneChild};
-ghost use Rattle.bw_tree.specs.Merges.{HasLostChild};
+ghost use Rattle.bw_tree.specs.Merges.{HasLostChild, IsNamerOfRemoved, MayMerge};
 ghost use Rattle.bw_tree.specs.Pages.{IsNamer};
-ghost use Rattle.bw_shape.specs.Merges.{IsAbsorptionStep, IsDroppable, IsForgettingStep, IsLoweringStep, MayBeAbsorbed};
+ghost use Rattle.bw_shape.specs.Merges.{IsAbsorptionFinishStep, IsAbsorptionStep, IsLoweringStep};
 ghost use Rattle.bw_shape.specs.Steps.{IsSameOver};
 
 use crate::steps::{Did, rebase};
@@ -34,7 +34,7 @@ pub fn absorb(tree: &mut Tree, page: PageId) -> Result<Did, Memory>
 
 // The left neighbour that a page may be merged into.
 fn absorber(tree: &Tree, page: PageId) -> Option<PageId>
-    ensures { MatchOption result ((q : ℕ) → MayBeAbsorbed tree.now page q → ⊥) (MayBeAbsorbed tree.now page) }
+    ensures { MatchOption result ((q : ℕ) → MayMerge tree.now q page → ⊥) (λ q. MayMerge tree.now q page) }
 {
     tree.know_levels();
     tree.know_records();
@@ -68,18 +68,18 @@ fn are_under_one(tree: &Tree, page: PageId, other: PageId) -> bool
 }
 
 /// Finishes a merge: the page of the level above that still names the removed page drops its index entry. It isn't needed
-/// for a page that isn't a removed one, where none names it any more, and where the page above begins with it, as the first
-/// entry of a page stays. No batch is staged.
+/// for a page that isn't a removed one, and where none names it any more. No batch is staged.
 ///
 /// It costs a search, a copy of one key and one of the other children, and one record; where the page above has a record,
 /// that page is consolidated first. After `Memory` the tree is as before, but that the page above may be consolidated.
 pub fn finish_absorb(tree: &mut Tree, page: PageId) -> Result<Did, Memory>
     requires { tree.old.staged ≡ None }
-    ensures ok { IfOk result (IsForgettingStep tree.old tree.new page) }
-    ensures err { OnErr result (IsSameOver tree.old tree.new) }
+    ensures ok { IfOk result (IsAbsorptionFinishStep tree.old tree.new page) }
+    ensures err { OnErr result (IsSameOver (IsNamerOfRemoved tree.old page) tree.old tree.new) }
 {
     tree.know_levels();
-    let Some(parent) = droppable(tree, page) else {
+    tree.know_entries();
+    let Some(parent) = tree.namer_of_removed(page) else {
         return Ok(Did::NotNeeded);
     };
     let Some(removed) = tree.removed(page) else {
@@ -90,32 +90,12 @@ pub fn finish_absorb(tree: &mut Tree, page: PageId) -> Result<Did, Memory>
     Ok(Did::Done)
 }
 
-// The page of the level above that still names a removed page, and doesn't begin with it.
-fn droppable(tree: &Tree, page: PageId) -> Option<PageId>
-    ensures { MatchOption result ((parent : ℕ) → IsDroppable tree.now page parent → ⊥) (IsDroppable tree.now page) }
-{
-    tree.know_levels();
-    let Some(parent) = tree.namer_of_removed(page) else {
-        return None;
-    };
-    let Some(removed) = tree.removed(page) else {
-        unreachable!();
-    };
-    let Some(low) = tree.low_key(parent) else {
-        unreachable!();
-    };
-    if removed.low == *low {
-        return None;
-    }
-    Some(parent)
-}
-
-// Takes a child that isn't the first one from an inner page, consolidated first where it has a record.
+// Takes a removed child that isn't the first one from an inner page, consolidated first where it has a record.
 fn drop_child(tree: &mut Tree, parent: PageId, sep: Key) -> Result<(), Memory>
     requires none { tree.old.staged ≡ None }
     requires drops { MayDropChild tree.old.slots tree.old.levels parent sep }
     ensures ok { OnOk result (HasLostChild tree.old tree.new parent sep) }
-    ensures err { OnErr result (IsSameOver tree.old tree.new) }
+    ensures err { OnErr result (IsSameOver (λ p. p ≡ parent) tree.old tree.new) }
 {
     rebase(tree, parent)?;
     tree.unset_child(parent, sep)

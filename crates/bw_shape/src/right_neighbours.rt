@@ -28,6 +28,7 @@ pub(crate) fn name_rights(
     ensures err { OnErr result (tree.new ≡ tree.old) }
 {
     tree.know_levels();
+    tree.know_entries();
     let Some(_) = tree.in_level(page) else {
         return Ok(None);
     };
@@ -51,6 +52,7 @@ fn unnamed_rights(
     ensures { IfOk result (λ entries. AreAllUnnamed tree.now page parent entries.items) }
 {
     tree.know_levels();
+    tree.know_entries();
     let mut entries = Vec::new(alloc);
     let mut last = page;
     while let Some(entry) = unnamed_entry(tree, last, parent)? {

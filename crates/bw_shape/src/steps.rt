@@ -1,11 +1,13 @@
 // The steps by which a tree changes its pages.
-ghost use Rattle.std.specs.Prelude.{◌≡◌, ◌<◌, ◌≤◌, ◌^◌, true, false, None, MatchOption, IfOk, OnOk, OnErr, length, slice_index};
+ghost use Rattle.std.specs.Prelude.{◌≡◌, ◌<◌, ◌≤◌, ◌^◌, true, false, None, Decides, MatchOption, IfOk, OnOk, OnErr, length, slice_index};
 ghost use Rattle.bw_chain.specs.Children.{FitsChild};
+ghost use Rattle.bw_chain.specs.Splits.{HasNoRemovedAt};
 ghost use Rattle.bw_tree.specs.Children.{IsNamed};
 ghost use Rattle.bw_tree.specs.Consolidation.{IsRebased};
 ghost use Rattle.bw_tree.specs.Routing.{IsInLevel, IsInnerPage};
+ghost use Rattle.bw_tree.specs.Pages.{IsPlain};
 ghost use Rattle.bw_tree.specs.Splits.{IsSplittable};
-ghost use Rattle.bw_shape.specs.Steps.{IsConsolidationStep, IsFinishStep, IsFinished, HasLostChain, IsRootStep, IsSameOver, IsSplitStep};
+ghost use Rattle.bw_shape.specs.Steps.{IsConsolidationStep, IsFinishStep, IsFinished, HasLostChain, IsNamerToBe, IsRootStep, IsSameOver, IsSplitStep};
 
 use bw_key::{Key, Memory};
 use bw_page::PageId;
@@ -56,8 +58,8 @@ pub(crate) fn lose_chain(tree: &mut Tree, page: PageId, level: u32) -> Result<()
 }
 
 /// Splits a page: its entries from place `keep` on go to a new page right of it, which no page above names yet. It isn't
-/// needed where the page has a record, has no more than `keep` entries or stands on no level, and where `keep` is 0. No
-/// batch is staged.
+/// needed where the page has a record, has no more than `keep` entries or stands on no level, where `keep` is 0, and where
+/// the first entry that would move names a removed page. No batch is staged.
 ///
 /// It costs a search; the entries that go are moved, those of a leaf as blocks, and the key at which they begin is copied.
 /// After `Memory` the tree is as before.
@@ -73,8 +75,8 @@ pub fn split(tree: &mut Tree, page: PageId, keep: usize) -> Result<Did, Memory>
     Ok(Did::Done)
 }
 
-// Whether a page may be split there.
-fn is_splittable(tree: &Tree, page: PageId, keep: usize) -> bool
+/// Whether a page may be split there.
+pub(crate) fn is_splittable(tree: &Tree, page: PageId, keep: usize) -> bool
     ensures yes { result ≡ true → IsSplittable tree.now page keep }
     ensures no { result ≡ false → IsSplittable tree.now page keep → ⊥ }
 {
@@ -85,7 +87,24 @@ fn is_splittable(tree: &Tree, page: PageId, keep: usize) -> bool
     let Some(_) = tree.in_level(page) else {
         return false;
     };
-    keep > 0 && keep < tree.entries(page)
+    if keep == 0 {
+        return false;
+    }
+    if keep >= tree.entries(page) {
+        return false;
+    }
+    moves_no_removed(tree, page, keep)
+}
+
+// Whether the first entry that would move doesn't name a removed page.
+fn moves_no_removed(tree: &Tree, page: PageId, keep: usize) -> bool
+    requires { IsPlain tree.now page }
+    ensures { Decides result (HasNoRemovedAt tree.now.slots page keep) }
+{
+    let Some(child) = tree.child_at(page, keep) else {
+        return true;
+    };
+    tree.removed(child).is_none()
 }
 
 /// Finishes the split of a page: its right neighbour gets an index entry on the page of the level above in whose range it
@@ -97,7 +116,7 @@ fn is_splittable(tree: &Tree, page: PageId, keep: usize) -> bool
 pub fn finish_split(tree: &mut Tree, page: PageId) -> Result<Did, Memory>
     requires { tree.old.staged ≡ None }
     ensures ok { IfOk result (IsFinishStep tree.old tree.new page) }
-    ensures err { OnErr result (IsSameOver tree.old tree.new) }
+    ensures err { OnErr result (IsSameOver (IsNamerToBe tree.old page) tree.old tree.new) }
 {
     match name_right(tree, page)? {
         Some(_) => Ok(Did::Done),
@@ -110,9 +129,10 @@ fn name_right(tree: &mut Tree, page: PageId) -> Result<Option<PageId>, Memory>
     requires { tree.old.staged ≡ None }
     ensures ok { IfOk result (λ parent. MatchOption parent (IsFinishStep tree.old tree.new page Did.NotNeeded)
         (IsFinished tree.old tree.new page)) }
-    ensures err { OnErr result (IsSameOver tree.old tree.new) }
+    ensures err { OnErr result (IsSameOver (IsNamerToBe tree.old page) tree.old tree.new) }
 {
     tree.know_levels();
+    tree.know_entries();
     let Some(_) = tree.in_level(page) else {
         return Ok(None);
     };
@@ -131,7 +151,7 @@ fn name_child(tree: &mut Tree, parent: PageId, sep: Key, child: PageId) -> Resul
     requires none { tree.old.staged ≡ None }
     requires fits { FitsChild tree.old.slots tree.old.levels parent sep child }
     ensures ok { OnOk result (IsNamed tree.old tree.new parent sep child) }
-    ensures err { OnErr result (IsSameOver tree.old tree.new) }
+    ensures err { OnErr result (IsSameOver (λ p. p ≡ parent) tree.old tree.new) }
 {
     rebase(tree, parent)?;
     tree.set_child(parent, sep, child)

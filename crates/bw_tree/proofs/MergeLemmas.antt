@@ -13,7 +13,7 @@ use Rattle.bw_delta.specs.declared.deltas.Delta.TheVariants.{Removed}
 use Rattle.bw_chain.specs.Chains.{AllEnd, Bases, ChainsView, Records, plain, slot_of_word, slots_of}
 use Rattle.bw_chain.specs.Laws.{KeepsAll}
 use Rattle.bw_chain.specs.Levels.{AreLevels, row}
-use Rattle.bw_chain.specs.Merges.{AreNeighbours, IsJoined, IsMerged, absorption, level_merged, slot_joined, slot_removed, state_joined, without_page}
+use Rattle.bw_chain.specs.Merges.{AreNeighbours, IsJoined, IsMerged, IsNoFirstChild, absorption, level_merged, slot_joined, slot_removed, state_joined, without_page}
 use Rattle.bw_chain.specs.Reading.{body_writes, writes_over}
 use Rattle.bw_chain.specs.Searches.{IsInLevels}
 use Rattle.bw_chain.specs.Slots.{Slot, PageState, Body, Pairs, Children, Free, Gone, Live, IsSoundBody, body_is_leaf, level_of, slot_at}
@@ -31,6 +31,7 @@ use Rattle.bw_tree.specs.Merges.{HasMerged, MayMerge}
 use Rattle.bw_tree.specs.Trees.{ArePlaced, IsStanding, IsTree, StageWords, view_of}
 use Rattle.bw_tree.specs.View.{StageView, TreeView}
 use Rattle.bw_tree.proofs.NeighbourLemmas.{AreBeside, beside}
+use Rattle.bw_tree.proofs.PageLemmas.{no_first_child}
 use Rattle.bw_tree.proofs.RoutingLemmas.{PageAt, page_at_head, page_there}
 use Rattle.bw_tree.proofs.StageLemmas.{stands_on}
 use Rattle.bw_tree.proofs.StandingLemmas.{contents_same, placed_set, same_levels as levels_same, standing_kept}
@@ -217,8 +218,12 @@ module _ (heads : List ℕ) (bases : Bases) (records : Records) (root next : ℕ
         ∙ ap (λ (s : List Slot). slot_at s r) noted.0;
   }
 
+  -- one page names both, so none begins with the second one
+  inner : IsNoFirstChild old.slots old.levels q
+  inner = no_first_child old root t.lawful t.exact p q ok.parent (record { level = ok.level; within = ok.within; in_level = ok.in_level }, ok.linked) ok.namer ok.other_namer
+
   kept : (level : ℕ) → level < length old.levels → Contains (row old.levels level) p → KeepsAll old.slots new.slots root old.levels (level_merged old.levels level q)
-  kept level lt has = merges_kept old.slots new.slots root old.levels level p q t.lawful lt has merged
+  kept level lt has = merges_kept old.slots new.slots root old.levels level p q t.lawful lt has inner merged
 
   same_levels : (level : ℕ) → level < length old.levels → Contains (row old.levels level) p → new.levels ≡ level_merged old.levels level q
   same_levels level lt has = levels_same heads bases records root next t heads' bases2 records' root (level_merged old.levels level q) (kept level lt has)
@@ -230,7 +235,7 @@ module _ (heads : List ℕ) (bases : Bases) (records : Records) (root next : ℕ
   stays_in r other on = record {
     level = on.level;
     within = omega (arith, on.within, length-set old.levels ok.level (without_page q (row old.levels ok.level)));
-    in_level = has_new old.slots new.slots root old.levels ok.level p q t.lawful ok.within ok.in_level merged on.level r other on.in_level;
+    in_level = has_new old.slots new.slots root old.levels ok.level p q t.lawful ok.within ok.in_level inner merged on.level r other on.in_level;
   }
 
   placed_new : ArePlaced heads' after

@@ -157,7 +157,7 @@ alone_over l abut rules =
     }
   where
     one_level : {slots : List Slot} → AreExact slots ((0 ∷ []) ∷ [])
-    one_level = record { begins = λ n k c s within. absurd (omega (arith, within)); began = λ n k c g within. absurd (omega (arith, within)); once = λ n k h c within. absurd (omega (arith, within)) }
+    one_level = record { begins = λ n k c s within. absurd (omega (arith, within)); began = λ n k c g within. absurd (omega (arith, within)); behind = λ n k c g within. absurd (omega (arith, within)); once = λ n k h c within. absurd (omega (arith, within)) }
 
     rows : (slots : List Slot) → SideBySide slots 0 [] (0 ∷ []) → (n : ℕ) → n < 1 → SideBySide slots n [] (row ((0 ∷ []) ∷ []) n)
     rows slots h zero within = h
@@ -252,6 +252,7 @@ module _ (l k : LeafView ValueBytes) (rest : List (LeafView ValueBytes)) (abut :
         let at = child_at n key c within term in
         ap (λ (t : PageState). t.low) (one_state (sym is ∙ at.1)) ∙ at.2;
     began = λ n key c g within term is. absurd (not_gone (sym (child_at n key c within term).1 ∙ is));
+    behind = λ n key c g within term is. absurd (not_gone (sym (child_at n key c within term).1 ∙ is));
     once = λ n key other c within one more.
         let a = child_at n key c within one in
         let b = child_at n other c within more in

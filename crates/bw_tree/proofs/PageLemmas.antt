@@ -1,5 +1,5 @@
 -- What is told of one page: its left neighbour, and which page names it.
-use Rattle.std.proofs.Common.{inl, inr, ◌⊎◌, ◌≡◌, ℕ, zero, suc, ◌<◌, ◌≤◌, Bool, true, false, not, T, List, [], ◌∷◌, length, Option, Some, None, refl, sym, ap, ◌∙◌, subst, arith}
+use Rattle.std.proofs.Common.{◌≡◌, ℕ, zero, suc, ◌<◌, ◌≤◌, Bool, true, false, not, T, List, [], ◌∷◌, length, Option, Some, None, refl, sym, ap, ◌∙◌, subst, arith}
 use Rattle.std.specs.Prelude.{Decides, MatchOption}
 use Rattle.std.specs.Borrow.{Bor}
 use Rattle.std.specs.List.{Contains, list_all}
@@ -7,14 +7,15 @@ use Rattle.std.specs.Ordering.{is_lt}
 use Rattle.bw_key.specs.Order.{KeyBytes, key_cmp}
 use Rattle.bw_model.specs.Contents.{is_below_end, is_in_range, is_pair_in_range}
 use Rattle.bw_page.specs.Inners.{IsUpto}
-use Rattle.bw_page.proofs.KeyLemmas.{below_back, below_self, neither_below, upto_trans}
+use Rattle.bw_page.proofs.KeyLemmas.{below_back, below_self, neither_below, upto_below, upto_trans}
 use Rattle.bw_page.proofs.Truths.{holds, holds_not, left_of, not_holds, right_of, true_holds}
 use Rattle.bw_chain.specs.Before.{low_at, low_of}
-use Rattle.bw_chain.specs.Children.{HasEntry}
+use Rattle.bw_chain.specs.Children.{HasChildAt}
 use Rattle.bw_chain.specs.Entries.{AreExact}
 use Rattle.bw_chain.specs.Levels.{AreLevels, IsHomeAt, LeadsBelow, Stands, row}
+use Rattle.bw_chain.specs.Merges.{IsNoFirstChild}
 use Rattle.bw_chain.specs.Searches.{IsInLevels}
-use Rattle.bw_chain.specs.Slots.{Slot, PageState, Body, Pairs, Children, Free, Gone, Live, IsSoundBody, IsSoundPage, body_is_leaf, children_of, is_leaf, left_of_slot, level_of, side_of, slot_at}
+use Rattle.bw_chain.specs.Slots.{Slot, PageState, Body, Pairs, Children, Free, Gone, Live, IsSoundBody, IsSoundPage, body_is_leaf, children_of, is_leaf, level_of, side_of, slot_at}
 use Rattle.bw_chain.specs.Steps.{IsTerm}
 use Rattle.bw_chain.specs.Targets.{StandsFor, StandsOn, lies_from, lies_past}
 use Rattle.bw_chain.specs.Turns.{StartsUpto}
@@ -179,8 +180,8 @@ module _ (tree : TreeView) (root : ℕ) (lawful : AreLevels tree.slots root tree
   found_left p n on target before starts (Some q) homes = is_left p n on target before starts q homes
 
   -- a page of the level above that has an index entry at a key has the key in its range
-  pub entry_home : (parent n : ℕ) (key : KeyBytes) → IsInLevel tree parent (suc n) → HasEntry (slot_at tree.slots parent) key → IsHomeAt tree.slots tree.levels key (suc n) parent
-  entry_home parent n key on has = record {
+  pub entry_home : (parent n : ℕ) (key : KeyBytes) (child : ℕ) → IsInLevel tree parent (suc n) → HasChildAt (slot_at tree.slots parent) key child → IsHomeAt tree.slots tree.levels key (suc n) parent
+  entry_home parent n key child on has = record {
     reached = record { within = on.0; in_level = on.1; state = st.state; is = st.is; from_low = left_of _ _ inside };
     ends_above = right_of _ _ inside;
   }
@@ -197,25 +198,24 @@ module _ (tree : TreeView) (root : ℕ) (lawful : AreLevels tree.slots root tree
       within low high side (Pairs pairs writes) sound child has = absurd (omega (arith, has.1))
       within low high side (Children level children) sound child has = among low high children child sound.page.inside has
 
-      entry : HasEntry (Live st.state) key
-      entry = subst (λ (o : Slot). HasEntry o key) st.is has
-
       inside : T (is_in_range st.state.low st.state.high key)
-      inside = within st.state.low st.state.high st.state.side st.state.body st.sound entry.0 entry.1
+      inside = within st.state.low st.state.high st.state.side st.state.body st.sound child (subst (λ (o : Slot). HasChildAt o key child) st.is has)
 
-  entry_of : (p parent : ℕ) → (u : IsNamer tree p parent) → HasEntry (slot_at tree.slots parent) (low_of (slot_at tree.slots p))
-  entry_of p parent u = subst (λ (o : Slot). HasEntry o (low_of (slot_at tree.slots p))) (sym u.is) (u.child, u.entry)
-
+  -- the level on which its namer looks for it is its own
   namer_level : (p n parent : ℕ) → IsInLevel tree p n → (u : IsNamer tree p parent) → u.level ≡ n
   namer_level p n parent on u = sym (own_level tree.slots root tree.levels lawful p u.level u.in_level.0 u.in_level.1) ∙ own_level tree.slots root tree.levels lawful p n on.0 on.1
+
+  -- so a page's low key is at home on the page that names it
+  namer_home : (p n parent : ℕ) → IsInLevel tree p n → IsNamer tree p parent → IsHomeAt tree.slots tree.levels (low_of (slot_at tree.slots p)) (suc n) parent
+  namer_home p n parent on u =
+      subst (λ m. IsHomeAt tree.slots tree.levels (low_of (slot_at tree.slots p)) (suc m) parent) (namer_level p n parent on u)
+      (entry_home parent u.level (low_of (slot_at tree.slots p)) p u.above u.named)
 
   -- one page names a page
   pub one_namer : (p parent other : ℕ) → IsNamer tree p parent → IsNamer tree p other → parent ≡ other
   one_namer p parent other u v =
-      let low = low_of (slot_at tree.slots p) in
-      let there : IsHomeAt tree.slots tree.levels low (suc v.level) parent =
-      subst (λ m. IsHomeAt tree.slots tree.levels low (suc m) parent) (namer_level p v.level parent v.in_level u) (entry_home parent u.level low u.above (entry_of p parent u)) in
-      one_above tree.slots root tree.levels lawful (suc v.level) low parent other there (entry_home other v.level low v.above (entry_of p other v))
+      one_above tree.slots root tree.levels lawful (suc v.level) (low_of (slot_at tree.slots p)) parent other
+      (namer_home p v.level parent v.in_level u) (namer_home p v.level other v.in_level v)
 
   -- no page names one of no level, nor one of a level that has none above
   pub no_namer_off : (p : ℕ) → IsInNoLevel tree p → HasNoNamer tree p
@@ -227,59 +227,65 @@ module _ (tree : TreeView) (root : ℕ) (lawful : AreLevels tree.slots root tree
   -- the key is at home on one page, so no page has one where that page isn't
   pub no_namer_there : (p parent : ℕ) → IsAbove tree p parent → (IsNamer tree p parent → ⊥) → HasNoNamer tree p
   no_namer_there p parent a none = λ other u.
-      let low = low_of (slot_at tree.slots p) in
-      let there : IsHomeAt tree.slots tree.levels low (suc a.level) other =
-      subst (λ m. IsHomeAt tree.slots tree.levels low (suc m) other) (namer_level p a.level other a.in_level u) (entry_home other u.level low u.above (entry_of p other u)) in
-      none (subst (IsNamer tree p) (one_above tree.slots root tree.levels lawful (suc a.level) low other parent there a.home) u)
+      none (subst (IsNamer tree p) (one_above tree.slots root tree.levels lawful (suc a.level) (low_of (slot_at tree.slots p)) other parent (namer_home p a.level other a.in_level u) a.home) u)
 
-  -- an entry at the key where a page begins leads to it: on the level no other page begins there
-  is_namer : AreExact tree.slots tree.levels → (p n parent : ℕ) → IsInLevel tree p n → IsHomeAt tree.slots tree.levels (low_of (slot_at tree.slots p)) (suc n) parent → HasEntry (slot_at tree.slots parent) (low_of (slot_at tree.slots p)) → IsNamer tree p parent
-  is_namer exact p n parent on home has = record {
-    level = n;
-    in_level = on;
-    above = (home.reached.within, home.reached.in_level);
-    state = home.reached.state;
-    is = home.reached.is;
-    child = entry.0;
-    entry = entry.1;
-    leads = by (slot_at tree.slots entry.0) refl;
-  }
+  -- the page in whose range it begins names it exactly where it has the entry
+  pub decides_namer : (p parent : ℕ) → IsAbove tree p parent → (answer : Bool) → Decides answer (HasChildAt (slot_at tree.slots parent) (low_of (slot_at tree.slots p)) p) → Decides answer (IsNamer tree p parent)
+  decides_namer p parent a answer has =
+      (λ yes. record { level = a.level; in_level = a.in_level; above = (a.home.reached.within, a.home.reached.in_level); named = has.0 yes }, λ u. has.1 u.named)
+
+  -- a child that is a page begins at its separator, so it is the one of the level that does
+  pub own_child : AreExact tree.slots tree.levels → (p n : ℕ) (c : ℕ) (s : PageState) → IsInLevel tree p n → suc n < length tree.levels → IsTerm tree.slots tree.levels n (low_of (slot_at tree.slots p)) c → slot_at tree.slots c ≡ Live s → c ≡ p
+  own_child exact p n c s on within term live = own_page tree.slots root tree.levels lawful p n on.0 on.1 (low_of (slot_at tree.slots p)) c (low_at_is p (record { level = n; within = on.0; in_level = on.1 })) (record {
+    reached = record { within = on.0; in_level = there; state = s; is = live; from_low = subst (λ (k : KeyBytes). IsUpto s.low k) begins (not_holds _ (below_self s.low)) };
+    ends_above = subst (λ (k : KeyBytes). T (is_below_end s.high k)) begins (wide_of s.low s.high s.side s.body sound);
+  })
     where
-      entry : HasEntry (Live home.reached.state) (low_of (slot_at tree.slots p))
-      entry = subst (λ (o : Slot). HasEntry o (low_of (slot_at tree.slots p))) home.reached.is has
+      leads : LeadsBelow tree.slots (row tree.levels n) (low_of (slot_at tree.slots p)) c
+      leads = lawful.terms n term.page term.state (low_of (slot_at tree.slots p)) c within term.in_level term.is term.named
 
-      term : IsTerm tree.slots tree.levels n (low_of (slot_at tree.slots p)) entry.0
-      term = record { page = parent; in_level = home.reached.in_level; state = home.reached.state; is = home.reached.is; named = entry.1 }
+      begins : s.low ≡ low_of (slot_at tree.slots p)
+      begins = exact.begins n (low_of (slot_at tree.slots p)) c s within term live
 
-      leads : LeadsBelow tree.slots (row tree.levels n) (low_of (slot_at tree.slots p)) entry.0
-      leads = lawful.terms n parent home.reached.state (low_of (slot_at tree.slots p)) entry.0 home.reached.within home.reached.in_level home.reached.is entry.1
+      there : Contains (row tree.levels n) c
+      there = subst (Contains (row tree.levels n)) (sym (live_way tree.slots c leads.page leads.removed s live leads.way).1) leads.in_level
 
-      the_page : (s : PageState) → slot_at tree.slots entry.0 ≡ Live s → entry.0 ≡ p
-      the_page s live = own_page tree.slots root tree.levels lawful p n on.0 on.1 (low_of (slot_at tree.slots p)) entry.0 (low_at_is p (record { level = n; within = on.0; in_level = on.1 })) (record {
-        reached = record { within = on.0; in_level = there; state = s; is = live; from_low = subst (λ (k : KeyBytes). IsUpto s.low k) begins (not_holds _ (below_self s.low)) };
-        ends_above = subst (λ (k : KeyBytes). T (is_below_end s.high k)) begins (wide_of s.low s.high s.side s.body sound);
-      })
-        where
-          begins : s.low ≡ low_of (slot_at tree.slots p)
-          begins = exact.begins n (low_of (slot_at tree.slots p)) entry.0 s home.reached.within term live
+      st : InRow tree.slots n (row tree.levels n) there.0 c
+      st = row_at n c (on.0, there)
 
-          there : Contains (row tree.levels n) entry.0
-          there = subst (Contains (row tree.levels n)) (sym (live_way tree.slots entry.0 leads.page leads.removed s live leads.way).1) leads.in_level
+      sound : IsSoundPage s
+      sound = subst IsSoundPage (one_state (sym st.stands.is ∙ live)) st.stands.sound
 
-          st : InRow tree.slots n (row tree.levels n) there.0 entry.0
-          st = row_at n entry.0 (on.0, there)
+  -- a page that begins at the key where one of the level below does names that one, as no page begins with a removed child
+  pub named_first : AreExact tree.slots tree.levels → (p n : ℕ) (c : ℕ) → IsInLevel tree p n → suc n < length tree.levels → (term : IsTerm tree.slots tree.levels n (low_of (slot_at tree.slots p)) c) → is_lt (key_cmp term.state.low (low_of (slot_at tree.slots p))) ≡ false → c ≡ p
+  named_first exact p n c on within term first = by (slot_at tree.slots c) refl
+    where
+      by : (o : Slot) → slot_at tree.slots c ≡ o → c ≡ p
+      by Free free = absurd (child_there tree.slots root tree.levels lawful n (low_of (slot_at tree.slots p)) c within term free)
+      by (Gone g) gone = absurd (different (sym (exact.behind n (low_of (slot_at tree.slots p)) c g within term gone) ∙ first))
+      by (Live s) live = own_child exact p n c s on within term live
 
-          sound : IsSoundPage s
-          sound = subst IsSoundPage (one_state (sym st.stands.is ∙ live)) st.stands.sound
-
-      by : (o : Slot) → slot_at tree.slots entry.0 ≡ o → (entry.0 ≡ p) ⊎ ((left : ℕ) × (left_of_slot (slot_at tree.slots entry.0) ≡ Some left))
-      by Free free = absurd (child_there tree.slots root tree.levels lawful n (low_of (slot_at tree.slots p)) entry.0 home.reached.within term free)
-      by (Gone l) gone = inr (l.left, ap left_of_slot gone)
-      by (Live s) live = inl (the_page s live)
-
-  -- so the page above names it exactly where it has an entry there
-  pub decides_namer : AreExact tree.slots tree.levels → (p parent : ℕ) → IsAbove tree p parent → (answer : Bool) → Decides answer (HasEntry (slot_at tree.slots parent) (low_of (slot_at tree.slots p))) → Decides answer (IsNamer tree p parent)
-  decides_namer exact p parent a answer has = (λ yes. is_namer exact p a.level parent a.in_level a.home (has.0 yes), λ u. has.1 (entry_of p parent u))
+  -- a page isn't the first child of a page that names its left neighbour, too
+  pub no_first_child : AreExact tree.slots tree.levels → (p q parent : ℕ) → IsLeft tree q p → IsNamer tree p parent → IsNamer tree q parent → IsNoFirstChild tree.slots tree.levels q
+  no_first_child exact p q parent left a b = λ n k within term.
+      let here = beside q p left in
+      let at = row_at here.level q here.in_level in
+      let leads = lawful.terms n term.page term.state k q within term.in_level term.is term.named in
+      let there : Contains (row tree.levels n) q =
+      subst (Contains (row tree.levels n)) (sym (live_way tree.slots q leads.page leads.removed at.stands.state at.stands.is leads.way).1) leads.in_level in
+      let on : IsInLevel tree q n = (omega (arith, within), there) in
+      let key : low_of (slot_at tree.slots q) ≡ k = ap low_of at.stands.is ∙ exact.begins n k q at.stands.state within term at.stands.is in
+      let home = namer_home q n parent on b in
+      let named : HasChildAt (slot_at tree.slots term.page) k q = subst (λ (o : Slot). HasChildAt o k q) (sym term.is) term.named in
+      let own : IsHomeAt tree.slots tree.levels k (suc n) term.page = entry_home term.page n k q (within, term.in_level) named in
+      let same : term.page ≡ parent = one_above tree.slots root tree.levels lawful (suc n) k term.page parent own (subst (λ (x : KeyBytes). IsHomeAt tree.slots tree.levels x (suc n) parent) key home) in
+      let over = entry_home parent a.level (low_of (slot_at tree.slots p)) p a.above a.named in
+      let state : term.state ≡ over.reached.state = one_state (sym term.is ∙ ap (slot_at tree.slots) same ∙ over.reached.is) in
+      let starts : low_of (slot_at tree.slots p) ≡ here.start = ap low_of here.left.is ∙ here.left.from_low in
+      let rises : is_lt (key_cmp (low_of (slot_at tree.slots p)) k) ≡ true =
+      ap (λ (x : KeyBytes). is_lt (key_cmp x k)) starts ∙ ap (λ (x : KeyBytes). is_lt (key_cmp here.start x)) (sym key ∙ here.begins) ∙ low_below tree.slots here.level here.start here.low (Some q) p here.left in
+      ap (λ (s : PageState). is_lt (key_cmp s.low k)) state
+      ∙ upto_below over.reached.state.low (low_of (slot_at tree.slots p)) k (holds_not _ over.reached.from_low) rises
 
   pub starts_above : (p parent : ℕ) → IsAbove tree p parent → StartsUpto (slot_at tree.slots parent) (low_of (slot_at tree.slots p))
   starts_above p parent a = subst (λ (o : Slot). StartsUpto o (low_of (slot_at tree.slots p))) (sym a.home.reached.is) a.home.reached.from_low

@@ -150,7 +150,7 @@ module _ (heads : List ℕ) (bases : Bases) (records : Records) (root next : ℕ
   }
 
   kept : (level : ℕ) → level < length old.levels → Contains (row old.levels level) p → KeepsAll old.slots new.slots root old.levels (level_parted old.levels level p q)
-  kept level lt has = parts_kept old.slots new.slots root old.levels level p q keep t.lawful lt has parted
+  kept level lt has = parts_kept old.slots new.slots root old.levels level p q keep t.lawful lt has ok.live parted
 
   same_levels : (level : ℕ) → level < length old.levels → Contains (row old.levels level) p → new.levels ≡ level_parted old.levels level p q
   same_levels level lt has = levels_same heads bases records root next t heads' bases' records' root (level_parted old.levels level p q) (kept level lt has)
@@ -162,7 +162,7 @@ module _ (heads : List ℕ) (bases : Bases) (records : Records) (root next : ℕ
   still_in r on = record {
     level = on.level;
     within = omega (arith, on.within, length-set old.levels ok.level (put_behind p q (row old.levels ok.level)));
-    in_level = has_new old.slots new.slots root old.levels ok.level p q keep t.lawful ok.within ok.in_level parted on.level r on.in_level;
+    in_level = has_new old.slots new.slots root old.levels ok.level p q keep t.lawful ok.within ok.in_level ok.live parted on.level r on.in_level;
   }
 
   placed_new : ArePlaced heads' after

@@ -2,7 +2,7 @@
 use Rattle.std.specs.Prelude.{◌≡◌, ℕ, suc, ◌+◌, ◌<◌, ◌≤◌, ◌^◌, List, [], ◌∷◌, length, Some, None, slice_index, slice_set}
 use Rattle.std.specs.List.{AllByRecursion, Contains}
 use Rattle.bw_key.specs.Order.{KeyBytes}
-use Rattle.bw_chain.specs.Children.{FitsChild, HasChild, HasEntry, state_with_child}
+use Rattle.bw_chain.specs.Children.{FitsChild, HasChild, HasChildAt, state_with_child}
 use Rattle.bw_chain.specs.Levels.{IsHomeAt, row}
 use Rattle.bw_chain.specs.Scans.{high_of}
 use Rattle.bw_chain.specs.Slots.{Slot, PageState, Live, side_of, slot_at}
@@ -55,8 +55,8 @@ pub record AreNamed (old new : TreeView) (parent : ℕ) (entries : List (KeyByte
   pub next : new.next ≡ old.next
   pub staged : new.staged ≡ None
 
--- The right neighbour q of the page p begins at this key, which on the level above is at home on a page that has no index
--- entry at it.
+-- The right neighbour q of the page p begins at this key, which on the level above is at home on a page that doesn't name
+-- q there.
 pub record IsUnnamed (tree : TreeView) (p parent : ℕ) (sep : KeyBytes) (q : ℕ) : Type 0 where
   pub level : ℕ
   pub within : level < length tree.levels
@@ -64,7 +64,7 @@ pub record IsUnnamed (tree : TreeView) (p parent : ℕ) (sep : KeyBytes) (q : �
   pub ends : high_of (slot_at tree.slots p) ≡ Some sep
   pub linked : side_of tree.slots p ≡ Some q
   pub home : IsHomeAt tree.slots tree.levels sep (suc level) parent
-  pub unnamed : HasEntry (slot_at tree.slots parent) sep → ⊥
+  pub unnamed : HasChildAt (slot_at tree.slots parent) sep q → ⊥
 
 -- the page has no such right neighbour
 abbrev pub HasNoUnnamed : TreeView → ℕ → Type 0

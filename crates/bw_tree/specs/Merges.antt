@@ -8,10 +8,11 @@ use Rattle.bw_chain.specs.Levels.{row}
 use Rattle.bw_chain.specs.Merges.{IsMerged, level_merged}
 use Rattle.bw_chain.specs.Roots.{HasOneChild, levels_lowered}
 use Rattle.bw_chain.specs.Slots.{Gone, side_of, slot_at}
+use Rattle.bw_tree.specs.Pages.{IsNamer}
 use Rattle.bw_tree.specs.Routing.{IsInLevel}
 use Rattle.bw_tree.specs.View.{TreeView, contents_at}
 
--- two neighbours of a level, base pages by themselves
+-- two neighbours of a level, base pages by themselves, that one page of the level above names
 pub record MayMerge (tree : TreeView) (p q : ℕ) : Type 0 where
   pub level : ℕ
   pub within : level < length tree.levels
@@ -19,6 +20,9 @@ pub record MayMerge (tree : TreeView) (p q : ℕ) : Type 0 where
   pub linked : side_of tree.slots p ≡ Some q
   pub plain : slice_index tree.heads p < 2 ^ 32
   pub other_plain : slice_index tree.heads q < 2 ^ 32
+  pub parent : ℕ
+  pub namer : IsNamer tree p parent
+  pub other_namer : IsNamer tree q parent
 
 -- The page q was absorbed by its left neighbour p, over which there is a record now, and stands on its level no more. There
 -- are two records more. All other pages are as before, and so is what the tree holds.
@@ -34,7 +38,7 @@ pub record HasMerged (old new : TreeView) (p q : ℕ) : Type 0 where
   pub next : new.next ≡ old.next
   pub staged : new.staged ≡ None
 
--- an inner page that is a base page by itself, and that may do without the child at the separator
+-- an inner page that is a base page by itself, and that names a removed page at the separator, which isn't its first one
 pub record MayLoseChild (tree : TreeView) (parent : ℕ) (sep : KeyBytes) : Type 0 where
   pub drops : MayDropChild tree.slots tree.levels parent sep
   pub plain : slice_index tree.heads parent < 2 ^ 32
@@ -70,12 +74,12 @@ pub record IsLowered (old new : TreeView) (child : ℕ) : Type 0 where
   pub staged : new.staged ≡ None
 
 -- This page of the level above still names a page that was removed, at the key where that one began.
-pub record StillNames (tree : TreeView) (p parent : ℕ) : Type 0 where
+pub record IsNamerOfRemoved (tree : TreeView) (p parent : ℕ) : Type 0 where
   pub removed : RemovedPage
   pub is : slot_at tree.slots p ≡ Gone removed
   pub above : IsInLevel tree parent (suc removed.level)
   pub named : HasChildAt (slot_at tree.slots parent) removed.low p
 
 -- the page isn't a removed one, or none still names it
-abbrev pub IsNamedNoMore : TreeView → ℕ → Type 0
-IsNamedNoMore tree p = (parent : ℕ) → StillNames tree p parent → ⊥
+abbrev pub HasNoNamerOfRemoved : TreeView → ℕ → Type 0
+HasNoNamerOfRemoved tree p = (parent : ℕ) → IsNamerOfRemoved tree p parent → ⊥

@@ -1,16 +1,16 @@
 -- What is told of one page: whether it is a base page by itself, its left neighbour, which page names it, and its state.
-use Rattle.std.specs.Prelude.{◌≡◌, ℕ, suc, ◌<◌, ◌^◌, ◌⊎◌, true, length, Some, slice_index}
-use Rattle.std.specs.List.{Contains}
+use Rattle.std.specs.Prelude.{◌≡◌, ℕ, suc, ◌<◌, ◌^◌, true, length, Some, slice_index}
 use Rattle.bw_model.specs.Contents.{pairs_of_range}
 use Rattle.bw_model.specs.Values.{ValueBytes}
 use Rattle.bw_page.specs.Leaves.{LeafView}
 use Rattle.bw_page.specs.declared.pages.Page.{Page}
 use Rattle.bw_page.specs.declared.pages.Page.TheVariants.{Leaf, Inner, Gone}
 use Rattle.bw_chain.specs.Before.{low_of}
+use Rattle.bw_chain.specs.Children.{HasChildAt}
 use Rattle.bw_chain.specs.Levels.{IsHomeAt}
 use Rattle.bw_chain.specs.Scans.{high_of}
 use Rattle.bw_chain.specs.Searches.{IsInLevels, plain_inner}
-use Rattle.bw_chain.specs.Slots.{PageState, Live, children_of, is_leaf, left_of, side_of, slot_at}
+use Rattle.bw_chain.specs.Slots.{is_leaf, side_of, slot_at}
 use Rattle.bw_tree.specs.Routing.{IsInLevel}
 use Rattle.bw_tree.specs.View.{TreeView, contents_at}
 
@@ -32,17 +32,12 @@ pub record IsAbove (tree : TreeView) (p parent : ℕ) : Type 0 where
   pub in_level : IsInLevel tree p level
   pub home : IsHomeAt tree.slots tree.levels (low_of (slot_at tree.slots p)) (suc level) parent
 
--- This page of the level above has an index entry at the key where the page p begins. The entry's child is p, or else a
--- removed page.
+-- this page of the level above names the page p: it has an index entry for it, at the key where p begins
 pub record IsNamer (tree : TreeView) (p parent : ℕ) : Type 0 where
   pub level : ℕ
   pub in_level : IsInLevel tree p level
   pub above : IsInLevel tree parent (suc level)
-  pub state : PageState
-  pub is : slot_at tree.slots parent ≡ Live state
-  pub child : ℕ
-  pub entry : Contains (children_of state.body) (low_of (slot_at tree.slots p), child)
-  pub leads : (child ≡ p) ⊎ ((left : ℕ) × (left_of tree.slots child ≡ Some left))
+  pub named : HasChildAt (slot_at tree.slots parent) (low_of (slot_at tree.slots p)) p
 
 -- no page has: the page stands on no level or on the root's, or isn't named yet
 abbrev pub HasNoNamer : TreeView → ℕ → Type 0

@@ -3,10 +3,11 @@ use Rattle.std.specs.Prelude.{◌≡◌, ℕ, ◌+◌, ◌<◌, ◌≤◌, ◌^�
 use Rattle.std.specs.List.{Contains}
 use Rattle.bw_chain.specs.Levels.{row}
 use Rattle.bw_chain.specs.Slots.{slot_at}
-use Rattle.bw_chain.specs.Splits.{IsParted, level_parted, slot_entries}
+use Rattle.bw_chain.specs.Splits.{HasNoRemovedAt, IsParted, level_parted, slot_entries}
 use Rattle.bw_tree.specs.View.{TreeView, contents_at}
 
--- a page of a level that is a base page by itself and has more entries than those that stay, of which there are some
+-- A page of a level that is a base page by itself and has more entries than those that stay, of which there are some. The
+-- first entry that moves doesn't name a removed page.
 pub record IsSplittable (tree : TreeView) (p keep : ℕ) : Type 0 where
   pub level : ℕ
   pub within : level < length tree.levels
@@ -14,6 +15,7 @@ pub record IsSplittable (tree : TreeView) (p keep : ℕ) : Type 0 where
   pub plain : slice_index tree.heads p < 2 ^ 32
   pub some : 0 < keep
   pub fewer : keep < slot_entries (slot_at tree.slots p)
+  pub live : HasNoRemovedAt tree.slots p keep
 
 -- The page has parted in two, and on its level the new page, whose identifier is the one behind all others, stands right
 -- behind it. There is one record more. All other pages are as before, and so is what the tree holds.

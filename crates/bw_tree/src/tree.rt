@@ -180,9 +180,9 @@ impl Tree {
     }
 
     /// What every tree keeps of its index entries: each names the page of the level below that begins at its separator, or a
-    /// removed page, and none names a page that another one names. So once the entry at the key where a page begins is gone,
-    /// no separator names the page, which is what giving its identifier back asks. A caller's proof knows it behind this
-    /// call, which does nothing.
+    /// removed page, with which no page begins, and none names a page that another one names. So once the entry at the key
+    /// where a page begins is gone, no separator names the page, which is what giving its identifier back asks. A caller's
+    /// proof knows it behind this call, which does nothing.
     pub fn know_entries(&self)
         ensures { AreExact self.now.slots self.now.levels }
     {

@@ -191,9 +191,9 @@ fn a_page_above_with_a_record_drops_an_entry(rt: HostRuntime) {
     drop_does(&rt, &mut tree, Did::NotNeeded);
 }
 
-// A page may begin where a removed one did before that merge is finished.
+// A page may begin where a removed one did before that merge is finished. It takes the place of that one's entry.
 #[test]
-fn a_removed_page_is_behind_a_new_one(rt: HostRuntime) {
+fn a_new_page_takes_the_entry_of_a_removed_one(rt: HostRuntime) {
     let alloc = heap(rt.alloc()).expect(&rt, "memory");
     let mut tree = two_leaves(&rt, alloc);
     absorb_does(&rt, &mut tree, 1, Did::Done);
@@ -201,25 +201,43 @@ fn a_removed_page_is_behind_a_new_one(rt: HostRuntime) {
     split_does(&rt, &mut tree, 0, 2, Did::Done);
     stands(&rt, alloc, &tree, 2, &[FLOOR + 3, 1, 2, 3]);
     finds(&rt, alloc, &tree, 0, b"c", Some(3));
+    assert!(rt; tree.namer(PageId(3)) == None);
+    assert!(rt; tree.namer_of_removed(PageId(1)) == Some(PageId(2)));
+    finish_does(&rt, &mut tree, 0, Did::Done);
+    assert!(rt; tree.namer(PageId(3)) == Some(PageId(2)));
+    assert!(rt; tree.namer_of_removed(PageId(1)) == None);
+    forget_does(&rt, &mut tree, 1, Did::NotNeeded);
     finish_does(&rt, &mut tree, 0, Did::NotNeeded);
+    stands(&rt, alloc, &tree, 2, &[FLOOR + 3, 1, FLOOR + 4, 3]);
+    finds(&rt, alloc, &tree, 0, b"c", Some(3));
+}
+
+// And where the merge is finished first, it gets an entry of its own.
+#[test]
+fn a_new_page_gets_an_entry_where_a_removed_one_had_its(rt: HostRuntime) {
+    let alloc = heap(rt.alloc()).expect(&rt, "memory");
+    let mut tree = two_leaves(&rt, alloc);
+    absorb_does(&rt, &mut tree, 1, Did::Done);
+    consolidate_does(&rt, &mut tree, 0, Did::Done);
+    split_does(&rt, &mut tree, 0, 2, Did::Done);
     forget_does(&rt, &mut tree, 1, Did::Done);
     finish_does(&rt, &mut tree, 0, Did::Done);
     stands(&rt, alloc, &tree, 2, &[FLOOR + 3, 1, FLOOR + 5, 3]);
     finds(&rt, alloc, &tree, 0, b"c", Some(3));
 }
 
-// An entry that begins a page stays, and leads on to the left neighbour.
+// An inner page isn't split in front of an entry of a removed page, so that it can always drop that one.
 #[test]
-fn the_first_entry_of_a_page_stays(rt: HostRuntime) {
+fn no_page_begins_with_a_removed_one(rt: HostRuntime) {
     let alloc = heap(rt.alloc()).expect(&rt, "memory");
     let mut tree = two_leaves(&rt, alloc);
     absorb_does(&rt, &mut tree, 1, Did::Done);
-    split_does(&rt, &mut tree, 2, 1, Did::Done);
-    assert!(rt; tree.namer_of_removed(PageId(1)) == Some(PageId(3)));
-    forget_does(&rt, &mut tree, 1, Did::NotNeeded);
-    finds(&rt, alloc, &tree, 0, b"e", Some(0));
-    finds(&rt, alloc, &tree, 1, b"e", Some(3));
-    stands(&rt, alloc, &tree, 2, &[FLOOR + 2, 1, FLOOR + 3, 3]);
+    assert!(rt; tree.child_at(PageId(2), 1) == Some(PageId(1)));
+    assert!(rt; tree.child_at(PageId(2), 2) == None);
+    split_does(&rt, &mut tree, 2, 1, Did::NotNeeded);
+    stands(&rt, alloc, &tree, 2, &[FLOOR + 2, 1, 2]);
+    forget_does(&rt, &mut tree, 1, Did::Done);
+    stands(&rt, alloc, &tree, 2, &[FLOOR + 2, 1, FLOOR + 3]);
 }
 
 #[test]

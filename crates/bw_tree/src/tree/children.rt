@@ -1,6 +1,6 @@
 // Index entries: inner pages that name one more page.
 ghost use Rattle.std.specs.Prelude.{◌≡◌, None, Decides, MatchOption, OnOk, OnErr};
-ghost use Rattle.bw_chain.specs.Children.{HasEntry};
+ghost use Rattle.bw_chain.specs.Children.{HasChildAt};
 ghost use Rattle.bw_chain.specs.Searches.{IsInLevels};
 ghost use Rattle.bw_chain.specs.Slots.{slot_at};
 ghost use Rattle.bw_chain.specs.Turns.{StartsUpto};
@@ -47,7 +47,7 @@ impl Tree {
     }
 
     /// The right neighbour of a page of a level, if it has one that the level above doesn't name yet: where the key at which
-    /// it begins is at home on a page without an index entry at that key. It is none on the root's level, which has no level
+    /// it begins is at home on a page that doesn't name it at that key. It is none on the root's level, which has no level
     /// above.
     ///
     /// It costs a walk along the page's chain, a search for the key, and one more among the separators of the page above. It
@@ -66,7 +66,7 @@ impl Tree {
         let Some(parent) = self.above(found.0 + 1, found.1) else {
             return None;
         };
-        if self.has_entry(parent, found.1) {
+        if self.has_child(parent, found.1, found.2) {
             return None;
         }
         Some(Unnamed {
@@ -76,12 +76,13 @@ impl Tree {
         })
     }
 
-    /// Whether an inner page that doesn't begin above a key has an index entry at it.
-    pub(super) fn has_entry(&self, page: PageId, key: &Key) -> bool
+    /// Whether an inner page that doesn't begin above a key has this child at it.
+    pub(super) fn has_child(&self, page: PageId, key: &Key, child: PageId) -> bool
         requires inner { IsInnerPage self.now page }
         requires starts { StartsUpto (slot_at self.now.slots page) key.now }
-        ensures { Decides result (HasEntry (slot_at self.now.slots page) key.now) }
+        ensures { Decides result (HasChildAt (slot_at self.now.slots page) key.now child) }
     {
-        self.chains.has_entry(self.heads[page.0 as usize], key)
+        self.chains
+            .has_child(self.heads[page.0 as usize], key, child)
     }
 }

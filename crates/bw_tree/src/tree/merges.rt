@@ -11,12 +11,12 @@ use bw_key::{Key, Memory};
 use bw_page::{PageId, RemovedPage};
 
 impl Tree {
-    ghost use Rattle.bw_tree.specs.Merges.{HasLostChild, HasMerged, IsLowered, IsNamedNoMore, MayBeLowered, MayLoseChild, MayMerge, StillNames};
+    ghost use Rattle.bw_tree.specs.Merges.{HasLostChild, HasMerged, IsLowered, HasNoNamerOfRemoved, MayBeLowered, MayLoseChild, MayMerge, IsNamerOfRemoved};
     ghost use Rattle.bw_tree.specs.Routing.{IsInnerPage};
 
     /// Merges a page into its left neighbour, which gets its entries and goes on to its end. The page is a removed one from
     /// then on: a search that comes to it, as the page above still names it, goes on at the left neighbour. Both are base
-    /// pages by themselves, and no batch is staged.
+    /// pages by themselves, which one page of the level above names, and no batch is staged.
     ///
     /// It adds two records, one of them over the left neighbour, and copies the entries of both, those of leaves as blocks.
     /// `Memory` is answered where a list or the copy of a key finds none, and where there are 2^32 - 1 records; the tree is
@@ -34,8 +34,8 @@ impl Tree {
         Ok(())
     }
 
-    /// Drops an inner page's index entry at a separator, which isn't the first one, as after a merge. The page is a base page
-    /// by itself, and no batch is staged.
+    /// Drops an inner page's index entry at a separator, which isn't the first one and is a removed page's, as after a merge.
+    /// The page is a base page by itself, and no batch is staged.
     ///
     /// It adds one record, over the page, and copies the page's other children. `Memory` is answered where their list or the
     /// copy of a key finds none, and where the list of records can't grow; the tree is as before.
@@ -76,7 +76,7 @@ impl Tree {
     /// where the removed page began. It is none where no page names it, and for a page that isn't a removed one. It costs a
     /// search for that key, and one more among the separators of the page above. It takes no memory.
     pub fn namer_of_removed(&self, page: PageId) -> Option<PageId>
-        ensures { MatchOption result (IsNamedNoMore self.now page) (StillNames self.now page) }
+        ensures { MatchOption result (HasNoNamerOfRemoved self.now page) (IsNamerOfRemoved self.now page) }
     {
         self.know_levels();
         let Some(removed) = self.removed(page) else {
@@ -104,15 +104,5 @@ impl Tree {
             unreachable!();
         };
         inner.children()[0].1
-    }
-
-    // Whether an inner page that doesn't begin above a key has this child at it.
-    fn has_child(&self, page: PageId, key: &Key, child: PageId) -> bool
-        requires inner { IsInnerPage self.now page }
-        requires starts { StartsUpto (slot_at self.now.slots page) key.now }
-        ensures { Decides result (HasChildAt (slot_at self.now.slots page) key.now child) }
-    {
-        self.chains
-            .has_child(self.heads[page.0 as usize], key, child)
     }
 }

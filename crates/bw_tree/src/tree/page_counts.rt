@@ -2,7 +2,8 @@
 ghost use Rattle.std.specs.Prelude.{◌≡◌, ◌<◌, length};
 ghost use Rattle.bw_chain.specs.Reading.{writes_over};
 ghost use Rattle.bw_chain.specs.Slots.{slot_at};
-ghost use Rattle.bw_chain.specs.Splits.{slot_entries};
+ghost use Rattle.bw_chain.specs.Splits.{slot_child, slot_entries};
+ghost use Rattle.bw_tree.specs.Pages.{IsPlain};
 
 use super::Tree;
 use bw_page::PageId;
@@ -15,6 +16,15 @@ impl Tree {
         ensures { result ≡ slot_entries (slot_at self.now.slots page) }
     {
         self.chains.count_entries(self.heads[page.0 as usize])
+    }
+
+    /// The child at a place among those of an inner page that is a base page by itself, or none for a leaf and behind the last
+    /// one. It takes no memory.
+    pub fn child_at(&self, page: PageId, place: usize) -> Option<PageId>
+        requires { IsPlain self.now page }
+        ensures { result ≡ slot_child place (slot_at self.now.slots page) }
+    {
+        self.chains.child_at(self.heads[page.0 as usize], place)
     }
 
     /// How many writes a page has over its base page; an inner page has none. It costs a walk along the page's chain, and

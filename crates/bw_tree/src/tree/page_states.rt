@@ -56,10 +56,10 @@ impl Tree {
         self.on_level(level, Target::Before(Some(low)))
     }
 
-    /// The page of the level above that names a page: that has an index entry at the key where the page begins, which leads to
-    /// the page itself, or to a removed page. It is none for a page that isn't named yet, as the right part of a split that
-    /// isn't finished, on the root's level, and for a page of no level. It costs two searches for that key, and one more
-    /// among the separators of the page above. It takes no memory.
+    /// The page of the level above that names a page: that has an index entry for it, at the key where it begins. It is none
+    /// for a page that isn't named yet, as the right part of a split that isn't finished, on the root's level, and for a page
+    /// of no level. It costs two searches for that key, and one more among the separators of the page above. It takes no
+    /// memory.
     pub fn namer(&self, page: PageId) -> Option<PageId>
         ensures { MatchOption result (HasNoNamer self.now page) (IsNamer self.now page) }
     {
@@ -85,8 +85,7 @@ impl Tree {
         ensures { Decides result (IsNamer self.now page parent) }
     {
         self.know_levels();
-        self.know_entries();
-        self.has_entry(parent, self.low(page))
+        self.has_child(parent, self.low(page), page)
     }
 
     /// The state of a page as of a stamp: a leaf with the writes below the stamp applied, or an inner page as its chain makes

@@ -13,9 +13,10 @@ impl Tree {
     /// answered. The page gets a delta record with the key at which it ends now and its new neighbour (ICDE 2013). No batch
     /// is staged.
     ///
-    /// No page above names the new one yet: searches and scans come to it by the side link, as in a B-link tree. The entries
-    /// that go are moved, those of a leaf as blocks, and the base page keeps the others and its bounds. `Memory` is answered
-    /// where the copy of a key that is a bound or a list finds none, and where no identifier is free; the tree is as before.
+    /// No page above names the new one yet: searches and scans come to it by the side link, as in a B-link tree. It doesn't
+    /// begin with a removed page's entry, so that such an entry can always be dropped. The entries that go are moved, those
+    /// of a leaf as blocks, and the base page keeps the others and its bounds. `Memory` is answered where the copy of a key
+    /// that is a bound or a list finds none, and where no identifier is free; the tree is as before.
     pub fn set_split(&mut self, page: PageId, keep: usize) -> Result<PageId, Memory>
         requires none { self.old.staged ≡ None }
         requires page { IsSplittable self.old page keep }

@@ -15,12 +15,12 @@ name_all-requires-clause-page c =
 pub name_all-requires-clause-rising : goal.name_all-requires-clause-rising
 name_all-requires-clause-rising c =
     let tree = c.args.tree.now in
-    all_rise tree tree.root c.know_levels.ensures.lawful c.in-Some-unnamed_right.first.parent c.args.page c.in_ok-entries.entries.items c.in_ok-entries.ensures.unnamed
+    all_rise tree tree.root c.know_levels.ensures.lawful c.know_entries.ensures c.in-Some-unnamed_right.first.parent c.args.page c.in_ok-entries.entries.items c.in_ok-entries.ensures.unnamed
 
 pub name_all-requires-clause-fit : goal.name_all-requires-clause-fit
 name_all-requires-clause-fit c =
     let tree = c.args.tree.now in
-    all_fit tree tree.root c.know_levels.ensures.lawful c.in-Some-unnamed_right.first.parent c.args.page c.in_ok-entries.entries.items c.in_ok-entries.ensures.unnamed
+    all_fit tree tree.root c.know_levels.ensures.lawful c.know_entries.ensures c.in-Some-unnamed_right.first.parent c.args.page c.in_ok-entries.entries.items c.in_ok-entries.ensures.unnamed
 
 pub returns-clause-ok : goal.returns-clause-ok
 returns-clause-ok c =

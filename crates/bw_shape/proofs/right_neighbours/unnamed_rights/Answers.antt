@@ -15,7 +15,7 @@ pub unnamed_entry-requires : goal.unnamed_entry-requires
 unnamed_entry-requires c =
     let tree = c.args.tree.now in
     let i = c.loop-entries.invariant in
-    subst (IsInLevels tree.levels) (sym i.last) (last_in_levels tree tree.root c.know_levels.ensures.lawful c.args.parent c.args.page c.loop-entries.entries.items c.requires i.unnamed)
+    subst (IsInLevels tree.levels) (sym i.last) (last_in_levels tree tree.root c.know_levels.ensures.lawful c.know_entries.ensures c.args.parent c.args.page c.loop-entries.entries.items c.requires i.unnamed)
 
 pub loop-entries-init : goal.loop-entries-init
 loop-entries-init c = record {
@@ -26,7 +26,7 @@ loop-entries-init c = record {
 pub loop-entries-smaller : goal.loop-entries-smaller
 loop-entries-smaller c =
     let tree = c.args.tree.now in
-    walks_less tree tree.root c.know_levels.ensures.lawful c.args.parent c.loop-entries.last c.in-Some.entry.0 c.in-Some.entry.1
+    walks_less tree tree.root c.know_levels.ensures.lawful c.know_entries.ensures c.args.parent c.loop-entries.last c.in-Some.entry.0 c.in-Some.entry.1
     (subst (Outcome tree c.loop-entries.last c.args.parent) c.in-Some.is c.in_ok-entry.ensures)
 
 pub loop-entries-preserved : goal.loop-entries-preserved

@@ -18,16 +18,16 @@ returns-then-found-level c =
     none_at_top c.args.self.now c.self.inside.root (lawful_now c.self.inside.root _ _ c.self.view_is c.self.invariant.now.lawful) c.args.page
     c.in-Some.found.0 c.level.result c.in-Some.ensures.page.at_level (sym c.level.ensures) (omega (arith, c.if-found-level.true))
 
-pub has_entry-requires-clause-inner : goal.has_entry-requires-clause-inner
-has_entry-requires-clause-inner c = home_inner c.args.self.now c.in-Some.found.1.now (c.in-Some.found.0 + 1) c.in-Some-above.parent c.in-Some-above.ensures (omega arith)
+pub has_child-requires-clause-inner : goal.has_child-requires-clause-inner
+has_child-requires-clause-inner c = home_inner c.args.self.now c.in-Some.found.1.now (c.in-Some.found.0 + 1) c.in-Some-above.parent c.in-Some-above.ensures (omega arith)
 
-pub returns-then-has_entry : goal.returns-then-has_entry
-returns-then-has_entry c =
+pub returns-then-has_child : goal.returns-then-has_child
+returns-then-has_child c =
     let found = c.in-Some.found in
     none_named c.args.self.now c.self.inside.root (lawful_now c.self.inside.root _ _ c.self.view_is c.self.invariant.now.lawful) c.args.page
     found.0 c.in-Some-above.parent found.1.now found.2 c.in-Some.ensures.page
     (subst (λ n. IsHomeAt c.args.self.now.slots c.args.self.now.levels found.1.now n c.in-Some-above.parent) (next_level found.0) c.in-Some-above.ensures)
-    (c.has_entry.ensures.0 c.if-has_entry.true)
+    (c.has_child.ensures.0 c.if-has_child.true)
 
 pub returns : goal.returns
 returns c =
@@ -35,4 +35,4 @@ returns c =
     one_unnamed c.args.self.now c.self.inside.root (lawful_now c.self.inside.root _ _ c.self.view_is c.self.invariant.now.lawful) c.args.page
     found.0 c.in-Some-above.parent found.1.now found.2 c.requires c.in-Some.ensures.page
     (subst (λ n. IsHomeAt c.args.self.now.slots c.args.self.now.levels found.1.now n c.in-Some-above.parent) (next_level found.0) c.in-Some-above.ensures)
-    (λ has. different (sym (c.has_entry.ensures.1 has) ∙ c.if-has_entry.false))
+    (λ has. different (sym (c.has_child.ensures.1 has) ∙ c.if-has_child.false))
