@@ -1,6 +1,7 @@
 -- A page above that is left as a base page by itself, and then names one more page.
 use Rattle.std.proofs.Common.{inl, inr, ◌≡◌, ℕ, ◌∙◌, sym, subst, slice_index, arith}
 use Rattle.std.proofs.lemmas.List.{set-set}
+use Rattle.std.specs.Prelude.{Result, Ok, Err, OnErr}
 use Rattle.bw_key.specs.Order.{KeyBytes}
 use Rattle.bw_chain.specs.Children.{FitsChild}
 use Rattle.bw_tree.specs.Children.{IsNamed, IsUnnamed}
@@ -35,4 +36,9 @@ named_over old mid new p sep child rebased named =
 -- the page above may be a base page by itself now: it is the one that was to name the neighbour
 pub over_namer : (old new : TreeView) (p parent : ℕ) (sep : KeyBytes) (q : ℕ) → IsUnnamed old p parent sep q → IsSameOver (λ r. r ≡ parent) old new → IsSameOver (IsNamerToBe old p) old new
 over_namer old new p parent sep q u (inl same) = inl same
-over_namer old new p parent sep q u (inr page) = inr (page.0, (sep, (q, subst (λ r. IsUnnamed old p r sep q) (sym page.1.0) u)), page.1.1)
+over_namer old new p parent sep q u (inr page) = inr (page.0, ((sep, (q, subst (λ r. IsUnnamed old p r sep q) (sym page.1.0) u)), page.1.1))
+
+-- what holds anyhow holds where memory ran out
+pub where_refused : {A E X : Type 0} (r : Result A E) → X → OnErr r X
+where_refused (Ok v) x = tt
+where_refused (Err e) x = x

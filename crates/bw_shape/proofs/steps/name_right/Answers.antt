@@ -2,7 +2,7 @@ use Rattle.std.proofs.Common.{refl, sym, subst}
 use Rattle.bw_key.specs.Order.{KeyBytes}
 use Rattle.bw_chain.specs.Children.{FitsChild}
 use Rattle.bw_tree.proofs.UnnamedLemmas.{fits_child}
-use Rattle.bw_shape.proofs.FinishLemmas.{over_namer}
+use Rattle.bw_shape.proofs.FinishLemmas.{over_namer, where_refused}
 use Rattle.bw_shape.proofs.steps.name_right.Goals as goal
 
 pub returns-in_default-clause-ok : goal.returns-in_default-clause-ok
@@ -18,4 +18,5 @@ name_child-requires-clause-fits c =
 pub returns-in_err-name_child-clause-err : goal.returns-in_err-name_child-clause-err
 returns-in_err-name_child-clause-err c =
     let u = c.in-Some-unnamed_right.unnamed in
-    over_namer c.args.tree.now c.name_child.new.tree c.args.page u.parent u.sep.now u.page c.in-Some-unnamed_right.ensures c.in_err-name_child.ensures.err
+    where_refused c.from_residual-in_err-name_child.result
+    (over_namer c.args.tree.now c.name_child.new.tree c.args.page u.parent u.sep.now u.page c.in-Some-unnamed_right.ensures c.in_err-name_child.ensures.err)
