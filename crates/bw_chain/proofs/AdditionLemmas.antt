@@ -1,20 +1,19 @@
 -- Base pages and records that are added leave each page as it is.
 use Rattle.std.proofs.Common.{inl, inr, ◌⊎◌, set, ◌≡◌, ℕ, zero, suc, ◌+◌, ◌-◌, ◌<◌, ◌≤◌, ◌^◌, false, cond, List, [], ◌∷◌, ◌++◌, length, map, Option, Some, None, ltb, refl, sym, ap, ◌∙◌, subst, arith, length-append}
 use Rattle.std.proofs.lemmas.Bool.{cases_eq}
+use Rattle.std.proofs.lemmas.List.{length-set}
 use Rattle.std.proofs.lemmas.Bool.Decides.{nat_tests}
-use Rattle.std.specs.List.{Contains}
 use Rattle.std.specs.Prelude.{slice_get}
 use Rattle.bw_page.specs.declared.pages.Page.{Page}
 use Rattle.bw_delta.specs.declared.deltas.Delta.{Delta}
-use Rattle.bw_delta.specs.declared.deltas.Delta.TheVariants.{Put, Split, Absorb, Removed, AddChild, DropChild}
 use Rattle.bw_chain.specs.Slots.{Slot, Free, slot_at}
-use Rattle.bw_chain.specs.Chains.{AllEnd, Bases, ChainsView, IsChain, Records, Ends, EndsAt, IsShaped, floor_word, page_at, based, change, changed, delta_in, deltas_at, link_of, linked_word, plain, record_at, slot_of_word, slots_of}
-use Rattle.bw_chain.specs.Supports.{OwnBases, base_under, supports_at, supports_of}
+use Rattle.bw_chain.specs.Chains.{AllEnd, Bases, ChainsView, IsChain, Records, Ends, IsShaped, floor_word, page_at, based, change, changed, delta_in, deltas_at, link_of, linked_word, plain, record_at, slot_of_word, slots_of}
+use Rattle.bw_chain.specs.Supports.{OwnBases, base_under}
 use Rattle.bw_chain.specs.Walk.{Leads}
-use Rattle.bw_chain.proofs.BaseLemmas.{get_set_other, get_set_same, rests}
+use Rattle.bw_chain.proofs.BaseLemmas.{get_set_other, get_set_same}
 use Rattle.bw_chain.proofs.ChainLemmas.{no_link, no_record, on_base, slot_of_way}
 use Rattle.bw_chain.proofs.GrowthLemmas.{Extends, append_extends, still_ends}
-use Rattle.bw_chain.proofs.SupportLemmas.{base_within, page_kept, still_rests, supports_of_way}
+use Rattle.bw_chain.proofs.SupportLemmas.{base_within, page_kept, still_rests}
 use Rattle.bw_chain.proofs.WalkLemmas.{ended_is}
 
 one : {X : Type 0} {x y : X} → Some x ≡ Some y → x ≡ y
@@ -22,10 +21,6 @@ one e = cc
 
 none : {X : Type 0} {x : X} → None ≡ Some x → ⊥
 none e = cc
-
-only : {n b : ℕ} → Contains (n ∷ []) b → n ≡ b
-only (zero, lt, is) = is
-only (suc i, lt, is) = absurd (omega arith)
 
 -- what was there is where it was once more follows
 pub get_front : {X : Type 0} (xs ys : List X) (i : ℕ) → i < length xs → slice_get (xs ++ ys) i ≡ slice_get xs i
@@ -83,24 +78,6 @@ slot_here f heads p w at = slot_is f heads p ∙ ap (slot_of_entry f) at
 pub page_is : (chains : ChainsView) (word : ℕ) (s : Slot) → IsChain chains word → word < floor_word → s ≡ based (slice_get chains.bases word) → page_at chains word ≡ s
 page_is chains word s ends low is = on_base chains.bases chains.records word ends (no_record chains.records word low) ∙ sym is
 
--- a page rests on its base page alone
-only_base : (ds : List Delta) (e b : ℕ) → IsShaped ds → Contains (supports_of ds e) b → b ≡ e
-only_base [] e b shaped has = sym (only has)
-only_base (Put w ∷ ds) e b shaped has = only_base ds e b shaped has
-only_base (Split k to ∷ ds) e b shaped has = sym (only (subst (λ (l : List Delta). Contains (supports_of l e) b) shaped has))
-only_base (Absorb k base high side ∷ ds) e b shaped has = sym (only (subst (λ (l : List Delta). Contains (supports_of l e) b) shaped has))
-only_base (Removed left ∷ ds) e b shaped has = absurd shaped
-only_base (AddChild k child ∷ ds) e b shaped has = sym (only (subst (λ (l : List Delta). Contains (supports_of l e) b) shaped has))
-only_base (DropChild k ∷ ds) e b shaped has = sym (only (subst (λ (l : List Delta). Contains (supports_of l e) b) shaped has))
-
-rests_within : (bases : Bases) (records : Records) (word b : ℕ) → Ends bases records word → Contains (supports_at records word) b → b < length bases
-rests_within bases records word b ends has = by ends.0 ends.1.0 ends.1.1
-  where
-    by : (ws : List ℕ) (e : ℕ) → EndsAt bases records word ws e → b < length bases
-    by ws e h =
-        let same = only_base (deltas_at records ws) e b h.shaped (subst (λ (l : List ℕ). Contains l b) (supports_of_way records word ws e h.way h.short) has) in
-        omega (arith, same, h.within)
-
 -- base pages are where they were, and there may be more
 pub record AreLonger (old new : Bases) : Type 0 where
   pub longer : length old ≤ length new
@@ -110,15 +87,15 @@ pub record AreLonger (old new : Bases) : Type 0 where
 pub record IsKept (old new : Bases) (records more : Records) (word : ℕ) : Type 0 where
   pub ends : Ends new more word
   pub state : slot_of_word new more word ≡ slot_of_word old records word
-  pub supports : supports_at more word ≡ supports_at records word
+  pub base : base_under more word ≡ base_under records word
 
 pub kept_on : (old new : Bases) (records more : Records) → AreLonger old new → Extends records more → length records ≤ length more → (word : ℕ) → Ends old records word → IsKept old new records more word
 kept_on old new records more bases extends longer word ends =
     let still = still_ends old records more word extends longer ends in
     record {
       ends = widened still.0;
-      state = page_kept old new more word (λ b has. bases.same b (rests_within old more word b still.0 has)) ∙ still.1;
-      supports = still_rests old records more word extends longer ends;
+      state = page_kept old new more word (bases.same (base_under more word) (base_within old more word still.0)) ∙ still.1;
+      base = still_rests old records more word extends longer ends;
     }
   where
     widened : Ends old more word → Ends new more word
@@ -128,16 +105,6 @@ kept_on old new records more bases extends longer word ends =
 
 all_longer : (bases : Bases) → AreLonger bases bases
 all_longer bases = record { longer = omega arith; same = λ b lt. refl }
-
--- a page rested on a base page
-record Rested (heads : List ℕ) (bases : Bases) (records : Records) (q b : ℕ) : Type 0 where
-  word : ℕ
-  at : slice_get heads q ≡ Some word
-  within : b < length bases
-  has : Contains (supports_at records word) b
-
-one_rested : (heads : List ℕ) (bases : Bases) (records : Records) → OwnBases heads bases records → (q r b : ℕ) → Rested heads bases records q b → Rested heads bases records r b → q ≡ r
-one_rested heads bases records own q r b x y = own q r x.word y.word b x.at y.at x.within x.has y.has
 
 -- a record is put over a page that had none
 module _ (heads : List ℕ) (bases : Bases) (records : Records) (ends : AllEnd bases records heads) (own : OwnBases heads bases records) (p e : ℕ) (at : slice_get heads p ≡ Some e) (low : e < 2 ^ 32) (d : Delta) (shaped : IsShaped (d ∷ [])) where
@@ -198,19 +165,18 @@ module _ (heads : List ℕ) (bases : Bases) (records : Records) (ends : AllEnd b
       by (inl here) = subst (Ends bases records_with) (sym here.1) ends_here
       by (inr there) = (kept_there q w there.1).ends
 
-  -- each page rests on what it rested on
-  rested : (q w b : ℕ) → slice_get heads_with q ≡ Some w → b < length bases → Contains (supports_at records_with w) b → Rested heads bases records q b
-  rested q w b at_q lt has = by (is_there q w at_q)
-    where
-      by : ((q ≡ p) × (w ≡ new_word)) ⊎ ((q ≡ p → ⊥) × (slice_get heads q ≡ Some w)) → Rested heads bases records q b
-      by (inl here) =
-          let on = subst (λ v. Contains (supports_at records_with v) b) here.1 has in
-          let base : b ≡ e = only_base (d ∷ []) e b shaped (subst (λ (l : List ℕ). Contains l b) (supports_of_way records_with new_word (new_word ∷ []) e way (omega (arith, more)) ∙ ap (λ (l : List Delta). supports_of l e) listed) on) in
-          record { word = e; at = ap (slice_get heads) here.0 ∙ at; within = lt; has = subst (Contains (supports_at records e)) (base_is ∙ sym base) (rests bases records e (ends p e at)) }
-      by (inr there) = record { word = w; at = there.1; within = lt; has = subst (λ (l : List ℕ). Contains l b) (kept_there q w there.1).supports has }
-
   pub record_own : OwnBases heads_with bases records_with
-  record_own q r v w b at_q at_r lt has_q has_r = one_rested heads bases records own q r b (rested q v b at_q lt has_q) (rested r w b at_r lt has_r)
+  record_own = record {
+    count = length-set heads p new_word ∙ own.count;
+    number = λ q w at_q. by q w (is_there q w at_q);
+  }
+    where
+      by : (q w : ℕ) → ((q ≡ p) × (w ≡ new_word)) ⊎ ((q ≡ p → ⊥) × (slice_get heads q ≡ Some w)) → base_under records_with w ≡ q
+      by q w (inl here) =
+          ap (base_under records_with) here.1
+          ∙ ended_is (link_of records_with) (length records_with) new_word (new_word ∷ []) e way (omega (arith, more))
+          ∙ sym base_is ∙ own.number p e at ∙ sym here.0
+      by q w (inr there) = (kept_there q w there.1).base ∙ own.number q w there.1
 
   pub record_here : slot_at (slots_of heads_with bases records_with) p ≡ change bases d (slot_at (slots_of heads bases records) p)
   record_here =
@@ -255,22 +221,17 @@ module _ (heads : List ℕ) (bases : Bases) (records : Records) (ends : AllEnd b
       by (inl there) = (kept_before q w there).ends
       by (inr last) = subst (Ends bases_with records) (sym last.1) ends_alone
 
-  -- a page rests on the new base page, which is the new page, or on what it rested on
-  rests_where : (q w b : ℕ) → slice_get heads_longer q ≡ Some w → Contains (supports_at records w) b → Rested heads bases records q b ⊎ ((q ≡ length heads) × (b ≡ number))
-  rests_where q w b at_q has = by (from_front heads number w q at_q)
-    where
-      by : (slice_get heads q ≡ Some w) ⊎ ((q ≡ length heads) × (w ≡ number)) → Rested heads bases records q b ⊎ ((q ≡ length heads) × (b ≡ number))
-      by (inl there) = inl (record { word = w; at = there; within = rests_within bases records w b (ends q w there) has; has = has })
-      by (inr last) = inr (last.0, sym (only (subst (λ (l : List ℕ). Contains l b) (supports_of_way records number [] number alone (omega arith)) (subst (λ v. Contains (supports_at records v) b) last.1 has))))
-
   pub page_own : OwnBases heads_longer bases_with records
-  page_own q r v w b at_q at_r lt has_q has_r = by (rests_where q v b at_q has_q) (rests_where r w b at_r has_r)
+  page_own = record {
+    count = length-append heads (number ∷ []) ∙ ap (λ n. n + 1) own.count ∙ sym more_bases;
+    number = λ q w at_q. by q w (from_front heads number w q at_q);
+  }
     where
-      by : Rested heads bases records q b ⊎ ((q ≡ length heads) × (b ≡ number)) → Rested heads bases records r b ⊎ ((r ≡ length heads) × (b ≡ number)) → q ≡ r
-      by (inl x) (inl y) = one_rested heads bases records own q r b x y
-      by (inl x) (inr y) = absurd (omega (arith, x.within, y.1))
-      by (inr x) (inl y) = absurd (omega (arith, y.within, x.1))
-      by (inr x) (inr y) = x.0 ∙ sym y.0
+      by : (q w : ℕ) → (slice_get heads q ≡ Some w) ⊎ ((q ≡ length heads) × (w ≡ number)) → base_under records w ≡ q
+      by q w (inl there) = own.number q w there
+      by q w (inr last) =
+          ap (base_under records) last.1 ∙ ended_is (link_of records) (length records) number [] number alone (omega arith)
+          ∙ sym own.count ∙ sym last.0
 
   pub page_there : slot_at (slots_of heads_longer bases_with records) (length heads) ≡ plain page
   page_there =

@@ -1,18 +1,16 @@
 -- One base page takes the place of another.
 use Rattle.std.proofs.Common.{inl, inr, ◌⊎◌, set, ◌≡◌, ℕ, zero, suc, ◌<◌, ◌^◌, List, [], ◌∷◌, length, map, Some, None, refl, sym, ap, ◌∙◌, subst, arith}
 use Rattle.std.proofs.lemmas.Bool.{cases_eq}
-use Rattle.std.specs.List.{Contains}
+use Rattle.std.proofs.lemmas.List.{length-set}
 use Rattle.std.specs.Prelude.{slice_get}
 use Rattle.bw_page.specs.declared.pages.Page.{Page}
-use Rattle.bw_delta.specs.declared.deltas.Delta.{Delta}
-use Rattle.bw_delta.specs.declared.deltas.Delta.TheVariants.{Put, Split, Absorb, Removed, AddChild, DropChild}
-use Rattle.bw_chain.specs.Chains.{AllEnd, Bases, Records, Ends, EndsAt, IsShaped, based, deltas_at, link_of, plain, slot_of_word, slots_of}
+use Rattle.bw_chain.specs.Chains.{AllEnd, Bases, Records, Ends, EndsAt, based, link_of, plain, slot_of_word, slots_of}
 use Rattle.bw_chain.specs.Slots.{Slot}
-use Rattle.bw_chain.specs.Supports.{OwnBases, base_under, supports_at, supports_of}
+use Rattle.bw_chain.specs.Supports.{OwnBases, base_under}
 use Rattle.bw_chain.specs.Walk.{Leads}
 use Rattle.bw_chain.proofs.ChainLemmas.{no_link, no_record, on_base}
 use Rattle.bw_chain.proofs.GrowthLemmas.{same_map}
-use Rattle.bw_chain.proofs.SupportLemmas.{base_within, page_kept, supports_of_way}
+use Rattle.bw_chain.proofs.SupportLemmas.{base_within, one_page, page_kept}
 use Rattle.bw_chain.proofs.WalkLemmas.{ended_is}
 
 pub get_set_same : {X : Type 0} (xs : List X) (i : ℕ) (x : X) → i < length xs → slice_get (set xs i x) i ≡ Some x
@@ -27,38 +25,12 @@ get_set_other (y ∷ xs) zero (suc j) x other = refl
 get_set_other (y ∷ xs) (suc i) zero x other = refl
 get_set_other (y ∷ xs) (suc i) (suc j) x other = get_set_other xs i j x (λ e. other (ap suc e))
 
-set_length : {X : Type 0} (xs : List X) (i : ℕ) (x : X) → length (set xs i x) ≡ length xs
-set_length [] i x = refl
-set_length (y ∷ xs) zero x = refl
-set_length (y ∷ xs) (suc i) x = ap suc (set_length xs i x)
-
 -- a number of a base page is below those of records
 base_low : (bases : Bases) (records : Records) (word : ℕ) → Ends bases records word → base_under records word < 2 ^ 32
 base_low bases records word ends = by ends.0 ends.1.0 ends.1.1
   where
     by : (ws : List ℕ) (e : ℕ) → EndsAt bases records word ws e → base_under records word < 2 ^ 32
     by ws e h = subst (λ n. n < 2 ^ 32) (sym (ended_is (link_of records) (length records) word ws e h.way h.short)) h.limit
-
-base_alone : (ds : List Delta) (e : ℕ) → ds ≡ [] → Contains (supports_of ds e) e
-base_alone ds e none = subst (λ (l : List Delta). Contains (supports_of l e) e) (sym none) (0, omega arith, refl)
-
--- a page rests on the base page under its chain
-rests_on_base : (ds : List Delta) (e : ℕ) → IsShaped ds → Contains (supports_of ds e) e
-rests_on_base [] e shaped = (0, omega arith, refl)
-rests_on_base (Put w ∷ ds) e shaped = rests_on_base ds e shaped
-rests_on_base (Split k to ∷ ds) e shaped = base_alone ds e shaped
-rests_on_base (Absorb k base high side ∷ ds) e shaped = base_alone ds e shaped
-rests_on_base (Removed left ∷ ds) e shaped = absurd shaped
-rests_on_base (AddChild k child ∷ ds) e shaped = base_alone ds e shaped
-rests_on_base (DropChild k ∷ ds) e shaped = base_alone ds e shaped
-
-pub rests : (bases : Bases) (records : Records) (word : ℕ) → Ends bases records word → Contains (supports_at records word) (base_under records word)
-rests bases records word ends = by ends.0 ends.1.0 ends.1.1
-  where
-    by : (ws : List ℕ) (e : ℕ) → EndsAt bases records word ws e → Contains (supports_at records word) (base_under records word)
-    by ws e h =
-        subst (λ (l : List ℕ). Contains l (base_under records word)) (sym (supports_of_way records word ws e h.way h.short))
-        (subst (Contains (supports_of (deltas_at records ws) e)) (sym (ended_is (link_of records) (length records) word ws e h.way h.short)) (rests_on_base (deltas_at records ws) e h.shaped))
 
 module _ (heads : List ℕ) (bases : Bases) (records : Records) (ends : AllEnd bases records heads) (own : OwnBases heads bases records) (p word : ℕ) (at : slice_get heads p ≡ Some word) (page : Page) where
   abbrev pub number : ℕ
@@ -80,7 +52,7 @@ module _ (heads : List ℕ) (bases : Bases) (records : Records) (ends : AllEnd b
   alone = (refl, sym (no_link records number low))
 
   ends_alone : Ends bases_after records number
-  ends_alone = ([], (number, record { way = alone; short = omega arith; within = omega (arith, within, set_length bases number (Some page)); limit = low; shaped = tt }))
+  ends_alone = ([], (number, record { way = alone; short = omega arith; within = omega (arith, within, length-set bases number (Some page)); limit = low; shaped = tt }))
 
   -- the page stands alone where the chain was
   pub put_there : slot_of_word bases_after records number ≡ plain page
@@ -88,9 +60,9 @@ module _ (heads : List ℕ) (bases : Bases) (records : Records) (ends : AllEnd b
 
   -- and the other pages are as they were
   pub others_kept : (q w : ℕ) → slice_get heads q ≡ Some w → (q ≡ p → ⊥) → slot_of_word bases_after records w ≡ slot_of_word bases records w
-  others_kept q w at_q other = page_kept bases bases_after records w (λ b has.
-      get_set_other bases number b (Some page) (λ same.
-      other (own q p w word number at_q at within (subst (Contains (supports_at records w)) same has) (rests bases records word (ends p word at)))))
+  others_kept q w at_q other = page_kept bases bases_after records w (
+      get_set_other bases number (base_under records w) (Some page) (λ same.
+      other (one_page heads bases records own q p w word at_q at same)))
 
   is_there : (q w : ℕ) → slice_get heads_after q ≡ Some w → ((q ≡ p) × (w ≡ number)) ⊎ ((q ≡ p → ⊥) × (slice_get heads q ≡ Some w))
   is_there q w at_q = by (cases_eq q p)
@@ -116,31 +88,21 @@ module _ (heads : List ℕ) (bases : Bases) (records : Records) (ends : AllEnd b
       within_still : (v : ℕ) → Ends bases records v → Ends bases_after records v
       within_still v h =
           let e = h.1.1 in
-          (h.0, (h.1.0, record { way = e.way; short = e.short; within = omega (arith, e.within, set_length bases number (Some page)); limit = e.limit; shaped = e.shaped }))
+          (h.0, (h.1.0, record { way = e.way; short = e.short; within = omega (arith, e.within, length-set bases number (Some page)); limit = e.limit; shaped = e.shaped }))
 
       by : ((q ≡ p) × (w ≡ number)) ⊎ ((q ≡ p → ⊥) × (slice_get heads q ≡ Some w)) → Ends bases_after records w
       by (inl here) = subst (Ends bases_after records) (sym here.1) ends_alone
       by (inr there) = within_still w (ends q w there.1)
 
-  -- each page rests on what it rested on, or on less
-  rested : (q w b : ℕ) → slice_get heads_after q ≡ Some w → Contains (supports_at records w) b → (v : ℕ) × (slice_get heads q ≡ Some v) × Contains (supports_at records v) b
-  rested q w b at_q has = by (is_there q w at_q)
-    where
-      only : {n : ℕ} → Contains (n ∷ []) b → n ≡ b
-      only (zero, lt, is) = is
-      only (suc i, lt, is) = absurd (omega arith)
-
-      by : ((q ≡ p) × (w ≡ number)) ⊎ ((q ≡ p → ⊥) × (slice_get heads q ≡ Some w)) → (v : ℕ) × (slice_get heads q ≡ Some v) × Contains (supports_at records v) b
-      by (inl here) =
-          let same : number ≡ b = only (subst (λ (l : List ℕ). Contains l b) (supports_of_way records number [] number alone (omega arith)) (subst (λ v. Contains (supports_at records v) b) here.1 has)) in
-          (word, ap (slice_get heads) here.0 ∙ at, subst (Contains (supports_at records word)) same (rests bases records word (ends p word at)))
-      by (inr there) = (w, there.1, has)
-
   pub own_after : OwnBases heads_after bases_after records
-  own_after q r v w b at_q at_r lt has_q has_r =
-      let x = rested q v b at_q has_q in
-      let y = rested r w b at_r has_r in
-      own q r x.0 y.0 b x.1 y.1 (omega (arith, lt, set_length bases number (Some page))) x.2 y.2
+  own_after = record {
+    count = length-set heads p number ∙ own.count ∙ sym (length-set bases number (Some page));
+    number = λ q w at_q. by q w (is_there q w at_q);
+  }
+    where
+      by : (q w : ℕ) → ((q ≡ p) × (w ≡ number)) ⊎ ((q ≡ p → ⊥) × (slice_get heads q ≡ Some w)) → base_under records w ≡ q
+      by q w (inl here) = ap (base_under records) here.1 ∙ ended_is (link_of records) (length records) number [] number alone (omega arith) ∙ own.number p word at ∙ sym here.0
+      by q w (inr there) = own.number q w there.1
 
 -- a list mapped in one way, and with one element changed in another way
 mapped_set : (f g : ℕ → Slot) (xs : List ℕ) (i n : ℕ) → ((j x : ℕ) → slice_get xs j ≡ Some x → (j ≡ i → ⊥) → g x ≡ f x) → ((x : ℕ) → slice_get xs i ≡ Some x → g n ≡ f x) → map g (set xs i n) ≡ map f xs

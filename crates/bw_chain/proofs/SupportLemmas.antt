@@ -1,27 +1,38 @@
--- A page is the same over other base pages, where those on which it rests are.
-use Rattle.std.proofs.Common.{◌≡◌, ℕ, ◌<◌, ◌≤◌, List, [], ◌∷◌, length, Some, None, refl, sym, ap, ◌∙◌, subst, arith}
+-- A page is the same over other base pages, where the one on which it rests is.
+use Rattle.std.proofs.Common.{◌≡◌, ℕ, ◌<◌, ◌≤◌, List, [], ◌∷◌, length, Option, Some, None, refl, sym, ap, ◌∙◌, subst, arith}
 use Rattle.std.specs.Prelude.{slice_get}
+use Rattle.bw_page.specs.declared.pages.Page.{Page}
 use Rattle.bw_delta.specs.declared.deltas.Delta.{Delta}
 use Rattle.bw_delta.specs.declared.deltas.Delta.TheVariants.{Put, Split, Absorb, Removed, AddChild, DropChild}
 use Rattle.bw_chain.specs.Chains.{Bases, Records, Ends, EndsAt, based, change, changed, deltas_at, link_of}
 use Rattle.bw_chain.specs.Laws.{PageIsKept}
-use Rattle.bw_chain.specs.Supports.{KeepsBases, base_under, supports_at, supports_of}
-use Rattle.bw_chain.specs.Walk.{Leads, walked, ended}
-use Rattle.bw_chain.proofs.GrowthLemmas.{Extends, leads_on as way_on, deltas_on}
-use Rattle.bw_chain.proofs.WalkLemmas.{ended_is, walked_is, way_falls_within}
+use Rattle.bw_chain.specs.Slots.{Slot}
+use Rattle.bw_chain.specs.Supports.{OwnBases, base_under}
+use Rattle.bw_chain.specs.Walk.{Leads, walked}
+use Rattle.bw_chain.proofs.GrowthLemmas.{Extends, leads_on as way_on}
+use Rattle.bw_chain.proofs.WalkLemmas.{ended_is, way_falls_within}
 
-state_kept : (old new : Bases) (ds : List Delta) (e : ℕ) → KeepsBases old new (supports_of ds e) → changed new ds (based (slice_get new e)) ≡ changed old ds (based (slice_get old e))
-state_kept old new [] e same = ap based (same e (0, omega arith, refl))
-state_kept old new (Put w ∷ ds) e same = ap (change old (Put w)) (state_kept old new ds e same)
-state_kept old new (Split k to ∷ ds) e same = ap (change old (Split k to)) (state_kept old new ds e same)
-state_kept old new (Absorb k base high side ∷ ds) e same = ap (change old (Absorb k base high side)) (state_kept old new ds e same)
-state_kept old new (Removed left ∷ ds) e same = state_kept old new ds e same
-state_kept old new (AddChild k child ∷ ds) e same = ap (change old (AddChild k child)) (state_kept old new ds e same)
-state_kept old new (DropChild k ∷ ds) e same = ap (change old (DropChild k)) (state_kept old new ds e same)
+-- no delta looks at other base pages
+same_change : (old new : Bases) (d : Delta) (slot : Slot) → change new d slot ≡ change old d slot
+same_change old new (Put w) slot = refl
+same_change old new (Split k to) slot = refl
+same_change old new (Absorb k base high side) slot = refl
+same_change old new (Removed left) slot = refl
+same_change old new (AddChild k child) slot = refl
+same_change old new (DropChild k) slot = refl
+
+same_changed : (old new : Bases) (ds : List Delta) (slot : Slot) → changed new ds slot ≡ changed old ds slot
+same_changed old new [] slot = refl
+same_changed old new (d ∷ ds) slot = same_change old new d (changed new ds slot) ∙ ap (change old d) (same_changed old new ds slot)
 
 pub page_kept : PageIsKept
 page_kept old new records word same =
-    state_kept old new (deltas_at records (walked (link_of records) (length records) word)) (ended (link_of records) (length records) word) same
+    let ds = deltas_at records (walked (link_of records) (length records) word) in
+    same_changed old new ds (based (slice_get new (base_under records word))) ∙ ap (λ (o : Option (Option Page)). changed old ds (based o)) same
+
+-- no two pages rest on one base page
+pub one_page : (heads : List ℕ) (bases : Bases) (records : Records) → OwnBases heads bases records → (p q v w : ℕ) → slice_get heads p ≡ Some v → slice_get heads q ≡ Some w → base_under records v ≡ base_under records w → p ≡ q
+one_page heads bases records own p q v w at_p at_q same = sym (own.number p v at_p) ∙ same ∙ own.number q w at_q
 
 -- links lead from a word to a base page
 pub record LeadsTo (records : Records) (base word : ℕ) : Type 0 where
@@ -64,18 +75,11 @@ leads_no_more records base word none h = by h.words h.way
     by [] way = way.0
     by (w ∷ ws) way = absurd (no_next (sym none ∙ way.1.1))
 
--- on what the page of a way rests
-pub supports_of_way : (records : Records) (word : ℕ) (ws : List ℕ) (e : ℕ) → Leads (link_of records) word ws e → length ws ≤ length records → supports_at records word ≡ supports_of (deltas_at records ws) e
-supports_of_way records word ws e way short =
-    ap (λ (l : List ℕ). supports_of (deltas_at records l) (base_under records word)) (walked_is (link_of records) (length records) word ws e way short)
-    ∙ ap (supports_of (deltas_at records ws)) (ended_is (link_of records) (length records) word ws e way short)
-
 -- a page rests on the same after records were added
-pub still_rests : (bases : Bases) (old new : Records) (word : ℕ) → Extends old new → length old ≤ length new → Ends bases old word → supports_at new word ≡ supports_at old word
+pub still_rests : (bases : Bases) (old new : Records) (word : ℕ) → Extends old new → length old ≤ length new → Ends bases old word → base_under new word ≡ base_under old word
 still_rests bases old new word kept more ends = by ends.0 ends.1.0 ends.1.1
   where
-    by : (ws : List ℕ) (e : ℕ) → EndsAt bases old word ws e → supports_at new word ≡ supports_at old word
+    by : (ws : List ℕ) (e : ℕ) → EndsAt bases old word ws e → base_under new word ≡ base_under old word
     by ws e h =
-        supports_of_way new word ws e (way_on old new kept word ws e h.limit h.way) (omega (arith, h.short, more))
-        ∙ ap (λ (l : List Delta). supports_of l e) (deltas_on old new kept word ws e h.way)
-        ∙ sym (supports_of_way old word ws e h.way h.short)
+        ended_is (link_of new) (length new) word ws e (way_on old new kept word ws e h.limit h.way) (omega (arith, h.short, more))
+        ∙ sym (ended_is (link_of old) (length old) word ws e h.way h.short)

@@ -1,5 +1,5 @@
 -- What holds of chains and of levels.
-use Rattle.std.specs.Prelude.{◌≡◌, ℕ, ◌<◌, List, length, Option}
+use Rattle.std.specs.Prelude.{◌≡◌, ℕ, ◌<◌, List, length, Option, slice_get}
 use Rattle.std.specs.List.{Contains}
 use Rattle.bw_key.specs.Order.{KeyBytes}
 use Rattle.bw_delta.specs.History.{HasDistinctStamps}
@@ -14,7 +14,7 @@ use Rattle.bw_chain.specs.Merges.{IsMerged, IsNoFirstChild, level_merged}
 use Rattle.bw_chain.specs.Roots.{HasOneChild, IsGrown, levels_grown, levels_lowered}
 use Rattle.bw_chain.specs.Splits.{HasNoRemovedAt, IsParted, level_parted}
 use Rattle.bw_chain.specs.Steps.{AreAlike, KeepsLevels}
-use Rattle.bw_chain.specs.Supports.{KeepsBases, supports_at}
+use Rattle.bw_chain.specs.Supports.{base_under}
 
 -- a way along a step is one only
 abbrev pub WayIsOne : Type 0
@@ -28,10 +28,11 @@ LevelsAreFound =
     (slots : List Slot) (root : ℕ) (levels : List (List ℕ)) → AreLevels slots root levels →
     levels_under slots root ≡ levels
 
--- a page is the same over other base pages, where those on which it rests are
+-- a page is the same over other base pages, where the one on which it rests is
 abbrev pub PageIsKept : Type 0
 PageIsKept =
-    (old new : Bases) (records : Records) (word : ℕ) → KeepsBases old new (supports_at records word) →
+    (old new : Bases) (records : Records) (word : ℕ) →
+    slice_get new (base_under records word) ≡ slice_get old (base_under records word) →
     slot_of_word new records word ≡ slot_of_word old records word
 
 -- in lawful levels a key has one home

@@ -14,7 +14,7 @@ pub fn levels_are_found()
 {}
 
 /// The law by which the other pages stay as they are when a base page is added or takes the place of another: a page is the
-/// same over other base pages, where those on which it rests are. It does nothing: its contract is the law.
+/// same over other base pages, where the one on which it rests is. It does nothing: its contract is the law.
 pub fn page_is_kept()
     ensures { PageIsKept }
 {}

@@ -38,7 +38,7 @@ use Rattle.bw_chain.specs.Chains.{Bases, Records, Ends, slot_of_word, slots_of}
 use Rattle.bw_chain.specs.Searches.{IsInLevels}
 use Rattle.bw_tree.specs.Trees.{ArePlaced, IsStanding}
 use Rattle.bw_chain.specs.Records.{put_records, writes_in}
-use Rattle.bw_chain.specs.Supports.{supports_at}
+use Rattle.bw_chain.specs.Supports.{base_under}
 use Rattle.bw_tree.proofs.AlikeLemmas.{IsPutOver, AreInside, exact_written, levels_written, pairs_alike, put_bare}
 use Rattle.bw_chain.proofs.GrowthLemmas.{take_front}
 use Rattle.bw_chain.proofs.LevelLemmas.{levels_now}
@@ -153,7 +153,7 @@ module _ (heads heads' : List ℕ) (bases : Bases) (first : Records) (root next 
   old_ends : (p : ℕ) → p < length heads → Ends bases first (slice_index heads p)
   old_ends p lt = t.ends p (slice_index heads p) (slice_get-get_or heads p 0 lt)
 
-  chain_is : (p : ℕ) (lt : p < length heads) → Ends bases after (slice_index heads' p) × (slot_of_word bases after (slice_index heads' p) ≡ put_over bases (named ws (chains p lt).chain) (slot_of_word bases first (slice_index heads p))) × (supports_at after (slice_index heads' p) ≡ supports_at first (slice_index heads p))
+  chain_is : (p : ℕ) (lt : p < length heads) → Ends bases after (slice_index heads' p) × (slot_of_word bases after (slice_index heads' p) ≡ put_over bases (named ws (chains p lt).chain) (slot_of_word bases first (slice_index heads p))) × (base_under after (slice_index heads' p) ≡ base_under first (slice_index heads p))
   chain_is p lt = let c = chains p lt in chain_posted bases first ws links linked c.chain (slice_index heads' p) (slice_index heads p) c.way c.once (old_ends p lt)
 
   placed : (p : ℕ) → Placed bases ws old_levels p (slot_at old_slots p) (slot_at new_slots p)
@@ -230,11 +230,10 @@ module _ (heads heads' : List ℕ) (bases : Bases) (first : Records) (root next 
   pub standing_after : bound ≤ 2 ^ 40 → length after ≤ 2 ^ 32 → IsStanding heads' bases after root bound
   standing_after fits few = record {
     ends = λ p word e. ends p word e;
-    own = λ p q v w b at_p at_q lt has_p has_q.
-        let x = rested p v at_p in
-        let y = rested q w at_q in
-        t.own p q (slice_index heads p) (slice_index heads q) b (slice_get-get_or heads p 0 x.0) (slice_get-get_or heads q 0 y.0) lt
-        (subst (λ (l : List ℕ). Contains l b) x.1 has_p) (subst (λ (l : List ℕ). Contains l b) y.1 has_q);
+    own = record {
+      count = pages ∙ t.own.count;
+      number = λ p word at. let x = rested p word at in x.1 ∙ t.own.number p (slice_index heads p) (slice_get-get_or heads p 0 x.0);
+    };
     lawful = subst (AreLevels new_slots root) (sym levels_after) lawful_after;
     exact = subst (AreExact new_slots) (sym levels_after) (exact_written bases old_slots new_slots over old_levels t.exact);
     distinct = subst (λ (l : List (List ℕ)). HasDistinctStamps (row_writes new_slots (row l 0))) (sym levels_after) new_distinct;
@@ -257,11 +256,11 @@ module _ (heads heads' : List ℕ) (bases : Bases) (first : Records) (root next 
           one e = cc
       at (x ∷ xs) (suc i) word e = let more = at xs i word e in (omega (arith, more.0), more.1)
 
-      rested : (p word : ℕ) → slice_get heads' p ≡ Some word → (p < length heads) × (supports_at after word ≡ supports_at first (slice_index heads p))
+      rested : (p word : ℕ) → slice_get heads' p ≡ Some word → (p < length heads) × (base_under after word ≡ base_under first (slice_index heads p))
       rested p word e =
           let a = at heads' p word e in
           let lt : p < length heads = omega (arith, a.0, pages) in
-          (lt, ap (supports_at after) (sym a.1) ∙ (chain_is p lt).2)
+          (lt, ap (base_under after) (sym a.1) ∙ (chain_is p lt).2)
 
       ends : (p word : ℕ) → slice_get heads' p ≡ Some word → Ends bases after word
       ends p word e = let a = at heads' p word e in subst (Ends bases after) a.1 (chain_is p (omega (arith, a.0, pages))).0

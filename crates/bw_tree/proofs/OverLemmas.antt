@@ -25,8 +25,8 @@ use Rattle.bw_chain.specs.Steps.{IsTerm}
 use Rattle.bw_tree.specs.Making.{AreAbutting, HasRules, IsOverLeaves, base_of_leaf, count_from, leaf_slot, pages_over, pairs_in, terms_from, tree_over}
 use Rattle.bw_tree.specs.View.{TreeView, contents_at}
 use Rattle.bw_chain.specs.Reading.{row_pairs, row_writes}
-use Rattle.bw_chain.specs.Supports.{OwnBases, supports_at}
-use Rattle.bw_chain.specs.Walk.{walked, ended}
+use Rattle.bw_chain.specs.Supports.{OwnBases, base_under}
+use Rattle.bw_chain.specs.Walk.{ended}
 use Rattle.bw_tree.specs.Trees.{IsTree}
 use Rattle.bw_chain.proofs.LevelLemmas.{levels_now}
 use Rattle.bw_tree.proofs.MakingLemmas.{StandAt, over_slots, slot_based, from_none, there_is, counted_word, counted_length, counted_has, slot_there, leaf_there, root_there, leaf_state, leaf_row, leaf_pairs, leaf_writes, term_named, root_rules}
@@ -47,14 +47,15 @@ over_ends bases few p word e =
     ([], (word, record { way = (refl, no_link word); short = omega arith; within = there; limit = omega (arith, there, few); shaped = tt }))
 
 -- without records a page rests on the base page that its word names
-rests_alone : (word b : ℕ) → Contains (supports_at [] word) b → word ≡ b
-unfolding walked ended
-rests_alone word b (zero, lt, is) = is
-rests_alone word b (suc i, lt, is) = absurd (omega arith)
+rests_alone : (word : ℕ) → base_under [] word ≡ word
+unfolding ended
+rests_alone word = refl
 
 over_own : (bases : Bases) → OwnBases (count_from 0 (length bases)) bases []
-over_own bases p q v w b at_p at_q lt has_p has_q =
-    omega (arith, (counted_word 0 (length bases) p v at_p).0, (counted_word 0 (length bases) q w at_q).0, rests_alone v b has_p, rests_alone w b has_q)
+over_own bases = record {
+  count = counted_length 0 (length bases);
+  number = λ p word at. omega (arith, (counted_word 0 (length bases) p word at).0, rests_alone word);
+}
 
 none_distinct : HasDistinctStamps []
 unfolding IsDistinct

@@ -12,10 +12,10 @@ use Rattle.bw_chain.specs.Slots.{Slot}
 use Rattle.bw_chain.specs.Walk.{Leads}
 use Rattle.bw_chain.specs.Chains.{Bases, Records, Ends, EndsAt, IsShaped, record_at, link_of, delta_in, deltas_at, change, changed, based, slot_of_word}
 use Rattle.bw_chain.specs.Records.{put_records}
-use Rattle.bw_chain.specs.Supports.{supports_at, supports_of}
+use Rattle.bw_chain.specs.Supports.{base_under}
 use Rattle.bw_chain.proofs.ChainLemmas.{link_is, slot_of_way}
 use Rattle.bw_chain.proofs.GrowthLemmas.{append_extends, deltas_on, leads_on}
-use Rattle.bw_chain.proofs.SupportLemmas.{supports_of_way}
+use Rattle.bw_chain.proofs.WalkLemmas.{ended_is}
 
 -- the write at a place, before others
 abbrev pub write_before : Option WriteView → List WriteView → List WriteView
@@ -100,10 +100,6 @@ module _ (bases : Bases) (old : Records) (ws : List WriteView) (links : List ℕ
   puts_changed [] ds slot = refl
   puts_changed (v ∷ vs) ds slot = ap (change bases (Put v)) (puts_changed vs ds slot)
 
-  puts_rest : (vs : List WriteView) (ds : List Delta) (e : ℕ) → supports_of (puts vs ds) e ≡ supports_of ds e
-  puts_rest [] ds e = refl
-  puts_rest (v ∷ vs) ds e = puts_rest vs ds e
-
   put_length : (vs : List WriteView) (ls : List ℕ) → length ls ≡ length vs → length (put_records vs ls) ≡ length vs
   put_length [] [] e = refl
   put_length [] (l ∷ ls) e = absurd (omega (arith, e))
@@ -114,10 +110,10 @@ module _ (bases : Bases) (old : Records) (ws : List WriteView) (links : List ℕ
   posted_length = length-append old (put_records ws links) ∙ ap (λ n. length old + n) (put_length ws links same)
 
   -- The posted records come before the chain of old ones: the page has their writes over it, and rests on the same.
-  pub chain_posted : (rs : List ℕ) (head before : ℕ) → Meets (4294967296 + length old) links head rs before → ((r : ℕ) → times r rs ≤ 1) → Ends bases old before → Ends bases posted head × (slot_of_word bases posted head ≡ put_over bases (named ws rs) (slot_of_word bases old before)) × (supports_at posted head ≡ supports_at old before)
+  pub chain_posted : (rs : List ℕ) (head before : ℕ) → Meets (4294967296 + length old) links head rs before → ((r : ℕ) → times r rs ≤ 1) → Ends bases old before → Ends bases posted head × (slot_of_word bases posted head ≡ put_over bases (named ws rs) (slot_of_word bases old before)) × (base_under posted head ≡ base_under old before)
   chain_posted rs head before met once ends = by ends.0 ends.1.0 ends.1.1
     where
-      by : (xs : List ℕ) (e : ℕ) → EndsAt bases old before xs e → Ends bases posted head × (slot_of_word bases posted head ≡ put_over bases (named ws rs) (slot_of_word bases old before)) × (supports_at posted head ≡ supports_at old before)
+      by : (xs : List ℕ) (e : ℕ) → EndsAt bases old before xs e → Ends bases posted head × (slot_of_word bases posted head ≡ put_over bases (named ws rs) (slot_of_word bases old before)) × (base_under posted head ≡ base_under old before)
       by xs e h =
           let kept = append_extends old (put_records ws links) in
           let way = posted_way rs head before xs e met (leads_on old posted kept before xs e h.limit h.way) in
@@ -126,6 +122,5 @@ module _ (bases : Bases) (old : Records) (ws : List WriteView) (links : List ℕ
             (words rs ++ xs, (e, record { way = way; short = short; within = h.within; limit = h.limit; shaped = subst IsShaped (sym listed) (puts_shaped (named ws rs) (deltas_at old xs) h.shaped) })),
             slot_of_way bases posted head (words rs ++ xs) e way short ∙ ap (λ (l : List Delta). changed bases l (based (slice_get bases e))) listed
                 ∙ puts_changed (named ws rs) (deltas_at old xs) (based (slice_get bases e)) ∙ ap (put_over bases (named ws rs)) (sym (slot_of_way bases old before xs e h.way h.short)),
-            supports_of_way posted head (words rs ++ xs) e way short ∙ ap (λ (l : List Delta). supports_of l e) listed ∙ puts_rest (named ws rs) (deltas_at old xs) e
-                ∙ sym (supports_of_way old before xs e h.way h.short),
+            ended_is (link_of posted) (length posted) head (words rs ++ xs) e way short ∙ sym (ended_is (link_of old) (length old) before xs e h.way h.short),
           )

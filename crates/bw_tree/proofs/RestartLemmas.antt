@@ -3,7 +3,7 @@ use Rattle.std.proofs.Common.{inl, inr, ◌⊎◌, ◌≡◌, ℕ, zero, suc, �
 use Rattle.std.proofs.lemmas.Bool.{cases_lt}
 use Rattle.std.proofs.lemmas.Option.{slice_get-get_or}
 use Rattle.std.specs.FinMap.{from_entries}
-use Rattle.std.specs.List.{AllByRecursion, Contains}
+use Rattle.std.specs.List.{AllByRecursion}
 use Rattle.std.specs.Prelude.{slice_get, slice_index}
 use Rattle.bw_key.specs.Order.{key_cmp}
 use Rattle.bw_delta.specs.ContentsAsOf.{contents_as_of}
@@ -14,12 +14,11 @@ use Rattle.bw_chain.specs.Entries.{AreExact}
 use Rattle.bw_chain.specs.Levels.{AreLevels, row, levels_under}
 use Rattle.bw_chain.specs.Reading.{row_pairs, row_writes, writes_over}
 use Rattle.bw_chain.specs.Slots.{Slot, slot_at}
-use Rattle.bw_chain.specs.Supports.{supports_at}
 use Rattle.bw_chain.specs.Walk.{Leads}
 use Rattle.bw_chain.proofs.ChainLemmas.{no_link, no_next, no_record, on_base, same_next}
 use Rattle.bw_chain.proofs.GrowthLemmas.{same_map}
 use Rattle.bw_chain.proofs.ReadingLemmas.{none_at_base, slot_of_head}
-use Rattle.bw_chain.proofs.SupportLemmas.{supports_of_way}
+use Rattle.bw_chain.proofs.InPlaceLemmas.{under_plain}
 use Rattle.bw_tree.specs.Trees.{IsStanding, IsTree, StageWords, leaf_writes, view_of}
 use Rattle.bw_tree.specs.View.{StageView, TreeView, contents_at}
 use Rattle.bw_tree.proofs.AdoptLemmas.{slot_past}
@@ -36,9 +35,6 @@ each_plain (x ∷ heads) (suc p) word plain at = each_plain heads p word plain.1
 -- a word that names a base page leads nowhere else
 alone : (records : Records) (word : ℕ) → word < 2 ^ 32 → Leads (link_of records) word [] word
 alone records word low = (refl, sym (no_link records word low))
-
-rests_alone : (records : Records) (word : ℕ) → word < 2 ^ 32 → supports_at records word ≡ word ∷ []
-rests_alone records word low = supports_of_way records word [] word (alone records word low) (omega arith)
 
 still_based : (bases : Bases) (records : Records) (word : ℕ) → word < 2 ^ 32 → Ends bases records word → Ends bases [] word
 still_based bases records word low ends = by ends.0 ends.1.0 ends.1.1
@@ -91,12 +87,12 @@ module _ (heads : List ℕ) (bases : Bases) (records : Records) (root next : ℕ
   standing : IsStanding heads bases [] root 0
   standing = record {
     ends = λ p word at. still_based bases records word (each_plain heads p word plain at) (t.ends p word at);
-    own = λ p q v w b at_p at_q lt has_p has_q.
-        let low_p = each_plain heads p v plain at_p in
-        let low_q = each_plain heads q w plain at_q in
-        t.own p q v w b at_p at_q lt
-        (subst (λ (l : List ℕ). Contains l b) (rests_alone [] v low_p ∙ sym (rests_alone records v low_p)) has_p)
-        (subst (λ (l : List ℕ). Contains l b) (rests_alone [] w low_q ∙ sym (rests_alone records w low_q)) has_q);
+    own = record {
+      count = t.own.count;
+      number = λ p word at.
+          let low = each_plain heads p word plain at in
+          under_plain [] word low ∙ sym (under_plain records word low) ∙ t.own.number p word at;
+    };
     lawful = subst (λ (s : List Slot). AreLevels s root (levels_under s root)) (sym same_slots) t.lawful;
     exact = subst (λ (s : List Slot). AreExact s (levels_under s root)) (sym same_slots) t.exact;
     distinct = subst (λ (s : List Slot). HasDistinctStamps (leaf_writes s root)) (sym same_slots) t.distinct;

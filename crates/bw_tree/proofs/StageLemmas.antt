@@ -1,7 +1,6 @@
 -- Staging a batch.
 use Rattle.std.proofs.Common.{◌≡◌, ℕ, ◌+◌, ◌≤◌, ◌^◌, false, List, ◌++◌, length, map, take, drop, Option, Some, None, sym, ap, ◌∙◌, subst, arith, length-append}
 use Rattle.std.specs.FinMap.{from_entries}
-use Rattle.std.specs.List.{Contains}
 use Rattle.std.proofs.lemmas.List.{length-map}
 use Rattle.bw_model.specs.Model.{contents_after}
 use Rattle.bw_model.specs.declared.operations.Op.{Op}
@@ -31,9 +30,10 @@ stands_on heads bases old new root bound later t kept more le fits few = (
   same,
   record {
     ends = λ p word e. (still_ends bases old new word kept more (t.ends p word e)).0;
-    own = λ p q v w b at_p at_q lt has_p has_q. t.own p q v w b at_p at_q lt
-        (subst (λ (l : List ℕ). Contains l b) (still_rests bases old new v kept more (t.ends p v at_p)) has_p)
-        (subst (λ (l : List ℕ). Contains l b) (still_rests bases old new w kept more (t.ends q w at_q)) has_q);
+    own = record {
+      count = t.own.count;
+      number = λ p word at. still_rests bases old new word kept more (t.ends p word at) ∙ t.own.number p word at;
+    };
     lawful = subst (λ (s : List Slot). AreLevels s root (levels_under s root)) (sym same) t.lawful;
     exact = subst (λ (s : List Slot). AreExact s (levels_under s root)) (sym same) t.exact;
     distinct = subst (λ (s : List Slot). HasDistinctStamps (row_writes s (row (levels_under s root) 0))) (sym same) t.distinct;

@@ -25,8 +25,8 @@ leaf_writes slots root = row_writes slots (row (levels_under slots root) 0)
 abbrev pub ArePlaced : List ℕ → List (List ℕ) → Type 0
 ArePlaced heads levels = (p : ℕ) → p < length heads → 2 ^ 32 ≤ slice_index heads p → IsInLevels levels p
 
--- Pages that form levels with exact index entries, each page on base pages of its own, with writes whose stamps are
--- distinct and below a bound.
+-- Pages that form levels with exact index entries, each page on the base page of its own number, with writes whose stamps
+-- are distinct and below a bound.
 pub record IsStanding (heads : List ℕ) (bases : Bases) (records : Records) (root bound : ℕ) : Type 0 where
   pub ends : AllEnd bases records heads
   pub own : OwnBases heads bases records
