@@ -10,7 +10,7 @@ use Rattle.bw_chain.specs.Supports.{OwnBases, base_under}
 use Rattle.bw_chain.specs.Walk.{Leads}
 use Rattle.bw_chain.proofs.ChainLemmas.{no_link, no_record, on_base}
 use Rattle.bw_chain.proofs.GrowthLemmas.{same_map}
-use Rattle.bw_chain.proofs.SupportLemmas.{base_within, one_page, page_kept}
+use Rattle.bw_chain.proofs.SupportLemmas.{base_within, ends_within, one_page, page_kept}
 use Rattle.bw_chain.proofs.WalkLemmas.{ended_is}
 
 pub get_set_same : {X : Type 0} (xs : List X) (i : ℕ) (x : X) → i < length xs → slice_get (set xs i x) i ≡ Some x
@@ -85,14 +85,9 @@ module _ (heads : List ℕ) (bases : Bases) (records : Records) (ends : AllEnd b
   pub all_end : AllEnd bases_after records heads_after
   all_end q w at_q = by (is_there q w at_q)
     where
-      within_still : (v : ℕ) → Ends bases records v → Ends bases_after records v
-      within_still v h =
-          let e = h.1.1 in
-          (h.0, (h.1.0, record { way = e.way; short = e.short; within = omega (arith, e.within, length-set bases number (Some page)); limit = e.limit; shaped = e.shaped }))
-
       by : ((q ≡ p) × (w ≡ number)) ⊎ ((q ≡ p → ⊥) × (slice_get heads q ≡ Some w)) → Ends bases_after records w
       by (inl here) = subst (Ends bases_after records) (sym here.1) ends_alone
-      by (inr there) = within_still w (ends q w there.1)
+      by (inr there) = ends_within bases bases_after records w (omega (arith, length-set bases number (Some page))) (ends q w there.1)
 
   pub own_after : OwnBases heads_after bases_after records
   own_after = record {

@@ -22,6 +22,7 @@ pub mod LeafChainLemmas
 pub mod LeafEndLemmas
 pub mod StepLemmas
 pub mod SupportLemmas
+pub mod PlacingLemmas
 pub mod AlikeLemmas
 pub mod BaseLemmas
 pub mod AdditionLemmas
@@ -35,5 +36,7 @@ pub mod CountLemmas
 pub mod MergeLemmas
 pub mod DropLemmas
 pub mod LoweringLemmas
+pub mod FreeingLemmas
+pub mod VacancyLemmas
 pub mod JoiningLemmas
 pub mod BareLemmas

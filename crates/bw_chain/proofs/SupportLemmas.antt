@@ -57,6 +57,12 @@ base_within bases records word ends = by ends.0 ends.1.0 ends.1.1
     by : (ws : List ℕ) (e : ℕ) → EndsAt bases records word ws e → base_under records word < length bases
     by ws e h = subst (λ n. n < length bases) (sym (ended_is (link_of records) (length records) word ws e h.way h.short)) h.within
 
+-- a chain still ends where there are more base pages
+pub ends_within : (old new : Bases) (records : Records) (word : ℕ) → length old ≤ length new → Ends old records word → Ends new records word
+ends_within old new records word more ends =
+    let e = ends.1.1 in
+    (ends.0, (ends.1.0, record { way = e.way; short = e.short; within = omega (arith, e.within, more); limit = e.limit; shaped = e.shaped }))
+
 no_next : {q : ℕ} → None ≡ Some q → ⊥
 no_next e = cc
 

@@ -12,6 +12,7 @@ pub mod LeafChains
 pub mod Searches
 pub mod LeafEnds
 pub mod Supports
+pub mod Placing
 pub mod Steps
 pub mod Entries
 pub mod Children
@@ -19,3 +20,4 @@ pub mod Laws
 pub mod Splits
 pub mod Roots
 pub mod Merges
+pub mod Freeing

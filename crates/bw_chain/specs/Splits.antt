@@ -11,6 +11,7 @@ use Rattle.bw_chain.specs.Chains.{ChainsView, page_at, plain}
 use Rattle.bw_chain.specs.Slots.{Slot, PageState, Body, Pairs, Children, Free, Gone, Live, children_of, slot_at}
 use Rattle.bw_chain.specs.Levels.{row}
 use Rattle.bw_chain.specs.Reading.{body_writes}
+use Rattle.bw_chain.specs.Placing.{put_at}
 use Rattle.bw_chain.specs.Supports.{base_under}
 
 -- how many entries a page has: pairs, or children
@@ -103,14 +104,14 @@ abbrev pub HasNoRemovedAt : List Slot → ℕ → ℕ → Type 0
 HasNoRemovedAt slots p place =
     (c : ℕ) → slot_child place (slot_at slots p) ≡ Some c → removed_at (slot_at slots c) ≡ None
 
--- A base page without a record is cut: it keeps its bounds and first entries, and a base page behind all others has the
--- other entries. A record over it, the last one, says where the page ends and that it has this right neighbour.
+-- A base page without a record is cut: it keeps its bounds and first entries, and the base page of its new right neighbour's
+-- number has the other entries. A record over it, the last one, says where the page ends and what its neighbour is.
 pub record IsCut (old new : ChainsView) (word keep to : ℕ) : Type 0 where
   pub left : Page
   pub right : Page
   pub first : plain left ≡ slot_left keep (page_at old word)
   pub others : plain right ≡ slot_right keep (page_at old word)
-  pub bases : new.bases ≡ slice_set old.bases word (Some left) ++ Some right ∷ []
+  pub bases : new.bases ≡ put_at (slice_set old.bases word (Some left)) to (Some right)
   pub records : new.records ≡ old.records ++ (Split (slot_separator keep (page_at old word)) to, word) ∷ []
 
 -- whether a record is a split

@@ -1,28 +1,27 @@
 // Base pages and records that are added.
-ghost use Rattle.std.specs.Prelude.{◌≡◌, ◌+◌, ◌-◌, ◌<◌, ◌^◌, ◌++◌, [], ◌∷◌, length, Some, IfOk, OnOk, OnErr};
+ghost use Rattle.std.specs.Prelude.{◌≡◌, ◌+◌, ◌<◌, ◌≤◌, ◌^◌, ◌++◌, [], ◌∷◌, length, Some, IfOk, OnOk, OnErr};
+ghost use Rattle.bw_chain.specs.Placing.{put_at};
 
+use crate::bases::put_base;
 use crate::chains::{Chains, FLOOR};
 use crate::records::make_room;
 use bw_delta::Delta;
 use bw_key::Memory;
-use bw_page::Page;
+use bw_page::{Page, PageId};
 
 impl Chains {
-    /// Adds a base page, and answers its number, which as a mapping word names the page without a record. `Memory` is
-    /// answered where the list of base pages can't grow, and where there are 2^32 - 1 of them; all is as before.
-    pub fn add_base(&mut self, page: Page) -> Result<u64, Memory>
+    /// Adds the base page of a new page, whose identifier is its number: one that is vacant, or the one behind all others. As
+    /// a mapping word the number names the page without a record. `Memory` is answered where the list of base pages can't
+    /// grow; all is as before.
+    pub fn add_base(&mut self, number: PageId, page: Page) -> Result<(), Memory>
+        requires { number ≤ length self.old.bases }
         ensures records { self.new.records ≡ self.old.records }
-        ensures ok { OnOk result (self.new.bases ≡ self.old.bases ++ Some page ∷ []) }
-        ensures number { IfOk result (λ number. number ≡ length self.old.bases) }
-        ensures few { OnOk result (length self.old.bases < 2 ^ 32 - 1) }
+        ensures ok { OnOk result (self.new.bases ≡ put_at self.old.bases number (Some page)) }
         ensures err { OnErr result (self.new.bases ≡ self.old.bases) }
     {
-        let number = self.bases.len() as u64;
-        if number >= FLOOR - 1 {
-            return Err(Memory);
-        }
-        self.bases.push(Some(page))?;
-        Ok(number)
+        self.bases.make_room()?;
+        put_base(&mut self.bases, number.0 as usize, page);
+        Ok(())
     }
 
     /// Adds a record with its link word behind the others, and answers the word that names it. `Memory` is answered where

@@ -1,10 +1,12 @@
-// Base pages that take the place of others.
-ghost use Rattle.std.specs.Prelude.{◌≡◌, Some, slice_set};
+// Base pages that take the place of others, new ones, and some that go.
+ghost use Rattle.std.specs.Prelude.{◌≡◌, ◌<◌, ◌≤◌, length, Some, None, slice_set};
 ghost use Rattle.bw_chain.specs.Chains.{IsChain};
+ghost use Rattle.bw_chain.specs.Placing.{put_at};
 ghost use Rattle.bw_chain.specs.Supports.{base_under};
 
 use crate::chains::Chains;
-use bw_page::Page;
+use bw_page::{Page, PageId};
+use bw_segment::Segmented;
 
 impl Chains {
     /// Puts a page in the place of the base page under a chain, and answers its number, which as a mapping word names the
@@ -20,6 +22,15 @@ impl Chains {
         number
     }
 
+    /// Lets the base page of a number go, which is vacant from then on. It takes no memory.
+    pub fn free_base(&mut self, number: PageId)
+        requires { number < length self.old.bases }
+        ensures bases { self.new.bases ≡ slice_set self.old.bases number None }
+        ensures records { self.new.records ≡ self.old.records }
+    {
+        self.bases.set(number.0 as usize, None);
+    }
+
     // The number of the base page under a chain.
     fn base_number(&self, head: u64) -> u64
         requires { IsChain self.now head }
@@ -31,4 +42,18 @@ impl Chains {
         }
         word
     }
+}
+
+#[tactic(auto, using(crate::proofs::PlacingLemmas::put_set, crate::proofs::PlacingLemmas::put_last))]
+/// Puts a base page at a number that is vacant, or behind all others, for which there is room.
+pub(crate) fn put_base(bases: &mut Segmented<Option<Page>>, number: usize, page: Page)
+    requires place { number ≤ length bases.old.items }
+    requires room { 0 < bases.old.room }
+    ensures { bases.new.items ≡ put_at bases.old.items number (Some page) }
+{
+    if number < bases.len() {
+        bases.set(number, Some(page));
+        return;
+    }
+    bases.push_reserved(Some(page));
 }

@@ -1,5 +1,5 @@
 // What holds of the definitions.
-ghost use Rattle.bw_chain.specs.Laws.{ChildIsKept, ContentsAreKept, DroppedChildIsKept, HomeIsOne, HomeIsThere, LevelsAreFound, LevelsAreAlike, LevelsAreGrown, LevelsAreKept, LevelsAreLowered, MergesAreKept, PageIsKept, PartsAreKept, WayIsOne};
+ghost use Rattle.bw_chain.specs.Laws.{ChildIsKept, ContentsAreKept, DroppedChildIsKept, FreedPageIsKept, HomeIsOne, HomeIsThere, LevelsAreFound, LevelsAreAlike, LevelsAreGrown, LevelsAreKept, LevelsAreLowered, MergesAreKept, PageIsKept, PartsAreKept, WayIsOne};
 
 /// The law that each walk along links, side links or left links rests on: from a place there is one way only, and one
 /// place where it ends. It does nothing: its contract is the law.
@@ -86,4 +86,10 @@ pub fn dropped_child_is_kept()
 /// entries stay exact, and the levels hold what they held. It does nothing: its contract is the law.
 pub fn levels_are_lowered()
     ensures { LevelsAreLowered }
+{}
+
+/// The law of an identifier that is given back: where nothing leads to its page, which stands on no level, the levels stay,
+/// their index entries stay exact, and they hold what they held. It does nothing: its contract is the law.
+pub fn freed_page_is_kept()
+    ensures { FreedPageIsKept }
 {}

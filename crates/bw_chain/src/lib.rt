@@ -27,9 +27,9 @@ mod turn;
 pub use chains::{Chains, FLOOR};
 pub use ends::{lower_end, reaches};
 pub use laws::{
-    child_is_kept, contents_are_kept, dropped_child_is_kept, home_is_one, home_is_there,
-    levels_are_alike, levels_are_found, levels_are_grown, levels_are_kept, levels_are_lowered,
-    merges_are_kept, page_is_kept, parts_are_kept, way_is_one,
+    child_is_kept, contents_are_kept, dropped_child_is_kept, freed_page_is_kept, home_is_one,
+    home_is_there, levels_are_alike, levels_are_found, levels_are_grown, levels_are_kept,
+    levels_are_lowered, merges_are_kept, page_is_kept, parts_are_kept, way_is_one,
 };
 pub use leaf_chain::LeafChain;
 pub use target::Target;

@@ -1,10 +1,11 @@
 // Base pages that part in two, and that end where a split says.
-ghost use Rattle.std.specs.Prelude.{◌≡◌, ◌+◌, ◌-◌, ◌<◌, ◌^◌, is_some, length, Some, IfOk, OnOk, OnErr, MatchOption};
+ghost use Rattle.std.specs.Prelude.{◌≡◌, ◌+◌, ◌<◌, ◌≤◌, ◌^◌, is_some, length, Some, IfOk, OnOk, OnErr, MatchOption};
 ghost use Rattle.bw_chain.specs.Chains.{Bases, IsChain, change, floor_word, page_at, plain, record_at};
 ghost use Rattle.bw_chain.specs.Slots.{IsSound};
 ghost use Rattle.bw_chain.specs.Splits.{IsCut, IsNarrowed, is_split, slot_entries, slot_left, slot_right, slot_separator};
 ghost use Rattle.bw_delta.specs.declared.deltas.Delta.TheVariants.{Split};
 
+use crate::bases::put_base;
 use crate::chains::{Chains, FLOOR};
 use crate::records::make_room;
 use bw_delta::Delta;
@@ -12,29 +13,24 @@ use bw_key::{Key, Memory};
 use bw_page::{Page, PageId};
 
 impl Chains {
-    /// Parts a page without a record: its base page keeps the entries before place `keep` and its bounds, a new one has the
-    /// others, and a record says where the page ends now, with the right neighbour `to`. Answers the words that name the
-    /// record and the new base page.
+    /// Parts a page without a record: its base page keeps the entries before place `keep` and its bounds, and a record says
+    /// where the page ends now, with the right neighbour `to`. The base page of that number, which was vacant or is the one
+    /// behind all others, has the other entries. Answers the word that names the record.
     ///
     /// The entries that go are moved, those of a leaf as blocks. `Memory` is answered where their list finds none, the copy
-    /// of a key that is a bound, or a place in the lists of records and of base pages, and where there are 2^32 records or
-    /// 2^32 - 1 base pages; all is as before.
-    pub fn split(&mut self, word: u64, keep: usize, to: PageId) -> Result<(u64, u64), Memory>
+    /// of a key that is a bound, or a place in the lists of records and of base pages, and where there are 2^32 records; all
+    /// is as before.
+    pub fn split(&mut self, word: u64, keep: usize, to: PageId) -> Result<u64, Memory>
         requires ends { IsChain self.old word }
+        requires place { to ≤ length self.old.bases }
         requires plain { word < floor_word }
         requires some { 0 < keep }
         requires fewer { keep < slot_entries (page_at self.old word) }
         ensures cut { OnOk result (IsCut self.old self.new word keep to) }
-        ensures word { IfOk result (λ words. words.0 ≡ 2 ^ 32 + length self.old.records) }
-        ensures number { IfOk result (λ words. words.1 ≡ length self.old.bases) }
-        ensures few_records { OnOk result (length self.old.records < 2 ^ 32) }
-        ensures few_bases { OnOk result (length self.old.bases < 2 ^ 32 - 1) }
+        ensures word { IfOk result (λ word. word ≡ 2 ^ 32 + length self.old.records) }
+        ensures few { OnOk result (length self.old.records < 2 ^ 32) }
         ensures err { OnErr result (self.new ≡ self.old) }
     {
-        let number = self.bases.len() as u64;
-        if number >= FLOOR - 1 {
-            return Err(Memory);
-        }
         self.bases.make_room()?;
         make_room(&mut self.arena)?;
         let Some(mut base) = self.bases.replace(word as usize, None) else {
@@ -45,8 +41,8 @@ impl Chains {
         let (sep, right) = cut?;
         let record = FLOOR + self.arena.len() as u64;
         self.arena.append(Delta::Split { sep, to }, word);
-        self.bases.push_reserved(Some(right));
-        Ok((record, number))
+        put_base(&mut self.bases, to.0 as usize, right);
+        Ok(record)
     }
 
     /// Where a chain is a split over its base page, ends that page where the split says, so that it takes the place of

@@ -72,7 +72,7 @@ module _ (old new : TreeView) (due due' : DueView) (p keep : ℕ) (h : IsHalved 
 
   pub halved_less : work_left new due' + 2 ≤ work_left old due
   halved_less =
-      omega (arith, h.few, h.split.split.pages, ap length h.split.was, ap length h.split.is, length-append h.split.rest (p ∷ []), length-append h.split.rest (right ∷ p ∷ []), ap length h.above)
+      omega (arith, h.few, h.split.split.pages, h.split.split.unused.last, ap length h.split.was, ap length h.split.is, length-append h.split.rest (p ∷ []), length-append h.split.rest (right ∷ p ∷ []), ap length h.above)
 
   both_on : (n : ℕ) → IsInLevel old p n → (q : ℕ) → Contains (right ∷ p ∷ []) q → IsInLevel new q n
   both_on n on q (zero, lt, is) = subst (λ r. IsInLevel new r n) is (right_on n on)

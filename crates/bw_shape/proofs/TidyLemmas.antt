@@ -14,6 +14,7 @@ use Rattle.bw_chain.specs.Roots.{levels_grown}
 use Rattle.bw_chain.specs.Searches.{IsInLevels}
 use Rattle.bw_chain.specs.Slots.{Slot, PageState, Body, Pairs, Children, Free, Gone, Live, slot_at}
 use Rattle.bw_chain.specs.Splits.{level_parted, put_behind, slot_entries}
+use Rattle.bw_chain.proofs.PlacingLemmas.{length_put}
 use Rattle.bw_chain.proofs.SplitLemmas.{had}
 use Rattle.bw_tree.specs.Children.{AreNamed, IsNamed, state_with_children}
 use Rattle.bw_tree.specs.Roots.{HasNewRoot}
@@ -139,7 +140,7 @@ module _ (old new : TreeView) (due due' : List ℕ) (p keep : ℕ) (able : IsSpl
       by (inr other) (inr other') = old_one other other' (was_leaf r leaf)
 
   split_heads : length new.heads ≡ length old.heads + 1
-  split_heads = h.split.pages
+  split_heads = omega (arith, h.split.pages, h.split.unused.last)
 
   pub split_due : length due' ≡ length due + 1
   split_due = omega (arith, ap length h.was, ap length h.is, length-append h.rest (p ∷ []), length-append h.rest (q ∷ p ∷ []))
@@ -256,7 +257,7 @@ tidy_root : (old new : TreeView) (did : Did) → old.staged ≡ None → IsRootS
 tidy_root old new Done none h = record {
   holds = holds_root old new h.0 h.1;
   within = λ due. within_root old new due h.0 h.1;
-  more = omega (arith, ap length h.1.heads, length-append old.heads (slice_index new.heads h.0 ∷ []));
+  more = omega (arith, ap length h.1.heads, length_put old.heads h.0 (slice_index new.heads h.0) h.1.unused.place);
 }
 tidy_root old new NotNeeded none h = tidy_still old new none h.0
 

@@ -35,4 +35,5 @@ pub mod PageLemmas
 pub mod MergeLemmas
 pub mod DropLemmas
 pub mod LoweringLemmas
+pub mod FreeLemmas
 pub mod RemovedLemmas

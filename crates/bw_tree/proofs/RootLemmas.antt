@@ -1,8 +1,7 @@
 -- A new root leaves a tree that holds the same.
-use Rattle.std.proofs.Common.{get_or, ◌≡◌, ℕ, suc, ◌-◌, ◌<◌, ◌^◌, true, List, [], ◌∷◌, ◌++◌, length, Option, Some, None, refl, sym, ap, ◌∙◌, subst, arith, length-append}
+use Rattle.std.proofs.Common.{get_or, ◌≡◌, ℕ, suc, ◌-◌, ◌<◌, ◌≤◌, ◌^◌, true, List, [], ◌∷◌, length, Option, Some, None, refl, sym, ap, ◌∙◌, subst, arith, length-append}
 use Rattle.std.proofs.lemmas.List.{length-map}
 use Rattle.std.specs.List.{Contains}
-use Rattle.std.specs.Option.{unwrap_or}
 use Rattle.std.specs.Ordering.{is_lt}
 use Rattle.std.specs.Prelude.{slice_index}
 use Rattle.bw_key.specs.Order.{KeyBytes, key_cmp}
@@ -12,20 +11,22 @@ use Rattle.bw_page.specs.declared.pages.Page.TheVariants.{Inner as InnerPage}
 use Rattle.bw_chain.specs.Chains.{Bases, Records, slot_of_word, slots_of}
 use Rattle.bw_chain.specs.Laws.{KeepsAll}
 use Rattle.bw_chain.specs.Levels.{AreLevels, Stands, row, levels_under}
+use Rattle.bw_chain.specs.Placing.{put_at}
 use Rattle.bw_chain.specs.Roots.{IsGrown, IsNeighbour, levels_grown, root_over, two_children}
 use Rattle.bw_chain.specs.Scans.{high_of}
 use Rattle.bw_chain.specs.Slots.{Slot, PageState, Free, Live, level_of, side_of_slot, slot_at, slot_level}
-use Rattle.bw_chain.proofs.AdditionLemmas.{get_last, page_all_end, page_others, page_own, page_there}
+use Rattle.bw_chain.specs.Supports.{OwnBases}
+use Rattle.bw_chain.proofs.AdditionLemmas.{page_all_end, page_others, page_own, page_there}
 use Rattle.bw_chain.proofs.LeafRowLemmas.{low_below}
+use Rattle.bw_chain.proofs.PlacingLemmas.{length_put}
 use Rattle.bw_chain.proofs.RootLemmas.{begins_row, levels_grow, row_before, two_sound}
 use Rattle.bw_chain.proofs.RouteLemmas.{held, row_first}
+use Rattle.bw_tree.specs.Identifiers.{IsUnused}
 use Rattle.bw_tree.specs.Roots.{HasNewRoot, IsOverRoot}
 use Rattle.bw_tree.specs.Trees.{ArePlaced, IsStanding, IsTree, StageWords, view_of}
 use Rattle.bw_tree.specs.View.{StageView, TreeView}
-use Rattle.bw_tree.proofs.AdoptLemmas.{slot_past}
 use Rattle.bw_tree.proofs.RoutingLemmas.{PageAt, at_head}
-use Rattle.bw_tree.proofs.SplitLemmas.{index_is}
-use Rattle.bw_tree.proofs.StandingLemmas.{contents_same, placed_added, same_levels as levels_same, standing_kept}
+use Rattle.bw_tree.proofs.StandingLemmas.{contents_same, placed_added, same_levels as levels_same, standing_kept, word_of_new}
 
 not_free : {s : PageState} → Free ≡ Live s → ⊥
 not_free e = cc
@@ -50,27 +51,21 @@ above_least slots root levels level high side lawful next =
     low_below slots n [] high (Some side) root
     (begins_row slots n (row levels n) root st.state high side (lawful.rows n (omega (arith, lawful.some))) lawful.top st.is (ap high_of (sym st.is) ∙ next.ends) (ap side_of_slot (sym st.is) ∙ next.linked)).first
 
-module _ (heads : List ℕ) (bases : Bases) (records : Records) (root next : ℕ) (t : IsStanding heads bases records root next) (inner : InnerView) (over : IsOverRoot (view_of heads bases records root next None) inner) (few_pages : length heads < 2 ^ 32) (few_bases : length bases < 2 ^ 32 - 1) where
+module _ (heads : List ℕ) (bases : Bases) (records : Records) (root next : ℕ) (t : IsStanding heads bases records root next) (inner : InnerView) (over : IsOverRoot (view_of heads bases records root next None) inner) (q : ℕ) (new_one : IsUnused (view_of heads bases records root next None) q) (few : q < 2 ^ 32) where
   abbrev old : TreeView
   old = view_of heads bases records root next None
-
-  abbrev q : ℕ
-  q = length heads
 
   abbrev page : Page
   page = InnerPage inner
 
   abbrev heads' : List ℕ
-  heads' = heads ++ length bases ∷ []
+  heads' = put_at heads q q
 
   abbrev bases' : Bases
-  bases' = bases ++ Some page ∷ []
+  bases' = put_at bases q (Some page)
 
   abbrev new : TreeView
   new = view_of heads' bases' records q next None
-
-  few : length bases < 2 ^ 32
-  few = omega (arith, few_bases)
 
   st : Stands old.slots (length old.levels - 1) [] (top_of old.slots root old.levels t.lawful).high (top_of old.slots root old.levels t.lawful).side root
   st = (top_of old.slots root old.levels t.lawful).stands
@@ -86,12 +81,12 @@ module _ (heads : List ℕ) (bases : Bases) (records : Records) (root next : ℕ
     ends = ap high_of (sym st.is) ∙ over.neighbour.ends;
     side = over.side;
     linked = ap side_of_slot (sym st.is) ∙ over.neighbour.linked;
-    free = slot_past (slot_of_word bases records) heads q (omega arith);
+    free = new_one.free;
     top =
-        page_there heads bases records t.ends t.own few page
+        page_there heads bases records t.ends t.own q new_one.place few page
         ∙ over.is
         ∙ ap (λ l. Live (root_over (suc l) root over.high over.side)) at_level;
-    others = λ r other. page_others heads bases records t.ends t.own few page r other;
+    others = λ r other. page_others heads bases records t.ends t.own q new_one.place few page r other;
   }
 
   kept : KeepsAll old.slots new.slots q old.levels (levels_grown old.levels q)
@@ -102,7 +97,7 @@ module _ (heads : List ℕ) (bases : Bases) (records : Records) (root next : ℕ
 
   -- a level stays with its pages under a further one
   placed_new : ArePlaced heads' (levels_grown old.levels q)
-  placed_new = placed_added heads (levels_grown old.levels q) (length bases) few (λ r lt high.
+  placed_new = placed_added heads (levels_grown old.levels q) q new_one.place few (λ r lt high.
       let on = t.placed r lt high in
       record {
         level = on.level;
@@ -112,23 +107,29 @@ module _ (heads : List ℕ) (bases : Bases) (records : Records) (root next : ℕ
 
   pub standing_new : IsStanding heads' bases' records q next
   standing_new = standing_kept heads bases records root next t heads' bases' records q (levels_grown old.levels q) kept
-      (page_all_end heads bases records t.ends t.own few page)
-      (page_own heads bases records t.ends t.own few page)
+      (page_all_end heads bases records t.ends t.own q new_one.place few page)
+      own_new
       t.few_records
-      (omega (arith, few_pages, length-append heads (length bases ∷ [])))
-      (omega (arith, few_bases, length-append bases (Some page ∷ [])))
+      few_now
+      (omega (arith, few_now, own_new.count))
       placed_new
+    where
+      own_new : OwnBases heads' bases' records
+      own_new = page_own heads bases records t.ends t.own q new_one.place few page
 
-  word_there : slice_index heads' q ≡ length bases
-  word_there = index_is heads' q ∙ ap (λ (x : Option ℕ). unwrap_or x 0) (get_last heads (length bases))
+      few_now : length heads' ≤ 2 ^ 32
+      few_now = omega (arith, few, t.few_pages, length_put heads q q new_one.place)
+
+  word_there : slice_index heads' q ≡ q
+  word_there = word_of_new heads q new_one.place
 
   pub root_new : HasNewRoot old new q
   root_new = record {
     grown = grown;
     levels = same_levels;
     contents = contents_same heads bases records root next t heads' bases' records q (levels_grown old.levels q) kept;
-    page = refl;
-    heads = ap (λ w. heads ++ w ∷ []) (sym word_there);
+    unused = new_one;
+    heads = ap (put_at heads q) (sym word_there);
     plain = omega (arith, few, word_there);
     root = refl;
     records = refl;
@@ -141,32 +142,29 @@ module _ (heads : List ℕ) (bases : Bases) (records : Records) (root next : ℕ
   abbrev IsMade : List ℕ → Bases → Records → ℕ → Type 0
   IsMade h b r q = IsTree h b r q next None × HasNewRoot tree (view_of h b r q next None) q
 
-  made_here : (inner : InnerView) → IsOverRoot tree inner → length heads < 2 ^ 32 → length bases < 2 ^ 32 - 1 → IsMade (heads ++ length bases ∷ []) (bases ++ Some (InnerPage inner) ∷ []) records (length heads)
-  made_here inner over few_pages few_bases =
-      let over_here = subst (λ (v : TreeView). IsOverRoot v inner) (sym is) over in (
-        record { now = standing_new heads bases records root next t.now inner over_here few_pages few_bases; stage = tt },
-        subst (λ (v : TreeView). HasNewRoot v (view_of (heads ++ length bases ∷ []) (bases ++ Some (InnerPage inner) ∷ []) records (length heads) next None) (length heads)) is
-            (root_new heads bases records root next t.now inner over_here few_pages few_bases),
+  made_here : (inner : InnerView) → IsOverRoot tree inner → (q : ℕ) → IsUnused tree q → q < 2 ^ 32 → IsMade (put_at heads q q) (put_at bases q (Some (InnerPage inner))) records q
+  made_here inner over q new_one few =
+      let over_here = subst (λ (v : TreeView). IsOverRoot v inner) (sym is) over in
+      let unused_here = subst (λ (v : TreeView). IsUnused v q) (sym is) new_one in (
+        record { now = standing_new heads bases records root next t.now inner over_here q unused_here few; stage = tt },
+        subst (λ (v : TreeView). HasNewRoot v (view_of (put_at heads q q) (put_at bases q (Some (InnerPage inner))) records q next None) q) is
+            (root_new heads bases records root next t.now inner over_here q unused_here few),
       )
 
-  made_on : (inner : InnerView) → IsOverRoot tree inner → length heads < 2 ^ 32 → length bases < 2 ^ 32 - 1 →
-      (hs : List ℕ) (bs : Bases) (rs : Records) (q number : ℕ) → q ≡ length heads → number ≡ length bases →
-      hs ≡ heads ++ number ∷ [] → bs ≡ bases ++ Some (InnerPage inner) ∷ [] → rs ≡ records → IsMade hs bs rs q
-  made_on inner over few_pages few_bases hs bs rs q number q_is number_is heads_are bases_are records_are =
+  made_on : (inner : InnerView) → IsOverRoot tree inner → (q : ℕ) → IsUnused tree q → q < 2 ^ 32 →
+      (hs : List ℕ) (bs : Bases) (rs : Records) → hs ≡ put_at heads q q → bs ≡ put_at bases q (Some (InnerPage inner)) → rs ≡ records → IsMade hs bs rs q
+  made_on inner over q new_one few hs bs rs heads_are bases_are records_are =
       subst (λ (r : Records). IsMade hs bs r q) (sym records_are)
       (subst (λ (b : Bases). IsMade hs b records q) (sym bases_are)
-      (subst (λ (h : List ℕ). IsMade h (bases ++ Some (InnerPage inner) ∷ []) records q) (sym heads_are)
-      (subst (λ n. IsMade (heads ++ n ∷ []) (bases ++ Some (InnerPage inner) ∷ []) records q) (sym number_is)
-      (subst (λ n. IsMade (heads ++ length bases ∷ []) (bases ++ Some (InnerPage inner) ∷ []) records n) (sym q_is)
-      (made_here inner over few_pages few_bases)))))
+      (subst (λ (h : List ℕ). IsMade h (put_at bases q (Some (InnerPage inner))) records q) (sym heads_are)
+      (made_here inner over q new_one few)))
 
 unstaged : {s : StageView} → Some s ≡ None → ⊥
 unstaged e = cc
 
 pub root_on : (heads : List ℕ) (bases : Bases) (records : Records) (root next : ℕ) (staged : Option StageWords) (tree : TreeView) → view_of heads bases records root next staged ≡ tree → tree.staged ≡ None → IsTree heads bases records root next staged →
-    (inner : InnerView) → IsOverRoot tree inner → length heads < 2 ^ 32 → length bases < 2 ^ 32 - 1 →
-    (hs : List ℕ) (bs : Bases) (rs : Records) (q number : ℕ) → q ≡ length heads → number ≡ length bases →
-    hs ≡ heads ++ number ∷ [] → bs ≡ bases ++ Some (InnerPage inner) ∷ [] → rs ≡ records →
+    (inner : InnerView) → IsOverRoot tree inner → (q : ℕ) → IsUnused tree q → q < 2 ^ 32 →
+    (hs : List ℕ) (bs : Bases) (rs : Records) → hs ≡ put_at heads q q → bs ≡ put_at bases q (Some (InnerPage inner)) → rs ≡ records →
     IsTree hs bs rs q next staged × HasNewRoot tree (view_of hs bs rs q next staged) q
 root_on heads bases records root next None tree is none t = made_on heads bases records root next tree is t
 root_on heads bases records root next (Some stage) tree is none t = absurd (unstaged (ap (λ (v : TreeView). v.staged) is ∙ none))

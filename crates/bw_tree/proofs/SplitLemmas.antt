@@ -1,9 +1,8 @@
 -- A split of a page leaves a tree that holds the same.
-use Rattle.std.proofs.Common.{set, ◌≡◌, ℕ, zero, suc, ◌+◌, ◌-◌, ◌<◌, ◌^◌, List, [], ◌∷◌, ◌++◌, length, Option, Some, None, refl, sym, ap, ◌∙◌, subst, arith, length-append}
+use Rattle.std.proofs.Common.{set, ◌≡◌, ℕ, ◌+◌, ◌<◌, ◌≤◌, ◌^◌, List, [], ◌∷◌, ◌++◌, length, max, Option, Some, None, refl, sym, ap, ◌∙◌, subst, arith, length-append}
 use Rattle.std.proofs.lemmas.Option.{slice_get-get_or}
-use Rattle.std.proofs.lemmas.List.{length-map, length-set}
+use Rattle.std.proofs.lemmas.List.{get_or-set_other, get_or-set_same, length-map, length-set}
 use Rattle.std.specs.List.{Contains}
-use Rattle.std.specs.Option.{unwrap_or}
 use Rattle.std.specs.Prelude.{slice_get, slice_index}
 use Rattle.bw_page.specs.declared.pages.Page.{Page}
 use Rattle.bw_delta.specs.declared.deltas.Delta.{Delta}
@@ -12,39 +11,31 @@ use Rattle.bw_chain.specs.Chains.{AllEnd, Bases, ChainsView, Records, change, pl
 use Rattle.bw_chain.specs.Slots.{Slot, PageState, Body, Free, Live, slot_at}
 use Rattle.bw_chain.specs.Laws.{KeepsAll}
 use Rattle.bw_chain.specs.Levels.{row}
+use Rattle.bw_chain.specs.Placing.{put_at}
 use Rattle.bw_chain.specs.Reading.{body_writes, writes_over}
 use Rattle.bw_chain.specs.Searches.{IsInLevels}
 use Rattle.bw_chain.specs.Splits.{IsCut, IsParted, entry_count, left_part, level_parted, put_behind, right_part, separator, slot_entries, slot_left, slot_right, slot_separator}
 use Rattle.bw_chain.specs.Supports.{OwnBases}
-use Rattle.bw_chain.proofs.AdditionLemmas.{get_last, not_last, page_all_end, page_others, page_own, page_there, record_all_end, record_here, record_others, record_own}
-use Rattle.bw_chain.proofs.BaseLemmas.{get_set_other, get_set_same}
+use Rattle.bw_chain.proofs.AdditionLemmas.{page_all_end, page_others, page_own, page_there, record_all_end, record_here, record_others, record_own}
 use Rattle.bw_chain.proofs.ChainLemmas.{no_record, on_base}
 use Rattle.bw_chain.proofs.InPlaceLemmas.{now_end, now_here, now_others, now_own}
+use Rattle.bw_chain.proofs.PlacingLemmas.{length_put}
 use Rattle.bw_chain.proofs.ReadingLemmas.{no_writes_on_base, slot_of_head}
 use Rattle.bw_chain.proofs.RouteLemmas.{held}
 use Rattle.bw_chain.proofs.RowLemmas.{InRow, in_row}
 use Rattle.bw_chain.proofs.SplitLemmas.{cut_is, has_new, parts_kept}
+use Rattle.bw_tree.specs.Identifiers.{IsUnused}
 use Rattle.bw_tree.specs.Splits.{IsSplit, IsSplittable}
 use Rattle.bw_tree.specs.Trees.{ArePlaced, IsStanding, IsTree, StageWords, view_of}
 use Rattle.bw_tree.specs.View.{StageView, TreeView}
-use Rattle.bw_tree.proofs.AdoptLemmas.{slot_past}
-use Rattle.bw_tree.proofs.StandingLemmas.{contents_same, placed_added, placed_set, same_levels as levels_same, standing_kept}
+use Rattle.bw_tree.proofs.StandingLemmas.{contents_same, placed_added, placed_set, same_levels as levels_same, standing_kept, word_of_new, words_but_new}
 
 not_free : {s : PageState} → Free ≡ Live s → ⊥
 not_free e = cc
 
--- the number at a place is that of the entry there
-pub index_is : (xs : List ℕ) (i : ℕ) → slice_index xs i ≡ unwrap_or (slice_get xs i) 0
-index_is [] i = refl
-index_is (x ∷ xs) zero = refl
-index_is (x ∷ xs) (suc i) = index_is xs i
-
-module _ (heads : List ℕ) (bases : Bases) (records : Records) (root next : ℕ) (t : IsStanding heads bases records root next) (p keep : ℕ) (ok : IsSplittable (view_of heads bases records root next None) p keep) (left right : Page) (first : plain left ≡ slot_left keep (slot_of_word bases records (slice_index heads p))) (others : plain right ≡ slot_right keep (slot_of_word bases records (slice_index heads p))) (few_pages : length heads < 2 ^ 32) (few_records : length records < 2 ^ 32) (few_bases : length bases < 2 ^ 32 - 1) where
+module _ (heads : List ℕ) (bases : Bases) (records : Records) (root next : ℕ) (t : IsStanding heads bases records root next) (p keep : ℕ) (ok : IsSplittable (view_of heads bases records root next None) p keep) (left right : Page) (first : plain left ≡ slot_left keep (slot_of_word bases records (slice_index heads p))) (others : plain right ≡ slot_right keep (slot_of_word bases records (slice_index heads p))) (q : ℕ) (new_one : IsUnused (view_of heads bases records root next None) q) (few : q < 2 ^ 32) (few_records : length records < 2 ^ 32) where
   abbrev old : TreeView
   old = view_of heads bases records root next None
-
-  abbrev q : ℕ
-  q = length heads
 
   abbrev word : ℕ
   word = slice_index heads p
@@ -78,10 +69,10 @@ module _ (heads : List ℕ) (bases : Bases) (records : Records) (root next : ℕ
   heads1 = set heads p new_word
 
   abbrev heads' : List ℕ
-  heads' = heads1 ++ length bases1 ∷ []
+  heads' = put_at heads1 q q
 
   abbrev bases' : Bases
-  bases' = bases1 ++ Some right ∷ []
+  bases' = put_at bases1 q (Some right)
 
   abbrev new : TreeView
   new = view_of heads' bases' records' root next None
@@ -89,11 +80,12 @@ module _ (heads : List ℕ) (bases : Bases) (records : Records) (root next : ℕ
   pages1 : length heads1 ≡ length heads
   pages1 = length-set heads p new_word
 
-  same_count : length bases1 ≡ length bases
-  same_count = length-set bases word (Some left)
+  place : q ≤ length heads1
+  place = omega (arith, new_one.place, pages1)
 
-  few : length bases1 < 2 ^ 32
-  few = omega (arith, few_bases, same_count)
+  -- the page that parts isn't the new one
+  apart : p ≡ q → ⊥
+  apart same = not_free (sym new_one.free ∙ ap (slot_at old.slots) (sym same) ∙ at.stands.is)
 
   ends0 : AllEnd bases1 records heads
   ends0 = now_end heads bases records t.ends t.own p word at_p ok.plain left
@@ -121,7 +113,7 @@ module _ (heads : List ℕ) (bases : Bases) (records : Records) (root next : ℕ
 
   left_now : slot_at new.slots p ≡ Live (left_part keep q was)
   left_now =
-      page_others heads1 bases1 records' ends1 own1 few right p (λ e. omega (arith, within, pages1, e))
+      page_others heads1 bases1 records' ends1 own1 q place few right p apart
       ∙ record_here heads bases1 records ends0 own0 p word at_p ok.plain delta refl
       ∙ ap (change bases1 delta) (now_here heads bases records t.ends t.own p word at_p ok.plain left ∙ first)
       ∙ ap (λ (o : Slot). change bases1 (Split (slot_separator keep o) q) (slot_left keep o)) here
@@ -129,8 +121,7 @@ module _ (heads : List ℕ) (bases : Bases) (records : Records) (root next : ℕ
 
   right_now : slot_at new.slots q ≡ Live (right_part keep was)
   right_now =
-      ap (slot_at new.slots) (sym pages1)
-      ∙ page_there heads1 bases1 records' ends1 own1 few right
+      page_there heads1 bases1 records' ends1 own1 q place few right
       ∙ others ∙ ap (slot_right keep) here
 
   parted : IsParted old.slots new.slots p q keep
@@ -138,13 +129,13 @@ module _ (heads : List ℕ) (bases : Bases) (records : Records) (root next : ℕ
     was = was;
     is = at.stands.is;
     bare = bare;
-    free = slot_past (slot_of_word bases records) heads q (omega arith);
+    free = new_one.free;
     some = ok.some;
     fewer = fewer;
     left = left_now;
     right = right_now;
     others = λ r other old_one.
-        page_others heads1 bases1 records' ends1 own1 few right r (λ e. old_one (e ∙ pages1))
+        page_others heads1 bases1 records' ends1 own1 q place few right r old_one
         ∙ record_others heads bases1 records ends0 own0 p word at_p ok.plain delta refl r other
         ∙ now_others heads bases records t.ends t.own p word at_p ok.plain left r other;
   }
@@ -166,40 +157,35 @@ module _ (heads : List ℕ) (bases : Bases) (records : Records) (root next : ℕ
   }
 
   placed_new : ArePlaced heads' after
-  placed_new = placed_added heads1 after (length bases1) few
+  placed_new = placed_added heads1 after q place few
       (placed_set heads after p new_word within (λ high. still_in p (record { level = ok.level; within = ok.within; in_level = ok.in_level }))
       (λ r lt high. still_in r (t.placed r lt high)))
 
   pub standing_new : IsStanding heads' bases' records' root next
   standing_new = standing_kept heads bases records root next t heads' bases' records' root after (kept ok.level ok.within ok.in_level)
-      (page_all_end heads1 bases1 records' ends1 own1 few right)
-      (page_own heads1 bases1 records' ends1 own1 few right)
+      (page_all_end heads1 bases1 records' ends1 own1 q place few right)
+      own_new
       (omega (arith, few_records, length-append records ((delta, word) ∷ [])))
-      (omega (arith, few_pages, pages1, length-append heads1 (length bases1 ∷ [])))
-      (omega (arith, few_bases, same_count, length-append bases1 (Some right ∷ [])))
+      few_now
+      (omega (arith, few_now, own_new.count))
       placed_new
+    where
+      own_new : OwnBases heads' bases' records'
+      own_new = page_own heads1 bases1 records' ends1 own1 q place few right
 
-  word_at : (r : ℕ) (o : Option ℕ) → slice_get heads' r ≡ o → slice_index heads' r ≡ unwrap_or o 0
-  word_at r o e = index_is heads' r ∙ ap (λ (x : Option ℕ). unwrap_or x 0) e
-
-  get_p : slice_get heads' p ≡ Some new_word
-  get_p = not_last heads1 (length bases1) p (λ e. omega (arith, within, pages1, e)) ∙ get_set_same heads p new_word within
-
-  get_q : slice_get heads' q ≡ Some (length bases1)
-  get_q = ap (slice_get heads') (sym pages1) ∙ get_last heads1 (length bases1)
+      few_now : length heads' ≤ 2 ^ 32
+      few_now = omega (arith, few, t.few_pages, pages1, length_put heads1 q q place)
 
   pub split_new : IsSplit old new p keep q
   split_new = record {
     parted = parted;
     levels = same_levels;
     contents = contents_same heads bases records root next t heads' bases' records' root (level_parted old.levels ok.level p q) (kept ok.level ok.within ok.in_level);
-    page = refl;
-    pages = omega (arith, pages1, length-append heads1 (length bases1 ∷ []));
-    heads = λ r other old_one.
-        word_at r (slice_get heads r) (not_last heads1 (length bases1) r (λ e. old_one (e ∙ pages1)) ∙ get_set_other heads p r new_word other)
-        ∙ sym (index_is heads r);
-    changed = omega (arith, word_at p (Some new_word) get_p);
-    plain = omega (arith, few, word_at q (Some (length bases1)) get_q);
+    unused = new_one;
+    pages = length_put heads1 q q place ∙ ap (λ n. max n (q + 1)) pages1;
+    heads = λ r other old_one. words_but_new heads1 q r place old_one ∙ get_or-set_other heads p r new_word 0 other;
+    changed = omega (arith, words_but_new heads1 q p place apart, get_or-set_same heads p new_word 0 within);
+    plain = omega (arith, few, word_of_new heads1 q place);
     root = refl;
     records = omega (arith, length-append records ((delta, word) ∷ []));
     next = refl;
@@ -227,41 +213,39 @@ module _ (heads : List ℕ) (bases : Bases) (records : Records) (root next : ℕ
   abbrev IsMade : List ℕ → Bases → Records → ℕ → Type 0
   IsMade h b r q = IsTree h b r root next None × IsSplit tree (view_of h b r root next None) p keep q
 
-  made_here : (left right : Page) → plain left ≡ slot_left keep slot_there → plain right ≡ slot_right keep slot_there → length heads < 2 ^ 32 → length records < 2 ^ 32 → length bases < 2 ^ 32 - 1 →
-      IsMade (set heads p (2 ^ 32 + length records) ++ length (set bases word_under (Some left)) ∷ []) (set bases word_under (Some left) ++ Some right ∷ []) (records ++ (Split (slot_separator keep slot_there) (length heads), word_under) ∷ []) (length heads)
-  made_here left right first others few_pages few_records few_bases = (
-    record { now = standing_new heads bases records root next t.now p keep ok_here left right first others few_pages few_records few_bases; stage = tt },
-    subst (λ (v : TreeView). IsSplit v (view_of (set heads p (2 ^ 32 + length records) ++ length (set bases word_under (Some left)) ∷ []) (set bases word_under (Some left) ++ Some right ∷ []) (records ++ (Split (slot_separator keep slot_there) (length heads), word_under) ∷ []) root next None) p keep (length heads)) is
-        (split_new heads bases records root next t.now p keep ok_here left right first others few_pages few_records few_bases),
+  unused_here : (q : ℕ) → IsUnused tree q → IsUnused (view_of heads bases records root next None) q
+  unused_here q = subst (λ (v : TreeView). IsUnused v q) (sym is)
+
+  abbrev record_over : ℕ → Records
+  record_over q = records ++ (Split (slot_separator keep slot_there) q, word_under) ∷ []
+
+  made_here : (left right : Page) → plain left ≡ slot_left keep slot_there → plain right ≡ slot_right keep slot_there → (q : ℕ) → IsUnused tree q → q < 2 ^ 32 → length records < 2 ^ 32 →
+      IsMade (put_at (set heads p (2 ^ 32 + length records)) q q) (put_at (set bases word_under (Some left)) q (Some right)) (record_over q) q
+  made_here left right first others q new_one few few_records = (
+    record { now = standing_new heads bases records root next t.now p keep ok_here left right first others q (unused_here q new_one) few few_records; stage = tt },
+    subst (λ (v : TreeView). IsSplit v (view_of (put_at (set heads p (2 ^ 32 + length records)) q q) (put_at (set bases word_under (Some left)) q (Some right)) (record_over q) root next None) p keep q) is
+        (split_new heads bases records root next t.now p keep ok_here left right first others q (unused_here q new_one) few few_records),
   )
 
-  made_at : (hs : List ℕ) (bs : Bases) (rs : Records) (w number : ℕ) → IsCut chains (record { bases = bs; records = rs }) word_under keep (length heads) → length heads < 2 ^ 32 → length records < 2 ^ 32 → length bases < 2 ^ 32 - 1 →
-      w ≡ 2 ^ 32 + length records → number ≡ length bases → hs ≡ set heads p w ++ number ∷ [] → IsMade hs bs rs (length heads)
-  made_at hs bs rs w number cut few_pages few_records few_bases word_is number_is heads_are =
-      let placed : hs ≡ set heads p (2 ^ 32 + length records) ++ length (set bases word_under (Some cut.left)) ∷ [] =
-      heads_are
-      ∙ ap (λ n. set heads p n ++ number ∷ []) word_is
-      ∙ ap (λ n. set heads p (2 ^ 32 + length records) ++ n ∷ []) (number_is ∙ sym (length-set bases word_under (Some cut.left)))
-      in
-      subst (λ (r : Records). IsMade hs bs r (length heads)) (sym cut.records)
-      (subst (λ (b : Bases). IsMade hs b (records ++ (Split (slot_separator keep slot_there) (length heads), word_under) ∷ []) (length heads)) (sym cut.bases)
-      (subst (λ (h : List ℕ). IsMade h (set bases word_under (Some cut.left) ++ Some cut.right ∷ []) (records ++ (Split (slot_separator keep slot_there) (length heads), word_under) ∷ []) (length heads)) (sym placed)
-      (made_here cut.left cut.right cut.first cut.others few_pages few_records few_bases)))
+  made_at : (hs : List ℕ) (bs : Bases) (rs : Records) (q w : ℕ) → IsCut chains (record { bases = bs; records = rs }) word_under keep q → IsUnused tree q → q < 2 ^ 32 → length records < 2 ^ 32 →
+      w ≡ 2 ^ 32 + length records → hs ≡ put_at (set heads p w) q q → IsMade hs bs rs q
+  made_at hs bs rs q w cut new_one few few_records word_is heads_are =
+      subst (λ (r : Records). IsMade hs bs r q) (sym cut.records)
+      (subst (λ (b : Bases). IsMade hs b (record_over q) q) (sym cut.bases)
+      (subst (λ (h : List ℕ). IsMade h (put_at (set bases word_under (Some cut.left)) q (Some cut.right)) (record_over q) q) (sym (heads_are ∙ ap (λ n. put_at (set heads p n) q q) word_is))
+      (made_here cut.left cut.right cut.first cut.others q new_one few few_records)))
 
-  made_on : (hs : List ℕ) (bs : Bases) (rs : Records) (q w number under : ℕ) → IsCut chains (record { bases = bs; records = rs }) under keep q → length heads < 2 ^ 32 → length records < 2 ^ 32 → length bases < 2 ^ 32 - 1 →
-      q ≡ length heads → w ≡ 2 ^ 32 + length records → number ≡ length bases → under ≡ slice_index heads p → hs ≡ set heads p w ++ number ∷ [] → IsMade hs bs rs q
-  made_on hs bs rs q w number under cut few_pages few_records few_bases q_is word_is number_is under_is heads_are =
-      subst (IsMade hs bs rs) (sym q_is)
-      (made_at hs bs rs w number
-      (subst (IsCut chains (record { bases = bs; records = rs }) word_under keep) q_is (subst (λ u. IsCut chains (record { bases = bs; records = rs }) u keep q) under_is cut))
-      few_pages few_records few_bases word_is number_is heads_are)
+  made_on : (hs : List ℕ) (bs : Bases) (rs : Records) (q w under : ℕ) → IsCut chains (record { bases = bs; records = rs }) under keep q → IsUnused tree q → q < 2 ^ 32 → length records < 2 ^ 32 →
+      w ≡ 2 ^ 32 + length records → under ≡ slice_index heads p → hs ≡ put_at (set heads p w) q q → IsMade hs bs rs q
+  made_on hs bs rs q w under cut new_one few few_records word_is under_is heads_are =
+      made_at hs bs rs q w (subst (λ u. IsCut chains (record { bases = bs; records = rs }) u keep q) under_is cut) new_one few few_records word_is heads_are
 
 unstaged : {s : StageView} → Some s ≡ None → ⊥
 unstaged e = cc
 
 pub split_on : (heads : List ℕ) (bases : Bases) (records : Records) (root next : ℕ) (staged : Option StageWords) (tree : TreeView) → view_of heads bases records root next staged ≡ tree → tree.staged ≡ None → IsTree heads bases records root next staged → (p keep : ℕ) → IsSplittable tree p keep →
-    (heads' : List ℕ) (bases' : Bases) (records' : Records) (q word number under : ℕ) → IsCut (record { bases = bases; records = records }) (record { bases = bases'; records = records' }) under keep q → length heads < 2 ^ 32 → length records < 2 ^ 32 → length bases < 2 ^ 32 - 1 →
-    q ≡ length heads → word ≡ 2 ^ 32 + length records → number ≡ length bases → under ≡ slice_index heads p → heads' ≡ set heads p word ++ number ∷ [] →
+    (heads' : List ℕ) (bases' : Bases) (records' : Records) (q word under : ℕ) → IsCut (record { bases = bases; records = records }) (record { bases = bases'; records = records' }) under keep q → IsUnused tree q → q < 2 ^ 32 → length records < 2 ^ 32 →
+    word ≡ 2 ^ 32 + length records → under ≡ slice_index heads p → heads' ≡ put_at (set heads p word) q q →
     IsTree heads' bases' records' root next staged × IsSplit tree (view_of heads' bases' records' root next staged) p keep q
 split_on heads bases records root next None tree is none t p keep ok = made_on heads bases records root next tree is t p keep ok
 split_on heads bases records root next (Some stage) tree is none t p keep ok = absurd (unstaged (ap (λ (v : TreeView). v.staged) is ∙ none))

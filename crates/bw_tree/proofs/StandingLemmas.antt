@@ -1,8 +1,9 @@
 -- A change of pages that leaves lawful levels and what they hold leaves a tree that holds the same.
-use Rattle.std.proofs.Common.{inl, inr, ◌⊎◌, set, ◌≡◌, ℕ, zero, suc, ◌<◌, ◌≤◌, ◌^◌, List, [], ◌∷◌, ◌++◌, length, refl, sym, ap, ◌∙◌, subst, arith, length-append}
+use Rattle.std.proofs.Common.{inl, inr, ◌⊎◌, set, ◌≡◌, ℕ, zero, suc, ◌<◌, ◌≤◌, ◌^◌, List, [], ◌∷◌, length, Option, refl, sym, ap, ◌∙◌, subst, arith}
 use Rattle.std.proofs.lemmas.Bool.{cases_eq, cases_lt}
 use Rattle.std.proofs.lemmas.List.{get_or-set_other, get_or-set_same, length-set}
-use Rattle.std.specs.Prelude.{slice_index}
+use Rattle.std.specs.Option.{unwrap_or}
+use Rattle.std.specs.Prelude.{slice_get, slice_index}
 use Rattle.std.specs.List.{AllByRecursion}
 use Rattle.bw_delta.specs.History.{HasDistinctStamps}
 use Rattle.bw_delta.specs.Writes.{WriteView}
@@ -10,11 +11,13 @@ use Rattle.bw_chain.specs.Chains.{AllEnd, Bases, Records, slots_of}
 use Rattle.bw_chain.specs.Entries.{AreExact}
 use Rattle.bw_chain.specs.Laws.{KeepsAll}
 use Rattle.bw_chain.specs.Levels.{AreLevels, levels_under, row}
+use Rattle.bw_chain.specs.Placing.{put_at}
 use Rattle.bw_chain.specs.Reading.{contents_in, row_writes}
 use Rattle.bw_chain.specs.Searches.{IsInLevels}
 use Rattle.bw_chain.specs.Slots.{Slot}
 use Rattle.bw_chain.specs.Supports.{OwnBases}
 use Rattle.bw_chain.proofs.LevelLemmas.{levels_now}
+use Rattle.bw_chain.proofs.PlacingLemmas.{get_put, get_put_other, length_put}
 use Rattle.bw_tree.specs.Trees.{ArePlaced, IsStanding}
 
 -- pages with records still stand on a level where one page's word was set, if that page does
@@ -27,24 +30,29 @@ placed_set heads levels p word within on placed r lt high = by (cases_eq r p)
         subst (IsInLevels levels) (sym here) (on (subst (λ w. 2 ^ 32 ≤ w) now high))
     by (inr other) = placed r (omega (arith, lt, length-set heads p word)) (subst (λ w. 2 ^ 32 ≤ w) (get_or-set_other heads p r word 0 other) high)
 
-last_word : (heads : List ℕ) (word : ℕ) → slice_index (heads ++ word ∷ []) (length heads) ≡ word
-last_word [] word = refl
-last_word (h ∷ heads) word = last_word heads word
+-- the number at a place is that of the entry there
+pub index_is : (xs : List ℕ) (i : ℕ) → slice_index xs i ≡ unwrap_or (slice_get xs i) 0
+index_is [] i = refl
+index_is (x ∷ xs) zero = refl
+index_is (x ∷ xs) (suc i) = index_is xs i
 
-word_before : (heads : List ℕ) (word p : ℕ) → p < length heads → slice_index (heads ++ word ∷ []) p ≡ slice_index heads p
-word_before [] word p lt = absurd (omega arith)
-word_before (h ∷ heads) word zero lt = refl
-word_before (h ∷ heads) word (suc p) lt = word_before heads word p (omega arith)
+-- a new page has the word of its own base page
+pub word_of_new : (heads : List ℕ) (q : ℕ) → q ≤ length heads → slice_index (put_at heads q q) q ≡ q
+word_of_new heads q place = index_is (put_at heads q q) q ∙ ap (λ (o : Option ℕ). unwrap_or o 0) (get_put heads q q place)
 
--- so do they beside a page that is added without a record
-pub placed_added : (heads : List ℕ) (levels : List (List ℕ)) (word : ℕ) → word < 2 ^ 32 → ArePlaced heads levels → ArePlaced (heads ++ word ∷ []) levels
-placed_added heads levels word plain placed r lt high = by (cases_lt r (length heads))
+-- and all others have the words that they had
+pub words_but_new : (heads : List ℕ) (q r : ℕ) → q ≤ length heads → (r ≡ q → ⊥) → slice_index (put_at heads q q) r ≡ slice_index heads r
+words_but_new heads q r place other =
+    index_is (put_at heads q q) r ∙ ap (λ (o : Option ℕ). unwrap_or o 0) (get_put_other heads q r q place other) ∙ sym (index_is heads r)
+
+-- so pages with records still stand on a level beside a page that is added without one
+pub placed_added : (heads : List ℕ) (levels : List (List ℕ)) (q : ℕ) → q ≤ length heads → q < 2 ^ 32 → ArePlaced heads levels → ArePlaced (put_at heads q q) levels
+placed_added heads levels q place low placed r lt high = by (cases_eq r q) (cases_lt r (length heads))
   where
-    by : (r < length heads) ⊎ (length heads ≤ r) → IsInLevels levels r
-    by (inl before) = placed r before (subst (λ w. 2 ^ 32 ≤ w) (word_before heads word r before) high)
-    by (inr behind) =
-        let last : r ≡ length heads = omega (arith, lt, behind, length-append heads (word ∷ [])) in
-        absurd (omega (arith, plain, high, ap (slice_index (heads ++ word ∷ [])) last ∙ last_word heads word))
+    by : (r ≡ q) ⊎ (r ≡ q → ⊥) → (r < length heads) ⊎ (length heads ≤ r) → IsInLevels levels r
+    by (inl new) where_it = absurd (omega (arith, low, high, ap (slice_index (put_at heads q q)) new ∙ word_of_new heads q place))
+    by (inr other) (inl before) = placed r before (subst (λ w. 2 ^ 32 ≤ w) (words_but_new heads q r place other) high)
+    by (inr other) (inr behind) = absurd (other (omega (arith, lt, behind, place, length_put heads q q place)))
 
 module _ (heads : List ℕ) (bases : Bases) (records : Records) (root next : ℕ) (t : IsStanding heads bases records root next) (heads' : List ℕ) (bases' : Bases) (records' : Records) (root' : ℕ) (levels' : List (List ℕ)) where
   abbrev old_slots : List Slot

@@ -20,6 +20,8 @@ pub use Rattle.bw_chain.specs.Searches
 pub use Rattle.bw_chain.specs.LeafEnds
 pub use Rattle.bw_chain.specs.Targets
 pub use Rattle.bw_chain.specs.Laws
+pub mod Identifiers
+pub mod Freeing
 pub mod Splits
 pub mod Children
 pub mod Roots

@@ -1,9 +1,10 @@
 -- Splits: a page keeps its first entries, and a new page right of it has the others.
-use Rattle.std.specs.Prelude.{◌≡◌, ℕ, ◌+◌, ◌<◌, ◌≤◌, ◌^◌, length, None, slice_index}
+use Rattle.std.specs.Prelude.{◌≡◌, ℕ, ◌+◌, ◌<◌, ◌≤◌, ◌^◌, length, max, None, slice_index}
 use Rattle.std.specs.List.{Contains}
 use Rattle.bw_chain.specs.Levels.{row}
 use Rattle.bw_chain.specs.Slots.{slot_at}
 use Rattle.bw_chain.specs.Splits.{HasNoRemovedAt, IsParted, level_parted, slot_entries}
+use Rattle.bw_tree.specs.Identifiers.{IsUnused}
 use Rattle.bw_tree.specs.View.{TreeView, contents_at}
 
 -- A page of a level that is a base page by itself and has more entries than those that stay, of which there are some. The
@@ -17,15 +18,15 @@ pub record IsSplittable (tree : TreeView) (p keep : ℕ) : Type 0 where
   pub fewer : keep < slot_entries (slot_at tree.slots p)
   pub live : HasNoRemovedAt tree.slots p keep
 
--- The page has parted in two, and on its level the new page, whose identifier is the one behind all others, stands right
--- behind it. There is one record more. All other pages are as before, and so is what the tree holds.
+-- The page has parted in two, and on its level the new page, whose identifier was free or is the one behind all others,
+-- stands right behind it. There is one record more. All other pages are as before, and so is what the tree holds.
 pub record IsSplit (old new : TreeView) (p keep q : ℕ) : Type 0 where
   pub parted : IsParted old.slots new.slots p q keep
   pub levels : (level : ℕ) → level < length old.levels → Contains (row old.levels level) p →
       new.levels ≡ level_parted old.levels level p q
   pub contents : (stamp : ℕ) → contents_at new stamp ≡ contents_at old stamp
-  pub page : q ≡ length old.heads
-  pub pages : length new.heads ≡ length old.heads + 1
+  pub unused : IsUnused old q
+  pub pages : length new.heads ≡ max (length old.heads) (q + 1)
   pub heads : (r : ℕ) → (r ≡ p → ⊥) → (r ≡ q → ⊥) → slice_index new.heads r ≡ slice_index old.heads r
   pub changed : 2 ^ 32 ≤ slice_index new.heads p
   pub plain : slice_index new.heads q < 2 ^ 32

@@ -1,7 +1,8 @@
 // Mapping words of some pages, put in their places.
-ghost use Rattle.std.specs.Prelude.{◌≡◌, ℕ, ◌<◌, ◌≤◌, Some, length};
+ghost use Rattle.std.specs.Prelude.{◌≡◌, ℕ, ◌+◌, ◌<◌, ◌≤◌, Some, length, vec_capacity, vec_len};
 ghost use Rattle.std.specs.List.{AllByRecursion, slice_set};
 ghost use Rattle.bw_core.specs.World.{times};
+ghost use Rattle.bw_chain.specs.Placing.{put_at};
 ghost use Rattle.bw_tree.specs.Words.{put_words, words_before, words_of};
 
 use bw_memory::Alloc;
@@ -70,4 +71,20 @@ fn swap_each(heads: &mut [u64], pages: &[PageId], words: &mut [u64])
         let page = pages[place];
         mem::swap(&mut heads[page.0 as usize], &mut words[place]);
     }
+}
+
+/// Gives a page the mapping word that names its own base page. The page has a word, or it is the one behind all others, for
+/// which there is room.
+#[tactic(auto, using(bw_chain::proofs::PlacingLemmas::put_set, bw_chain::proofs::PlacingLemmas::put_last))]
+pub(crate) fn put_own(heads: &mut Vec<u64, Alloc>, page: PageId)
+    requires place { page ≤ length heads.old.items }
+    requires room { vec_len heads.old + 1 ≤ vec_capacity heads.old }
+    ensures { heads.new.items ≡ put_at heads.old.items page page }
+{
+    let at = page.0 as usize;
+    if at < heads.len() {
+        heads[at] = page.0 as u64;
+        return;
+    }
+    heads.push(page.0 as u64).unwrap();
 }

@@ -16,6 +16,7 @@ use bw_segment::Segmented;
 use std::marker::Model;
 
 mod children;
+mod identifiers;
 mod merges;
 mod naming;
 mod page_consolidation;

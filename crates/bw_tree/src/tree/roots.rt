@@ -4,7 +4,7 @@ ghost use Rattle.bw_chain.specs.Roots.{two_children};
 ghost use Rattle.bw_chain.specs.Slots.{side_of};
 
 use super::Tree;
-use bw_chain::FLOOR;
+use crate::mapping_words::put_own;
 use bw_key::{Key, Memory};
 use bw_memory::Alloc;
 use bw_page::{Inner, Page, PageId};
@@ -54,14 +54,10 @@ impl Tree {
         ensures ok { IfOk result (HasNewRoot self.old self.new) }
         ensures err { OnErr result (self.new ≡ self.old) }
     {
-        let count = self.heads.len() as u64;
-        if count >= FLOOR - 1 {
-            return Err(Memory);
-        }
+        let to = self.unused()?;
         self.heads.reserve(1)?;
-        let to = PageId(count as u32);
-        let number = self.chains.add_base(Page::Inner(page))?;
-        self.heads.push(number).unwrap();
+        self.chains.add_base(to, Page::Inner(page))?;
+        put_own(&mut self.heads, to);
         self.root = to;
         Ok(to)
     }

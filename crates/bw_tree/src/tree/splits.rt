@@ -2,7 +2,7 @@
 ghost use Rattle.std.specs.Prelude.{◌≡◌, None, IfOk, OnErr};
 
 use super::Tree;
-use bw_chain::FLOOR;
+use crate::mapping_words::put_own;
 use bw_key::Memory;
 use bw_page::PageId;
 
@@ -24,15 +24,11 @@ impl Tree {
         ensures err { OnErr result (self.new ≡ self.old) }
     {
         let head = self.heads[page.0 as usize];
-        let count = self.heads.len() as u64;
-        if count >= FLOOR - 1 {
-            return Err(Memory);
-        }
+        let to = self.unused()?;
         self.heads.reserve(1)?;
-        let to = PageId(count as u32);
-        let (word, number) = self.chains.split(head, keep, to)?;
+        let word = self.chains.split(head, keep, to)?;
         self.heads[page.0 as usize] = word;
-        self.heads.push(number).unwrap();
+        put_own(&mut self.heads, to);
         Ok(to)
     }
 }

@@ -5,6 +5,7 @@ use Rattle.bw_key.specs.Order.{KeyBytes}
 use Rattle.bw_page.specs.declared.pages.Page.{Page}
 use Rattle.bw_delta.specs.declared.deltas.Delta.TheVariants.{Split}
 use Rattle.bw_chain.specs.Chains.{Bases, ChainsView, IsChain, Records, based, floor_word, page_at}
+use Rattle.bw_chain.specs.Placing.{put_at}
 use Rattle.bw_chain.specs.Splits.{slot_entries, slot_left, slot_right, slot_separator}
 use Rattle.bw_chain.proofs.InPlaceLemmas.{plain_at, plain_within}
 use Rattle.bw_chain.proofs.chains.Chains.split.Goals as goal
@@ -66,9 +67,10 @@ returns-clause-cut c =
       first = c.in_ok-sep.ensures.left ∙ ap (slot_left keep) (sym is);
       others = c.in_ok-sep.ensures.right ∙ ap (slot_right keep) (sym is);
       bases =
-          c.push_reserved.ensures.items
-          ∙ ap (λ (bs : Bases). bs ++ Some right ∷ []) (c.set.ensures.items ∙ ap (λ (bs : Bases). set bs word (Some page)) c.replace.ensures.items ∙ set-set items word None (Some page))
-          ∙ ap (λ (bs : Bases). set bs word (Some page) ++ Some right ∷ []) (c.in_ok-make_room.ensures.items ∙ ap (λ (v : ChainsView). v.bases) c.self.view_is);
+          c.put_base.ensures
+          ∙ ap (λ (bs : Bases). put_at bs c.to.inside.0 (Some right)) (c.set.ensures.items ∙ ap (λ (bs : Bases). set bs word (Some page)) c.replace.ensures.items ∙ set-set items word None (Some page))
+          ∙ ap (λ (bs : Bases). put_at (set bs word (Some page)) c.to.inside.0 (Some right)) (c.in_ok-make_room.ensures.items ∙ ap (λ (v : ChainsView). v.bases) c.self.view_is)
+          ∙ ap (λ n. put_at (set c.args.self.now.bases word (Some page)) n (Some right)) c.to.view_is;
       records =
           c.append.ensures.records
           ∙ ap (λ (rs : Records). rs ++ (Split c.in_ok-sep.sep c.args.to, word) ∷ []) (c.in_ok-make_room-2.ensures.records ∙ ap (λ (v : ChainsView). v.records) c.self.view_is)

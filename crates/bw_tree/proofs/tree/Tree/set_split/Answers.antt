@@ -1,5 +1,6 @@
-use Rattle.std.proofs.Common.{◌≡◌, set, [], ◌∷◌, ◌++◌, List, length, ℕ, ap, ◌∙◌, get_or, arith}
+use Rattle.std.proofs.Common.{◌≡◌, set, List, ℕ, ap, ◌∙◌, get_or}
 use Rattle.std.proofs.lemmas.List.{get_or_default}
+use Rattle.bw_chain.specs.Placing.{put_at}
 use Rattle.bw_tree.specs.Splits.{IsSplit}
 use Rattle.bw_tree.specs.Trees.{IsTree, view_of}
 use Rattle.bw_tree.proofs.RoutingLemmas.{page_at_head}
@@ -13,24 +14,21 @@ split-requires-clause-ends c =
     (c.index-head.ensures ∙ ap (λ n. get_or heads n c.index-head.result.now) c.page.view_is)).ends
 
 -- the tree of the new words, and what it is to the old one
-split_now : (c : goal.After-unwrap) →
-    IsTree c.push.new.self.items c.split.new.self.bases c.split.new.self.records c.self.inside.root c.self.inside.next c.self.inside.staged
-    × IsSplit c.args.self.now (view_of c.push.new.self.items c.split.new.self.bases c.split.new.self.records c.self.inside.root c.self.inside.next c.self.inside.staged) c.args.page c.args.keep c.len-count.result
+split_now : (c : goal.After-put_own) →
+    IsTree c.put_own.new.heads.items c.split.new.self.bases c.split.new.self.records c.self.inside.root c.self.inside.next c.self.inside.staged
+    × IsSplit c.args.self.now (view_of c.put_own.new.heads.items c.split.new.self.bases c.split.new.self.records c.self.inside.root c.self.inside.next c.self.inside.staged) c.args.page c.args.keep c.in_ok-to.to
 split_now c =
     let heads = c.self.inside.heads.items in
     let bases = c.self.inside.chains.bases in
     let records = c.self.inside.chains.records in
     let word = c.in_ok-word.word in
-    let number = c.in_ok-word.number in
+    let to = c.in_ok-to.to in
     let read : c.index-head.result.now ≡ get_or heads c.args.page c.index-head.result.now = c.index-head.ensures ∙ ap (λ n. get_or heads n c.index-head.result.now) c.page.view_is in
     let at = page_at_head heads bases records c.self.inside.root c.self.inside.next _ c.self.inside.staged c.args.self.now c.args.page c.index-head.result.now c.self.view_is c.self.invariant.now (in_levels c.args.self.now c.args.page c.args.keep c.requires.page) read in
-    let count : c.len-count.result ≡ length heads = omega (arith, c.len-count.ensures, c.self.inside.heads.ok) in
-    let pushed : c.push.new.self.items ≡ set c.reserve.new.self.items c.page.inside.0 word ++ number ∷ [] = rw c.unwrap.ensures at c.push.ensures.items in
     split_on heads bases records c.self.inside.root c.self.inside.next c.self.inside.staged c.args.self.now c.self.view_is c.requires.none c.self.invariant c.args.page c.args.keep c.requires.page
-    c.push.new.self.items c.split.new.self.bases c.split.new.self.records c.len-count.result word number c.index-head.result.now
-    c.in_ok-word.ensures.cut (omega (arith, c.if-count.false, count)) c.in_ok-word.ensures.few_records c.in_ok-word.ensures.few_bases
-    count c.in_ok-word.ensures.word c.in_ok-word.ensures.number (read ∙ get_or_default heads c.args.page c.index-head.result.now 0 at.there)
-    (pushed ∙ ap (λ (h : List ℕ). set h c.page.inside.0 word ++ number ∷ []) c.in_ok-reserve.ensures.items ∙ ap (λ n. set heads n word ++ number ∷ []) c.page.view_is)
+    c.put_own.new.heads.items c.split.new.self.bases c.split.new.self.records to word c.index-head.result.now
+    c.in_ok-word.ensures.cut c.in_ok-to.ensures.unused c.in_ok-to.ensures.few c.in_ok-word.ensures.few c.in_ok-word.ensures.word (read ∙ get_or_default heads c.args.page c.index-head.result.now 0 at.there)
+    (c.put_own.ensures ∙ ap (λ (h : List ℕ). put_at (set h c.page.inside.0 word) to to) c.in_ok-reserve.ensures.items ∙ ap (λ n. put_at (set heads n word) to to) c.page.view_is)
 
 pub invariant_of-self-2 : goal.invariant_of-self-2
 invariant_of-self-2 c = (split_now c).0

@@ -1,0 +1,16 @@
+use Rattle.bw_tree.proofs.FreeLemmas.{free_on, free_within}
+use Rattle.bw_tree.proofs.tree.Tree.free.Goals as goal
+
+pub free_base-requires : goal.free_base-requires
+free_base-requires c =
+    free_within c.self.inside.heads.items c.self.inside.chains.bases c.self.inside.chains.records c.self.inside.root c.self.inside.next c.self.inside.staged c.args.self.now c.self.view_is c.self.invariant c.args.page c.requires.page
+
+pub invariant_of-self : goal.invariant_of-self
+invariant_of-self c =
+    (free_on c.self.inside.heads.items c.self.inside.chains.bases c.self.inside.chains.records c.self.inside.root c.self.inside.next c.self.inside.staged c.args.self.now c.self.view_is c.requires.none c.self.invariant
+    c.args.page c.requires.page c.free_base.new.self.bases c.free_base.new.self.records c.free_base.ensures.bases c.free_base.ensures.records).0
+
+pub returns : goal.returns
+returns c =
+    (free_on c.self.inside.heads.items c.self.inside.chains.bases c.self.inside.chains.records c.self.inside.root c.self.inside.next c.self.inside.staged c.args.self.now c.self.view_is c.requires.none c.self.invariant
+    c.args.page c.requires.page c.free_base.new.self.bases c.free_base.new.self.records c.free_base.ensures.bases c.free_base.ensures.records).1

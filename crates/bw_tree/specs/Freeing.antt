@@ -1,0 +1,21 @@
+-- Identifiers that are given back.
+use Rattle.std.specs.Prelude.{◌≡◌, ℕ, None}
+use Rattle.bw_chain.specs.Freeing.{IsForgotten, IsFreed}
+use Rattle.bw_chain.specs.Slots.{Free, slot_at}
+use Rattle.bw_tree.specs.View.{TreeView, contents_at}
+
+-- an identifier that isn't free, of a page on no level to which nothing leads
+pub record MayBeFreed (tree : TreeView) (p : ℕ) : Type 0 where
+  pub taken : slot_at tree.slots p ≡ Free → ⊥
+  pub forgotten : IsForgotten tree.slots tree.levels p
+
+-- The identifier is free. All other pages are as before, and so are the levels and what the tree holds.
+pub record HasFreed (old new : TreeView) (p : ℕ) : Type 0 where
+  pub freed : IsFreed old.slots new.slots p
+  pub levels : new.levels ≡ old.levels
+  pub contents : (stamp : ℕ) → contents_at new stamp ≡ contents_at old stamp
+  pub heads : new.heads ≡ old.heads
+  pub root : new.root ≡ old.root
+  pub records : new.records ≡ old.records
+  pub next : new.next ≡ old.next
+  pub staged : new.staged ≡ None
