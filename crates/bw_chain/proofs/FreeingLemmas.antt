@@ -97,11 +97,14 @@ module _ (old new : List Slot) (root : ℕ) (levels : List (List ℕ)) (p : ℕ)
   }
 
   exact_still : AreExact old levels → AreExact new levels
+  unfolding term_was
   exact_still exact = record {
     begins = λ n k c s lt term is.
         let was = term_was n k c lt term in exact.begins n k c s lt was (sym (freed.others c (child_same n k c lt was)) ∙ is);
     began = λ n k c g lt term is.
         let was = term_was n k c lt term in exact.began n k c g lt was (sym (freed.others c (child_same n k c lt was)) ∙ is);
+    behind = λ n k c g lt term is.
+        let was = term_was n k c lt term in exact.behind n k c g lt was (sym (freed.others c (child_same n k c lt was)) ∙ is);
     once = λ n k h c lt one other. exact.once n k h c lt (term_was n k c lt one) (term_was n h c lt other);
   }
 

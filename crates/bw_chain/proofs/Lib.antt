@@ -25,6 +25,7 @@ pub mod SupportLemmas
 pub mod PlacingLemmas
 pub mod AlikeLemmas
 pub mod BaseLemmas
+pub mod RemovedLemmas
 pub mod AdditionLemmas
 pub mod InPlaceLemmas
 pub mod CutLemmas

@@ -20,4 +20,5 @@ pub mod Laws
 pub mod Splits
 pub mod Roots
 pub mod Merges
+pub mod Removed
 pub mod Freeing

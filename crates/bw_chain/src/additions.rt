@@ -1,20 +1,22 @@
 // Base pages and records that are added.
 ghost use Rattle.std.specs.Prelude.{◌≡◌, ◌+◌, ◌<◌, ◌≤◌, ◌^◌, ◌++◌, [], ◌∷◌, length, Some, IfOk, OnOk, OnErr};
 ghost use Rattle.bw_chain.specs.Placing.{put_at};
+ghost use Rattle.bw_chain.specs.Removed.{IsNotRemoved};
 
 use crate::bases::put_base;
-use crate::chains::{Chains, FLOOR};
-use crate::records::make_room;
+use crate::chains::Chains;
+use crate::records::append_record;
 use bw_delta::Delta;
 use bw_key::Memory;
 use bw_page::{Page, PageId};
 
 impl Chains {
-    /// Adds the base page of a new page, whose identifier is its number: one that is vacant, or the one behind all others. As
-    /// a mapping word the number names the page without a record. `Memory` is answered where the list of base pages can't
-    /// grow; all is as before.
+    /// Adds the base page of a new page, which isn't a removed one, and whose identifier is its number: one that is vacant, or
+    /// the one behind all others. As a mapping word the number names the page without a record. `Memory` is answered where
+    /// the list of base pages can't grow; all is as before.
     pub fn add_base(&mut self, number: PageId, page: Page) -> Result<(), Memory>
-        requires { number ≤ length self.old.bases }
+        requires place { number ≤ length self.old.bases }
+        requires page { IsNotRemoved page }
         ensures records { self.new.records ≡ self.old.records }
         ensures ok { OnOk result (self.new.bases ≡ put_at self.old.bases number (Some page)) }
         ensures err { OnErr result (self.new.bases ≡ self.old.bases) }
@@ -33,9 +35,6 @@ impl Chains {
         ensures few { OnOk result (length self.old.records < 2 ^ 32) }
         ensures err { OnErr result (self.new.records ≡ self.old.records) }
     {
-        make_room(&mut self.arena)?;
-        let word = FLOOR + self.arena.len() as u64;
-        self.arena.append(delta, link);
-        Ok(word)
+        append_record(&mut self.arena, delta, link)
     }
 }

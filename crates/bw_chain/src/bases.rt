@@ -1,7 +1,8 @@
 // Base pages that take the place of others, new ones, and some that go.
-ghost use Rattle.std.specs.Prelude.{◌≡◌, ◌<◌, ◌≤◌, length, Some, None, slice_set};
+ghost use Rattle.std.specs.Prelude.{◌≡◌, ℕ, ◌<◌, ◌≤◌, length, Decides, Some, None, slice_set};
 ghost use Rattle.bw_chain.specs.Chains.{IsChain};
 ghost use Rattle.bw_chain.specs.Placing.{put_at};
+ghost use Rattle.bw_chain.specs.Removed.{IsNotRemoved, IsRemovedInto};
 ghost use Rattle.bw_chain.specs.Supports.{base_under};
 
 use crate::chains::Chains;
@@ -10,9 +11,10 @@ use bw_segment::Segmented;
 
 impl Chains {
     /// Puts a page in the place of the base page under a chain, and answers its number, which as a mapping word names the
-    /// page without a record. It costs a walk along the chain's links, and takes no memory.
+    /// page without a record. It isn't a removed page. It costs a walk along the chain's links, and takes no memory.
     pub fn replace_base(&mut self, head: u64, page: Page) -> u64
-        requires { IsChain self.old head }
+        requires ends { IsChain self.old head }
+        requires page { IsNotRemoved page }
         ensures number { result ≡ base_under self.old.records head }
         ensures bases { self.new.bases ≡ slice_set self.old.bases result (Some page) }
         ensures records { self.new.records ≡ self.old.records }
@@ -29,6 +31,32 @@ impl Chains {
         ensures records { self.new.records ≡ self.old.records }
     {
         self.bases.set(number.0 as usize, None);
+        if self.removed.last().copied() == Some(number) {
+            self.removed.pop();
+        }
+    }
+
+    /// Whether a base page says that its page was removed into this left neighbour. It costs a look at each that says so, and
+    /// at some that did, and takes no memory.
+    pub fn is_left(&self, page: PageId) -> bool
+        ensures { Decides result ((n : ℕ) × IsRemovedInto self.now.bases page n) }
+    {
+        for number in &self.removed {
+            if self.is_left_of(page, *number) {
+                return true;
+            }
+        }
+        false
+    }
+
+    // Whether the base page of a number says so.
+    fn is_left_of(&self, page: PageId, number: PageId) -> bool
+        ensures { Decides result (IsRemovedInto self.now.bases page number) }
+    {
+        match self.base(number.0 as u64) {
+            Some(Page::Gone(removed)) => removed.left == page,
+            _ => false,
+        }
     }
 
     // The number of the base page under a chain.

@@ -5,6 +5,7 @@ ghost use Rattle.bw_delta.specs.Arenas.{deltas_of, links_of};
 ghost use Rattle.bw_delta.specs.Batches.{writes_of};
 ghost use Rattle.bw_chain.specs.Chains.{IsChain, based, chains_over, floor_word, link_of, page_at, record_at};
 ghost use Rattle.bw_chain.specs.Records.{IsWrite, IsWriteAt, unlinked};
+ghost use Rattle.bw_chain.specs.Removed.{HasNoRemoved};
 ghost use Rattle.bw_chain.specs.Turns.{IsNoWrite, slot_without_writes, over, plain_at};
 
 use crate::records::{append_writes, put_write};
@@ -12,7 +13,7 @@ use bw_delta::{Arena, Delta, Write};
 use bw_key::Memory;
 use bw_memory::Alloc;
 use bw_model::Op;
-use bw_page::Page;
+use bw_page::{Page, PageId};
 use bw_segment::Segmented;
 use std::marker::Model;
 
@@ -24,24 +25,31 @@ pub const FLOOR: u64 = 1 << 32;
 pub struct Chains {
     pub(crate) bases: Segmented<Option<Page>>,
     pub(crate) arena: Arena,
+    // the numbers of the base pages which say that their page was removed, and maybe some that did
+    pub(crate) removed: Vec<PageId, Alloc>,
 }
 
 impl Model for Chains {
     ghost use Rattle.bw_chain.specs.Chains.{ChainsView};
+    ghost use Rattle.bw_chain.specs.Removed.{HasAllRemoved};
 
     ghost Value = { ChainsView };
 
     ghost view = { λ c. record { bases = c.bases.items; records = c.arena.records } };
+
+    ghost invariant = { λ c. HasAllRemoved c.bases.items c.removed.items };
 }
 
 impl Chains {
-    /// These base pages, and no record yet. It takes no memory.
+    /// These base pages, none of them a removed one, and no record yet. It takes no memory.
     pub fn new(alloc: Alloc, bases: Segmented<Option<Page>>) -> Chains
+        requires { HasNoRemoved bases.items }
         ensures { result ≡ chains_over bases.items }
     {
         Chains {
             bases,
             arena: Arena::new(alloc),
+            removed: Vec::new(alloc),
         }
     }
 

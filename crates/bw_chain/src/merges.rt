@@ -9,6 +9,7 @@ ghost use Rattle.bw_chain.specs.Targets.{IsLinked};
 ghost use Rattle.bw_page.specs.declared.pages.Page.TheVariants.{Leaf as LeafPage, Inner as InnerPage};
 
 use crate::chains::Chains;
+use crate::records::append_both;
 use bw_delta::Delta;
 use bw_key::{Key, Memory};
 use bw_page::{Inner, Leaf, Page, PageId, RemovedPage};
@@ -34,9 +35,12 @@ impl Chains {
         let page = self.joined(word, right)?;
         let removed = self.removed(right, left)?;
         let absorption = self.absorption(right)?;
-        let record = self.add_both(Delta::Removed { left }, right, absorption, word)?;
+        self.removed.reserve(1)?;
+        let removal = Delta::Removed { left };
+        let record = append_both(&mut self.arena, removal, right, absorption, word)?;
         self.bases.set(word as usize, Some(page));
         self.bases.set(right as usize, Some(removed));
+        self.removed.push(PageId(right as u32)).unwrap();
         Ok(record)
     }
 
@@ -99,29 +103,6 @@ impl Chains {
             high: Some(end.copy()?),
             side: Some(next),
         })
-    }
-
-    // Adds two records behind the others, and answers the word that names the second.
-    fn add_both(
-        &mut self,
-        first: Delta,
-        under: u64,
-        second: Delta,
-        other: u64,
-    ) -> Result<u64, Memory>
-        ensures bases { self.new.bases ≡ self.old.bases }
-        ensures ok { OnOk result (self.new.records ≡ self.old.records ++ (first, under) ∷ (second, other) ∷ []) }
-        ensures word { IfOk result (λ word. word ≡ 2 ^ 32 + length self.old.records + 1) }
-        ensures few { OnOk result (length self.old.records + 1 < 2 ^ 32) }
-        ensures err { OnErr result (self.new.records ≡ self.old.records) }
-    {
-        let before = self.arena.len();
-        self.add_record(first, under)?;
-        let added = self.add_record(second, other);
-        if added.is_err() {
-            self.arena.truncate(before);
-        }
-        added
     }
 
     /// Takes the child at a separator, which isn't the first one, from an inner page without a record. Answers the word that

@@ -1,5 +1,5 @@
-// Records of writes.
-ghost use Rattle.std.specs.Prelude.{◌≡◌, ◌+◌, ◌^◌, ◌≤◌, ◌<◌, ◌++◌, length, is_some, take, OnOk, OnErr};
+// Records that are appended.
+ghost use Rattle.std.specs.Prelude.{◌≡◌, ◌+◌, ◌^◌, ◌≤◌, ◌<◌, ◌++◌, [], ◌∷◌, length, is_some, take, IfOk, OnOk, OnErr};
 ghost use Rattle.bw_delta.specs.Batches.{stamped, write_of, writes_of};
 ghost use Rattle.bw_delta.specs.Writes.{WriteView};
 ghost use Rattle.bw_delta.specs.declared.deltas.Delta.TheVariants.{Put};
@@ -81,4 +81,39 @@ pub(crate) fn make_room(arena: &mut Arena) -> Result<(), Memory>
         return Err(Memory);
     }
     arena.make_room()
+}
+
+/// Appends a record with its link word, and answers the word that names it. After `Memory` the records are as before.
+pub(crate) fn append_record(arena: &mut Arena, delta: Delta, link: u64) -> Result<u64, Memory>
+    ensures ok { OnOk result (arena.new.records ≡ arena.old.records ++ (delta, link) ∷ []) }
+    ensures word { IfOk result (λ word. word ≡ 2 ^ 32 + length arena.old.records) }
+    ensures few { OnOk result (length arena.old.records < 2 ^ 32) }
+    ensures err { OnErr result (arena.new.records ≡ arena.old.records) }
+{
+    make_room(arena)?;
+    let word = FLOOR + arena.len() as u64;
+    arena.append(delta, link);
+    Ok(word)
+}
+
+/// Appends two records, and answers the word that names the second. After `Memory` the records are as before.
+pub(crate) fn append_both(
+    arena: &mut Arena,
+    first: Delta,
+    under: u64,
+    second: Delta,
+    other: u64,
+) -> Result<u64, Memory>
+    ensures ok { OnOk result (arena.new.records ≡ arena.old.records ++ (first, under) ∷ (second, other) ∷ []) }
+    ensures word { IfOk result (λ word. word ≡ 2 ^ 32 + length arena.old.records + 1) }
+    ensures few { OnOk result (length arena.old.records + 1 < 2 ^ 32) }
+    ensures err { OnErr result (arena.new.records ≡ arena.old.records) }
+{
+    let before = arena.len();
+    append_record(arena, first, under)?;
+    let added = append_record(arena, second, other);
+    if added.is_err() {
+        arena.truncate(before);
+    }
+    added
 }

@@ -7,7 +7,9 @@ use Rattle.bw_delta.specs.declared.deltas.Delta.{Delta}
 use Rattle.bw_delta.specs.declared.deltas.Delta.TheVariants.{Split}
 use Rattle.bw_chain.specs.Chains.{Bases, ChainsView, based, change, plain}
 use Rattle.bw_chain.specs.Slots.{IsSound}
+use Rattle.bw_chain.specs.Removed.{HasAllRemoved}
 use Rattle.bw_chain.proofs.InPlaceLemmas.{split_at, split_within}
+use Rattle.bw_chain.proofs.RemovedLemmas.{all_replaced, live_page, sound_live}
 use Rattle.bw_chain.proofs.chains.Chains.narrow.Goals as goal
 
 pub replace-requires : goal.replace-requires
@@ -56,3 +58,15 @@ returns-clause-ok c =
           ∙ ap (λ (v : ChainsView). set v.bases s.number (Some page)) c.self.view_is;
       records = ap (λ (v : ChainsView). v.records) c.self.view_is;
     }
+
+pub invariant_of-self : goal.invariant_of-self
+invariant_of-self c =
+    let s = c.in-Some-Split-default in
+    let page = c.narrow.new.base in
+    let at = split_at c.args.self.now c.args.head s.number s.sep s.to c.replace.result c.requires.ends (sym s.ensures ∙ ap (λ (d : Delta). Some (d, s.number)) s.field-0-0-is) c.requires.sound
+    (sym (get_or_from_slice_get c.self.inside.bases.items s.number c.replace.result c.replace.result c.replace.ensures.old) ∙ ap (λ (v : ChainsView). get_or v.bases s.number c.replace.result) c.self.view_is) in
+    let live = sound_live (change [] (Split s.sep s.to) (based (Some (Some c.in-Some.base)))) (subst (λ (o : Option Page). IsSound (change [] (Split s.sep s.to) (based (Some o)))) c.in-Some.is at.sound) in
+    let is = c.narrow.ensures [] ∙ ap (λ (k : KeyBytes). change [] (Split k s.to) (plain c.in-Some.base)) c.in_ok-high.ensures.ok ∙ live.1 in
+    subst (λ (bs : Bases). HasAllRemoved bs c.self.inside.removed.items)
+    (sym (c.set.ensures.items ∙ ap (λ (bs : Bases). set bs s.number (Some page)) c.replace.ensures.items))
+    (all_replaced c.self.inside.bases.items s.number page c.self.inside.removed.items (live_page page live.0 is) c.self.invariant)

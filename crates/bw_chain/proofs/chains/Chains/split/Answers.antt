@@ -1,13 +1,15 @@
-use Rattle.std.proofs.Common.{◌≡◌, ◌<◌, ◌∙◌, ◌++◌, ℕ, ◌∷◌, [], set, slice_get, Option, Some, None, Result, Ok, Err, OnErr, ap, get_or, length, sym, arith}
+use Rattle.std.proofs.Common.{◌≡◌, ◌<◌, ◌∙◌, ◌++◌, ℕ, ◌∷◌, [], set, slice_get, Option, Some, None, Result, Ok, Err, OnErr, ap, get_or, length, sym, subst, arith}
 use Rattle.std.proofs.lemmas.List.{length-set, set-get_or, set-set}
 use Rattle.std.proofs.lemmas.Option.{get_or_from_slice_get}
 use Rattle.bw_key.specs.Order.{KeyBytes}
 use Rattle.bw_page.specs.declared.pages.Page.{Page}
 use Rattle.bw_delta.specs.declared.deltas.Delta.TheVariants.{Split}
-use Rattle.bw_chain.specs.Chains.{Bases, ChainsView, IsChain, Records, based, floor_word, page_at}
+use Rattle.bw_chain.specs.Chains.{Bases, ChainsView, IsChain, Records, based, floor_word, page_at, plain}
 use Rattle.bw_chain.specs.Placing.{put_at}
-use Rattle.bw_chain.specs.Splits.{slot_entries, slot_left, slot_right, slot_separator}
+use Rattle.bw_chain.specs.Removed.{HasAllRemoved}
+use Rattle.bw_chain.specs.Splits.{first_entries, right_part, slot_entries, slot_left, slot_right, slot_separator}
 use Rattle.bw_chain.proofs.InPlaceLemmas.{plain_at, plain_within}
+use Rattle.bw_chain.proofs.RemovedLemmas.{all_put, all_replaced, entries_live, live_page}
 use Rattle.bw_chain.proofs.chains.Chains.split.Goals as goal
 
 refused : {T E P : Type 0} (r : Result T E) → P → OnErr r P
@@ -76,3 +78,22 @@ returns-clause-cut c =
           ∙ ap (λ (rs : Records). rs ++ (Split c.in_ok-sep.sep c.args.to, word) ∷ []) (c.in_ok-make_room-2.ensures.records ∙ ap (λ (v : ChainsView). v.records) c.self.view_is)
           ∙ ap (λ (k : KeyBytes). c.args.self.now.records ++ (Split k c.args.to, word) ∷ []) (c.in_ok-sep.ensures.separator ∙ ap (slot_separator keep) (sym is));
     }
+
+pub invariant_of-self-2 : goal.invariant_of-self-2
+invariant_of-self-2 c =
+    let keep = c.args.keep in
+    let word = c.args.word in
+    let items = c.self.inside.bases.items in
+    let page = c.cut-cut.new.base in
+    let right = c.in_ok-sep.right in
+    let fewer : keep < slot_entries (plain c.in-Some.base) = omega (arith, c.requires.fewer, ap slot_entries (taken c.args.self.now c.make_room.new.self.items c.args.word c.replace.result c.requires.ends c.requires.plain (c.in_ok-make_room.ensures.items ∙ ap (λ (v : ChainsView). v.bases) c.self.view_is) c.replace.ensures.old ∙ ap (λ (o : Option Page). based (Some o)) c.in-Some.is)) in
+    let live = entries_live (plain c.in-Some.base) keep fewer in
+    let left_stays = live_page page (record live.0 { body = first_entries keep live.0.body }) (c.in_ok-sep.ensures.left ∙ ap (slot_left keep) live.1) in
+    let right_stays = live_page right (right_part keep live.0) (c.in_ok-sep.ensures.right ∙ ap (slot_right keep) live.1) in
+    let now : c.put_base.new.bases.items ≡ put_at (set (set items word None) word (Some page)) c.to.inside.0 (Some right) =
+    c.put_base.ensures
+    ∙ ap (λ (bs : Bases). put_at bs c.to.inside.0 (Some right))
+    (c.set.ensures.items ∙ ap (λ (bs : Bases). set bs word (Some page)) (c.replace.ensures.items ∙ ap (λ (bs : Bases). set bs word None) c.in_ok-make_room.ensures.items)) in
+    subst (λ (bs : Bases). HasAllRemoved bs c.self.inside.removed.items) (sym now)
+    (all_put (set (set items word None) word (Some page)) c.to.inside.0 right c.self.inside.removed.items right_stays
+    (all_replaced items word page c.self.inside.removed.items left_stays c.self.invariant))
