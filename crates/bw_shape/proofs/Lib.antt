@@ -6,3 +6,4 @@ pub mod TidyLemmas
 pub mod WholeLemmas
 pub mod PlainLemmas
 pub mod MergeLemmas
+pub mod AbsorbLemmas

@@ -72,7 +72,7 @@ module _ (old new : TreeView) (due due' : DueView) (p keep : ℕ) (h : IsHalved 
 
   pub halved_less : work_left new due' + 2 ≤ work_left old due
   halved_less =
-      omega (arith, h.few, h.split.split.pages, h.split.split.unused.last, ap length h.split.was, ap length h.split.is, length-append h.split.rest (p ∷ []), length-append h.split.rest (right ∷ p ∷ []), ap length h.above)
+      omega (arith, h.few, h.split.split.pages, h.split.split.unused.last, ap length h.split.was, ap length h.split.is, length-append h.split.rest (p ∷ []), length-append h.split.rest (right ∷ p ∷ []))
 
   both_on : (n : ℕ) → IsInLevel old p n → (q : ℕ) → Contains (right ∷ p ∷ []) q → IsInLevel new q n
   both_on n on q (zero, lt, is) = subst (λ r. IsInLevel new r n) is (right_on n on)
@@ -80,15 +80,15 @@ module _ (old new : TreeView) (due due' : DueView) (p keep : ℕ) (h : IsHalved 
   both_on n on q (suc (suc i), lt, is) = absurd (omega (arith, lt))
 
 -- a page that is within the limits
-pub passed_on : (old : TreeView) (due due' : DueView) (p level : ℕ) → due.pages ≡ due'.pages ++ p ∷ [] → due'.above ≡ due.above → HasPassed old old due due' p level
-passed_on old due due' p level was above = record {
+pub passed_on : (old : TreeView) (due due' : DueView) (p level : ℕ) → due.pages ≡ due'.pages ++ p ∷ [] → HasPassed old old due due' p level
+passed_on old due due' p level was = record {
   rest = due'.pages;
   was = was;
   halves = [];
   is = sym (append-nil due'.pages);
   stand = λ q has. absurd (omega (arith, has.1));
   still = λ q n on. on;
-  less = omega (arith, ap length was, length-append due'.pages (p ∷ []), ap length above);
+  less = omega (arith, ap length was, length-append due'.pages (p ∷ []));
 }
 
 -- a page that was consolidated, and split if it had too many entries
@@ -112,7 +112,7 @@ passed_part old mid new due due' p level false on bare h = record {
   is = sym (append-nil due'.pages);
   stand = λ q has. absurd (omega (arith, has.1));
   still = λ q n there. subst (λ (l : List (List ℕ)). (n < length l) × Contains (row l n) q) (sym (ap (λ (v : TreeView). v.levels) h.0 ∙ bare.same.levels)) there;
-  less = omega (arith, ap length h.1, length-append due'.pages (p ∷ []), ap length h.2, ap (λ (v : TreeView). length v.heads) h.0, bare.same.pages);
+  less = omega (arith, ap length h.1, length-append due'.pages (p ∷ []), ap (λ (v : TreeView). length v.heads) h.0, bare.same.pages);
 }
 
 -- what stands before others still does, with the halves

@@ -47,7 +47,7 @@ pub holds_same : (old new : TreeView) → HoldsSame old new → HoldsAll old new
 holds_same old new h = record { contents = h.contents; next = h.next; records = omega (arith, h.records); staged = h.staged }
 
 -- where a step keeps what it holds as of every stamp
-held_at : (old new : TreeView) → new.next ≡ old.next → ((stamp : ℕ) → contents_at new stamp ≡ contents_at old stamp) → contents_at new new.next ≡ contents_at old old.next
+pub held_at : (old new : TreeView) → new.next ≡ old.next → ((stamp : ℕ) → contents_at new stamp ≡ contents_at old stamp) → contents_at new new.next ≡ contents_at old old.next
 held_at old new next contents = ap (contents_at new) next ∙ contents old.next
 
 pub holds_split : (old new : TreeView) (p keep q : ℕ) → IsSplit old new p keep q → HoldsAll old new
@@ -198,7 +198,7 @@ within_root old new due t h limits but r leaf = by (cases_eq r t) (row_grown old
     by (inr other) (inl was) = or_as other (but r was)
 
 -- there are no more pairs than entries
-few_pairs : (slot : Slot) → length (pairs_under slot) ≤ slot_entries slot
+pub few_pairs : (slot : Slot) → length (pairs_under slot) ≤ slot_entries slot
 few_pairs (Live s) = by s.body
   where
     by : (b : Body) → length (body_pairs b) ≤ slot_entries (Live (record s { body = b }))
@@ -223,16 +223,14 @@ within_more limits tree due due' kept but r leaf = by (but r leaf)
 pub record KeepsTidy (old new : TreeView) : Type 0 where
   pub holds : HoldsAll old new
   pub within : (due : List ℕ) → KeepsWithin old new due due
-  pub more : length old.heads ≤ length new.heads
 
-tidy_still : (old new : TreeView) → old.staged ≡ None → new ≡ old → KeepsTidy old new
-tidy_still old new none is = subst (KeepsTidy old) (sym is) (record { holds = holds_itself old none; within = λ due limits but. but; more = omega arith })
+pub tidy_still : (old new : TreeView) → old.staged ≡ None → new ≡ old → KeepsTidy old new
+tidy_still old new none is = subst (KeepsTidy old) (sym is) (record { holds = holds_itself old none; within = λ due limits but. but })
 
 tidy_rebased : (old new : TreeView) (p : ℕ) → old.staged ≡ None → IsRebased old new p → KeepsTidy old new
 tidy_rebased old new p none h = subst (KeepsTidy old) (sym h.view) (record {
   holds = record { contents = refl; next = refl; records = omega arith; staged = none };
   within = λ due limits but. but;
-  more = omega (arith, length-set old.heads p (slice_index new.heads p));
 })
 
 pub tidy_same : (IsOne : ℕ → Type 0) (old new : TreeView) → old.staged ≡ None → IsSameOver IsOne old new → KeepsTidy old new
@@ -243,21 +241,18 @@ pub tidy_named : (old new : TreeView) (p parent : ℕ) → IsFinished old new p 
 tidy_named old new p parent h = record {
   holds = holds_named old new parent h.sep h.side h.named;
   within = λ due. within_named old new due parent h.sep h.side h.named;
-  more = omega (arith, ap length h.named.heads, length-set old.heads parent (slice_index new.heads parent));
 }
 
 pub tidy_all_named : (old new : TreeView) (p parent : ℕ) → AreFinished old new p parent → KeepsTidy old new
 tidy_all_named old new p parent h = record {
   holds = record { contents = held_at old new h.named.next h.named.contents; next = h.named.next; records = omega (arith, h.named.records); staged = h.named.staged };
   within = λ due. within_all_named old new due parent h.entries h.named;
-  more = omega (arith, ap length h.named.heads, length-set old.heads parent (slice_index new.heads parent));
 }
 
 tidy_root : (old new : TreeView) (did : Did) → old.staged ≡ None → IsRootStep old new did → KeepsTidy old new
 tidy_root old new Done none h = record {
   holds = holds_root old new h.0 h.1;
   within = λ due. within_root old new due h.0 h.1;
-  more = omega (arith, ap length h.1.heads, length_put old.heads h.0 (slice_index new.heads h.0) h.1.unused.place);
 }
 tidy_root old new NotNeeded none h = tidy_still old new none h.0
 

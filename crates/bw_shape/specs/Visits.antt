@@ -1,13 +1,15 @@
--- One page that is due is looked at: it is consolidated where it has records, and split where it is over a limit.
-use Rattle.std.specs.Prelude.{◌≡◌, ℕ, Bool, true, false, ◌+◌, ◌*◌, ◌-◌, ◌≤◌, ◌<◌, ◌^◌, ◌⊎◌, ◌/◌, List, [], ◌∷◌, ◌++◌, length, drop, slice_index}
+-- One page that is due is looked at: it is consolidated where it has records, and split or merged by its number of entries.
+use Rattle.std.specs.Prelude.{◌≡◌, ℕ, Bool, true, false, ◌+◌, ◌*◌, ◌-◌, ◌≤◌, ◌<◌, ◌^◌, ◌⊎◌, ◌/◌, List, [], ◌∷◌, ◌++◌, None, length, drop, slice_index}
 use Rattle.std.specs.List.{Contains}
-use Rattle.bw_chain.specs.Reading.{writes_over}
+use Rattle.bw_chain.specs.Levels.{row}
+use Rattle.bw_chain.specs.Reading.{pairs_under, writes_over}
 use Rattle.bw_chain.specs.Slots.{Slot, slot_at}
 use Rattle.bw_chain.specs.Splits.{slot_entries}
 use Rattle.bw_tree.specs.Routing.{IsInLevel}
+use Rattle.bw_tree.specs.Shapes.{pairs_on}
 use Rattle.bw_tree.specs.Splits.{IsSplit, IsSplittable}
 use Rattle.bw_tree.specs.View.{TreeView}
-use Rattle.bw_shape.specs.Limits.{LimitsView}
+use Rattle.bw_shape.specs.Limits.{LimitsView, AreWithinBut}
 use Rattle.bw_shape.specs.Sweeps.{HoldsSame}
 use Rattle.bw_shape.specs.Tidying.{DueView}
 
@@ -23,9 +25,36 @@ IsNextBefore pages others p = IsNext pages p × (others < length pages)
 abbrev pub IsOver : LimitsView → Slot → Type 0
 IsOver limits slot = (limits.chain_max < length (writes_over slot)) ⊎ (limits.page_max < slot_entries slot)
 
--- what is left to do: a split is worth three pages that are looked at
+-- the page has fewer entries than a page is to have
+abbrev pub IsSmall : LimitsView → Slot → Type 0
+IsSmall limits slot = slot_entries slot < limits.page_min
+
+-- if the page is a leaf, it has no more writes than it may have
+abbrev pub HasShortChain : LimitsView → TreeView → ℕ → Type 0
+HasShortChain limits tree p =
+    Contains (row tree.levels 0) p → length (writes_over (slot_at tree.slots p)) ≤ limits.chain_max
+
+-- as of the next stamp, the page has no more entries than it may have
+abbrev pub HasRoomOn : LimitsView → TreeView → ℕ → Type 0
+HasRoomOn limits tree p = pairs_on tree (slot_at tree.slots p) ≤ limits.page_max
+
+-- two pages have no more pairs together than one page may have
+abbrev pub AreFewTogether : LimitsView → TreeView → ℕ → ℕ → Type 0
+AreFewTogether limits tree p q =
+    length (pairs_under (slot_at tree.slots q)) + length (pairs_under (slot_at tree.slots p)) ≤ limits.page_max
+
+-- whichever pages are due, each leaf is within these limits or due, if that was so
+abbrev pub KeepsWithinAt : LimitsView → TreeView → TreeView → Type 0
+KeepsWithinAt limits old new = (due : List ℕ) → AreWithinBut limits old due → AreWithinBut limits new due
+
+-- the next page is due no more, and nothing is left to be finished; or nothing has changed
+abbrev pub HasAbsorbed : TreeView → TreeView → DueView → DueView → Bool → Type 0
+HasAbsorbed old new due due' true = (length due'.pages < length due.pages) × (due'.unfinished ≡ None)
+HasAbsorbed old new due due' false = (new ≡ old) × (due'.pages ≡ due.pages)
+
+-- what is left to do among the halves of a page: a split is worth three pages that are looked at
 abbrev pub work_left : TreeView → DueView → ℕ
-work_left tree due = 3 * (2 ^ 32 - length tree.heads) + length due.pages + length due.above
+work_left tree due = 3 * (2 ^ 32 - length tree.heads) + length due.pages
 
 -- the page has parted in two, and the parts are the next ones, the left one first
 pub record IsSplitNext (old new : TreeView) (due due' : List ℕ) (p keep : ℕ) : Type 0 where
@@ -35,11 +64,10 @@ pub record IsSplitNext (old new : TreeView) (due due' : List ℕ) (p keep : ℕ)
   pub was : due ≡ rest ++ p ∷ []
   pub is : due' ≡ rest ++ right ∷ p ∷ []
 
--- the next page has parted in two; nothing else is due, and no tree has more pages than there are identifiers
+-- the next page has parted in two, and no tree has more pages than there are identifiers
 pub record IsHalved (old new : TreeView) (due due' : DueView) (p keep : ℕ) : Type 0 where
   pub able : IsSplittable old p keep
   pub split : IsSplitNext old new due.pages due'.pages p keep
-  pub above : due'.above ≡ due.above
   pub few : length new.heads ≤ 2 ^ 32
 
 -- half of a page's entries, rounded down
@@ -49,7 +77,7 @@ half_of tree p = slot_entries (slot_at tree.slots p) / 2
 -- the next page was looked at: it was split and keeps its first half, or nothing has changed and it is due no more
 abbrev pub IsPart : TreeView → TreeView → DueView → DueView → ℕ → Bool → Type 0
 IsPart old new due due' p true = IsHalved old new due due' p (half_of old p)
-IsPart old new due due' p false = (new ≡ old) × (due.pages ≡ due'.pages ++ p ∷ []) × (due'.above ≡ due.above)
+IsPart old new due due' p false = (new ≡ old) × (due.pages ≡ due'.pages ++ p ∷ [])
 
 -- the pages that are to be looked at before so many others stand on this level
 abbrev pub StandBefore : TreeView → ℕ → ℕ → List ℕ → Type 0

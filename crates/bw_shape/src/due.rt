@@ -1,12 +1,13 @@
 // The pages that tidying is to look at.
-ghost use Rattle.std.specs.Prelude.{◌≡◌, ℕ, ◌+◌, ◌<◌, ◌≤◌, ◌^◌, true, false, [], ◌∷◌, ◌++◌, None, length, reverse, slice_index, MatchOption, IfOk, OnOk, OnErr};
+ghost use Rattle.std.specs.Prelude.{◌≡◌, ℕ, ◌+◌, ◌<◌, ◌≤◌, ◌^◌, true, false, [], ◌∷◌, ◌++◌, None, Some, length, reverse, slice_index, MatchOption, IfOk, OnOk, OnErr};
 ghost use Rattle.std.specs.List.{Contains};
 ghost use Rattle.bw_tree.specs.Splits.{IsSplittable};
 ghost use Rattle.bw_shape.specs.Naming.{HasFinished};
 ghost use Rattle.bw_shape.specs.Tidying.{HasBoth, HasNoPage, HoldsAll, KeepsWithin};
 ghost use Rattle.bw_shape.specs.Visits.{IsNext, IsNextBefore, IsSplitNext};
 
-use crate::page_lists::sort_by_low_key;
+use crate::merges::finish_absorb;
+use crate::page_lists::{first_below, least_level, mark, pages_on, pages_over, sort_by_low_key};
 use crate::right_neighbours::name_rights;
 use crate::steps::grow_root;
 use bw_key::Memory;
@@ -14,16 +15,19 @@ use bw_memory::Alloc;
 use bw_page::PageId;
 use bw_tree::Tree;
 use std::marker::Model;
-use std::mem;
 
 /// The pages that are due: those that a batch has written, and those that tidying didn't come to.
 #[derive(Debug, Drop)]
 pub struct Due {
     // the next one last, so that what a split adds is looked at next
     pages: Vec<PageId, Alloc>,
-    // inner pages to look at behind those, the first one first
+    // inner pages to look at behind those, level by level
     above: Vec<PageId, Alloc>,
-    // the page behind which tidying stopped before its new right neighbours were named
+    // inner pages to look at the next time
+    later: Vec<PageId, Alloc>,
+    // the leaf that was consolidated where tidying stopped before it was split or merged, if need be
+    begun: Option<PageId>,
+    // the page behind which tidying stopped before its new right neighbours were named, or before its own name was dropped
     unfinished: Option<PageId>,
 }
 
@@ -43,6 +47,8 @@ impl Due {
         Due {
             pages: Vec::new(alloc),
             above: Vec::new(alloc),
+            later: Vec::new(alloc),
+            begun: None,
             unfinished: None,
         }
     }
@@ -99,25 +105,77 @@ impl Due {
         *self.pages.allocator()
     }
 
-    /// The next page: where no page is left, the inner pages behind them are next.
-    pub(crate) fn next(&mut self) -> Option<PageId>
-        ensures next { MatchOption result (HasNoPage self.new) (IsNext self.new.pages) }
-        ensures kept { (p : ℕ) → Contains self.old.pages p → Contains self.new.pages p }
-        ensures count { length self.new.pages + length self.new.above
-            ≡ length self.old.pages + length self.old.above }
+    /// The next page.
+    pub(crate) fn next(&self) -> Option<PageId>
+        ensures { MatchOption result (self.now.pages ≡ []) (IsNext self.now.pages) }
+    {
+        self.pages.last().copied()
+    }
+
+    /// Goes on to the least level above this one on which pages are left to be looked at: they are the next ones, in the order
+    /// of keys. Answers that level, or nothing where no page is left. It costs some searches for each inner page that is left.
+    /// After `Memory` they are as before.
+    pub(crate) fn rise(&mut self, tree: &Tree, level: u32) -> Result<Option<u32>, Memory>
+        requires { self.old.pages ≡ [] }
+        ensures next { IfOk result (λ next. MatchOption next (HasNoPage self.new) (λ n. level < n)) }
         ensures unfinished { self.new.unfinished ≡ self.old.unfinished }
     {
-        if self.pages.is_empty() {
-            mem::swap(&mut self.pages, &mut self.above);
-            self.pages.reverse();
+        let Some(next) = least_level(tree, &self.above, level) else {
+            self.above.clear();
+            return Ok(None);
+        };
+        let alloc = self.alloc();
+        let mut pages = pages_on(alloc, tree, &self.above, next)?;
+        let above = pages_over(alloc, tree, &self.above, next)?;
+        sort_by_low_key(tree, &mut pages);
+        pages.dedup();
+        pages.reverse();
+        self.pages = pages;
+        self.above = above;
+        Ok(Some(next))
+    }
+
+    /// The inner pages that were left for the next time are looked at this time.
+    pub(crate) fn begin(&mut self) -> Result<(), Memory>
+        ensures pages { self.new.pages ≡ self.old.pages }
+        ensures unfinished { self.new.unfinished ≡ self.old.unfinished }
+    {
+        self.above.extend_from_slice(&self.later)?;
+        self.later.clear();
+        Ok(())
+    }
+
+    /// The next page, an inner one, is looked at behind those of its level.
+    pub(crate) fn put_off(&mut self, page: PageId) -> Result<(), Memory>
+        requires { IsNext self.old.pages page }
+        ensures ok { OnOk result (self.old.pages ≡ self.new.pages ++ page ∷ []) }
+        ensures err { OnErr result (self.new.pages ≡ self.old.pages) }
+        ensures unfinished { self.new.unfinished ≡ self.old.unfinished }
+    {
+        self.above.push(page)?;
+        self.pages.pop();
+        Ok(())
+    }
+
+    /// A page is to be merged into its left neighbour. Where it is above level 1, its first child gets a left neighbour under
+    /// the same page, and is looked at the next time. It costs a search.
+    pub(crate) fn mark_later(&mut self, tree: &Tree, page: PageId, level: u32) -> Result<(), Memory>
+        ensures pages { self.new.pages ≡ self.old.pages }
+        ensures above { self.new.above ≡ self.old.above }
+        ensures unfinished { self.new.unfinished ≡ self.old.unfinished }
+    {
+        if level < 2 {
+            return Ok(());
         }
-        self.pages.last().copied()
+        if let Some(child) = first_below(tree, page, level) {
+            self.later.push(child)?;
+        }
+        Ok(())
     }
 
     /// The next page was looked at.
     pub(crate) fn pass(&mut self)
         ensures pages { (p : ℕ) → IsNext self.old.pages p → self.old.pages ≡ self.new.pages ++ p ∷ [] }
-        ensures above { self.new.above ≡ self.old.above }
         ensures unfinished { self.new.unfinished ≡ self.old.unfinished }
     {
         self.pages.pop();
@@ -140,14 +198,27 @@ impl Due {
         self.pages.last().copied()
     }
 
-    /// The page whose right neighbours may not be named yet.
+    /// The leaf that was consolidated before tidying stopped, if there is one: it is due still.
+    pub(crate) fn begun(&self) -> Option<PageId> {
+        self.begun
+    }
+
+    /// This leaf is to be consolidated, or none.
+    pub(crate) fn set_begun(&mut self, begun: Option<PageId>)
+        ensures pages { self.new.pages ≡ self.old.pages }
+        ensures unfinished { self.new.unfinished ≡ self.old.unfinished }
+    {
+        self.begun = begun;
+    }
+
+    /// The page whose splits or whose merge may not be finished yet.
     pub(crate) fn unfinished(&self) -> Option<PageId>
         ensures { result ≡ self.now.unfinished }
     {
         self.unfinished
     }
 
-    /// The right neighbours of this page may not be named yet, or those of none.
+    /// The splits or the merge of this page may not be finished yet, or those of none.
     pub(crate) fn set_unfinished(&mut self, unfinished: Option<PageId>)
         ensures pages { self.new.pages ≡ self.old.pages }
         ensures above { self.new.above ≡ self.old.above }
@@ -169,7 +240,6 @@ impl Due {
         ensures ok { OnOk result (IsSplitNext tree.old tree.new self.old.pages self.new.pages page keep) }
         ensures err { OnErr result (tree.new ≡ tree.old) }
         ensures pages { OnErr result (self.new.pages ≡ self.old.pages) }
-        ensures above { self.new.above ≡ self.old.above }
     {
         self.pages.reserve(1)?;
         let right = tree.set_split(page, keep)?;
@@ -179,8 +249,20 @@ impl Due {
         Ok(())
     }
 
-    /// Finishes the splits of a page: its right neighbours are named above it, or a root that was split gets one above it.
-    /// After `Memory` the tree is as before.
+    /// The next page was merged into its left neighbour, and the page above still names it.
+    pub(crate) fn pass_merged(&mut self, page: PageId)
+        ensures pages { IsNext self.old.pages page → self.old.pages ≡ self.new.pages ++ page ∷ [] }
+        ensures above { self.new.above ≡ self.old.above }
+        ensures unfinished { self.new.unfinished ≡ Some page }
+    {
+        self.pages.pop();
+        self.begun = None;
+        self.unfinished = Some(page);
+    }
+
+    /// Finishes the splits of a page: its right neighbours are named above it, or a root that was split gets one above it. The
+    /// page that names them is looked at behind the pages of the levels below it, and so is its right neighbour. After
+    /// `Memory` the tree is as before.
     pub(crate) fn finish(&mut self, tree: &mut Tree, page: PageId) -> Result<(), Memory>
         requires { tree.old.staged ≡ None }
         ensures ok { OnOk result (HasFinished tree.old tree.new self.new.above page) }
@@ -188,19 +270,32 @@ impl Due {
         ensures holds { HoldsAll tree.old tree.new }
         ensures within { KeepsWithin tree.old tree.new self.old.pages self.new.pages }
         ensures pages { self.new.pages ≡ self.old.pages }
-        ensures above { length self.new.above ≤ length self.old.above + 1 }
-        ensures more { length tree.old.heads ≤ length tree.new.heads }
     {
-        self.above.reserve(1)?;
+        self.above.reserve(2)?;
         let alloc = *self.above.allocator();
         if let Some(parent) = name_rights(tree, alloc, page)? {
-            // The children of one page come one after another.
-            if self.above.last().copied() != Some(parent) {
-                self.above.push(parent).unwrap();
-            }
+            mark(&mut self.above, tree, parent);
             return Ok(());
         }
         grow_root(tree)?;
+        Ok(())
+    }
+
+    /// Finishes the merge of a page, if it is a removed one: the page above no longer names it. That page is looked at behind
+    /// the pages of the levels below it, and so is its right neighbour. After `Memory` the merge isn't finished.
+    pub(crate) fn finish_merge(&mut self, tree: &mut Tree, page: PageId) -> Result<(), Memory>
+        requires { tree.old.staged ≡ None }
+        ensures holds { HoldsAll tree.old tree.new }
+        ensures within { KeepsWithin tree.old tree.new self.old.pages self.new.pages }
+        ensures pages { self.new.pages ≡ self.old.pages }
+    {
+        self.above.reserve(2)?;
+        let Some(parent) = tree.namer_of_removed(page) else {
+            return Ok(());
+        };
+        finish_absorb(tree, page)?;
+        // From here on nothing above names the removed page.
+        mark(&mut self.above, tree, parent);
         Ok(())
     }
 }

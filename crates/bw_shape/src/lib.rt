@@ -4,7 +4,9 @@
 //! within limits.
 #![tactic(auto)]
 
+mod absorbing;
 mod due;
+mod halving;
 mod limits;
 mod merges;
 mod outcome;
@@ -13,6 +15,7 @@ mod right_neighbours;
 mod steps;
 mod sweeps;
 mod tidying;
+mod visits;
 mod whole_tree;
 
 pub use due::Due;

@@ -33,7 +33,7 @@ impl Limits {
     ///
     /// - `chain_max`: how many writes stand over a leaf's base page until they are consolidated, from 1 to 1,024;
     /// - `page_max`: how many entries a page has until it is split, from 4 to 4,096;
-    /// - `page_min`: below how many entries a page is merged, from 0 to half of `page_max`. No page is merged yet.
+    /// - `page_min`: below how many entries a page is merged, from 0 to half of `page_max`.
     pub fn new(chain_max: u64, page_max: u64, page_min: u64) -> Limits
         requires { AreLimits (record { chain_max = chain_max; page_max = page_max; page_min = page_min }) }
         ensures { result ≡ record { chain_max = chain_max; page_max = page_max; page_min = page_min } }
@@ -58,5 +58,12 @@ impl Limits {
         ensures least { AreLimits self.now }
     {
         self.page_max
+    }
+    /// Below how many entries a page is merged.
+    pub fn page_min(&self) -> u64
+        ensures value { result ≡ self.now.page_min }
+        ensures least { AreLimits self.now }
+    {
+        self.page_min
     }
 }

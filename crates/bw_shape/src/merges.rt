@@ -53,8 +53,8 @@ fn absorber(tree: &Tree, page: PageId) -> Option<PageId>
     Some(left)
 }
 
-// Whether one page of the level above names both.
-fn are_under_one(tree: &Tree, page: PageId, other: PageId) -> bool
+/// Whether one page of the level above names both.
+pub(crate) fn are_under_one(tree: &Tree, page: PageId, other: PageId) -> bool
     ensures { Decides result ((parent : ℕ) × (IsNamer tree.now page parent × IsNamer tree.now other parent)) }
 {
     tree.know_levels();

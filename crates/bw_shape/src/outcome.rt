@@ -7,7 +7,7 @@ pub struct Tidy {
     pub consolidated: u64,
     /// How often a page was split.
     pub splits: u64,
-    /// How many pages were merged into their left neighbour. None is yet.
+    /// How many pages were merged into their left neighbour.
     pub merges: u64,
     /// Whether tidying stopped where memory ran out. The tree holds the same then, too.
     pub stopped: bool,

@@ -1,5 +1,5 @@
 // Lists of a tree's pages, in the order in which tidying looks at them.
-ghost use Rattle.std.specs.Prelude.{◌≡◌, ℕ, ◌<◌, ◌≤◌, ◌^◌, drop, length, IfOk, OnOk};
+ghost use Rattle.std.specs.Prelude.{◌≡◌, ℕ, ◌+◌, ◌<◌, ◌≤◌, ◌^◌, drop, length, IfOk, IfSome, OnOk, vec_capacity};
 ghost use Rattle.std.specs.List.{Contains, concat};
 ghost use Rattle.bw_chain.specs.Levels.{row};
 ghost use Rattle.bw_shape.specs.Sweeps.{HasAllRecorded};
@@ -69,4 +69,95 @@ pub(crate) fn sort_by_low_key(tree: &Tree, pages: &mut Vec<PageId, Alloc>)
 fn by_low_key(tree: &Tree, a: PageId, b: PageId) -> Ordering {
     let order = tree.low_key(a).cmp(&tree.low_key(b));
     order.then(a.0.cmp(&b.0))
+}
+
+/// Adds an inner page, whose children have changed, to a list with room for two more, and before it its right neighbour,
+/// which may be merged into it now. It adds none where the page is the last one already, as the pages of one parent come one
+/// after another. It costs a search.
+pub(crate) fn mark(pages: &mut Vec<PageId, Alloc>, tree: &Tree, page: PageId)
+    requires { length pages.old.items + 2 ≤ vec_capacity pages.old }
+    ensures { Contains pages.new.items page }
+{
+    if pages.last().copied() == Some(page) {
+        return;
+    }
+    if let Some(right) = right_neighbour(tree, page) {
+        pages.push(right).unwrap();
+    }
+    pages.push(page).unwrap();
+}
+
+// The right neighbour of a page, or none for a page of no level.
+fn right_neighbour(tree: &Tree, page: PageId) -> Option<PageId> {
+    let Some(_) = tree.in_level(page) else {
+        return None;
+    };
+    tree.right_of(page)
+}
+
+/// The page of the level below whose range has the key at which an inner page begins: its first child.
+pub(crate) fn first_below(tree: &Tree, page: PageId, level: u32) -> Option<PageId> {
+    let Some(low) = tree.low_key(page) else {
+        return None;
+    };
+    tree.above(level.saturating_sub(1), low)
+}
+
+/// The least level above this one on which one of these pages stands.
+pub(crate) fn least_level(tree: &Tree, pages: &[PageId], level: u32) -> Option<u32>
+    ensures { IfSome result (λ least. level < least) }
+{
+    let mut least = None;
+    for page in pages {
+        least = lesser(least, tree.in_level(*page), level);
+    }
+    least
+}
+
+// The lesser of two levels, the second of which counts if it is above this one.
+fn lesser(least: Option<u32>, other: Option<u32>, level: u32) -> Option<u32>
+    ensures { IfSome least (λ least. level < least) → IfSome result (λ least. level < least) }
+{
+    let Some(other) = other else {
+        return least;
+    };
+    if other <= level {
+        return least;
+    }
+    match least {
+        Some(least) => Some(least.min(other)),
+        None => Some(other),
+    }
+}
+
+/// Those of these pages that stand on a level.
+pub(crate) fn pages_on(
+    alloc: Alloc,
+    tree: &Tree,
+    pages: &[PageId],
+    level: u32,
+) -> Result<Vec<PageId, Alloc>, Memory> {
+    let mut on = Vec::new(alloc);
+    for page in pages {
+        if tree.in_level(*page) == Some(level) {
+            on.push(*page)?;
+        }
+    }
+    Ok(on)
+}
+
+/// Those of these pages that stand on the levels above one.
+pub(crate) fn pages_over(
+    alloc: Alloc,
+    tree: &Tree,
+    pages: &[PageId],
+    level: u32,
+) -> Result<Vec<PageId, Alloc>, Memory> {
+    let mut over = Vec::new(alloc);
+    for page in pages {
+        if tree.in_level(*page) > Some(level) {
+            over.push(*page)?;
+        }
+    }
+    Ok(over)
 }

@@ -3,6 +3,7 @@ ghost use Rattle.std.specs.Prelude.{◌≡◌, ◌<◌, ◌≤◌, ◌^◌, true
 ghost use Rattle.bw_chain.specs.Children.{FitsChild};
 ghost use Rattle.bw_chain.specs.Splits.{HasNoRemovedAt};
 ghost use Rattle.bw_tree.specs.Children.{IsNamed};
+ghost use Rattle.bw_chain.specs.Searches.{IsInLevels};
 ghost use Rattle.bw_tree.specs.Consolidation.{IsRebased};
 ghost use Rattle.bw_tree.specs.Routing.{IsInLevel, IsInnerPage};
 ghost use Rattle.bw_tree.specs.Pages.{IsPlain};
@@ -80,13 +81,22 @@ pub(crate) fn is_splittable(tree: &Tree, page: PageId, keep: usize) -> bool
     ensures yes { result ≡ true → IsSplittable tree.now page keep }
     ensures no { result ≡ false → IsSplittable tree.now page keep → ⊥ }
 {
+    let Some(_) = tree.in_level(page) else {
+        return false;
+    };
+    may_part(tree, page, keep)
+}
+
+/// Whether a page of a level may be split there. It costs no search, as that would walk along all halves of a page.
+pub(crate) fn may_part(tree: &Tree, page: PageId, keep: usize) -> bool
+    requires { IsInLevels tree.now.levels page }
+    ensures yes { result ≡ true → IsSplittable tree.now page keep }
+    ensures no { result ≡ false → IsSplittable tree.now page keep → ⊥ }
+{
     tree.know_records();
     if !tree.is_plain(page) {
         return false;
     }
-    let Some(_) = tree.in_level(page) else {
-        return false;
-    };
     if keep == 0 {
         return false;
     }

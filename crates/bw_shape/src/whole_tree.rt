@@ -7,6 +7,7 @@ ghost use Rattle.bw_shape.specs.Tidying.{AreAllPages, HoldsAll};
 
 use crate::due::Due;
 use crate::limits::Limits;
+use crate::merges::finish_absorb;
 use crate::outcome::Tidy;
 use crate::page_lists::{inner_pages, leaf_pages};
 use crate::steps::{finish_split, grow_root};
@@ -15,11 +16,11 @@ use bw_key::Memory;
 use bw_page::PageId;
 use bw_tree::Tree;
 
-/// Looks at all pages, as `tidy_due` does at those that are due. Before that a root that was split gets a root above it, and
-/// each split is finished, level by level from the leaves up. No batch is staged.
+/// Looks at all pages, as `tidy_due` does at those that are due. Before that each merge is finished, a root that was split gets
+/// a root above it, and each split is finished, level by level from the leaves up. No batch is staged.
 ///
-/// It costs the list of all pages twice, and two searches for each; each split that it finishes copies the children of the
-/// page above. At the first `Memory` it stops, and the tree holds the same. Where it doesn't stop, no leaf is over a limit,
+/// It costs a look at each mapping word, the list of all pages twice, two searches for each, and for each inner page some for
+/// each level below it; each merge and each split that it finishes copies the children of the page above. At the first `Memory` it stops, and the tree holds the same. Where it doesn't stop, no leaf is over a limit,
 /// and so none has more than `page_max` and `chain_max` pairs together.
 pub fn tidy(tree: &mut Tree, limits: &Limits) -> Tidy
     requires { tree.old.staged ≡ None }
@@ -32,7 +33,7 @@ pub fn tidy(tree: &mut Tree, limits: &Limits) -> Tidy
     outcome
 }
 
-// Looks at all pages, once each split is finished.
+// Looks at all pages, once each merge and each split is finished.
 fn tidy_all(tree: &mut Tree, limits: &Limits) -> Tidy
     requires { tree.old.staged ≡ None }
     ensures holds { HoldsAll tree.old tree.new }
@@ -49,18 +50,43 @@ fn tidy_all(tree: &mut Tree, limits: &Limits) -> Tidy
     }
 }
 
-// Finishes each split, and answers all pages, which are due then.
+// Finishes each merge and each split, and answers all pages, which are due then.
 fn finish_all(tree: &mut Tree) -> Result<Due, Memory>
     requires { tree.old.staged ≡ None }
     ensures holds { HoldsAll tree.old tree.new }
     ensures leaves { IfOk result (λ due. (p : ℕ) → Contains (row tree.new.levels 0) p → Contains due.pages p) }
 {
+    finish_merges(tree)?;
     let leaves = leaf_pages(tree)?;
     let inner = inner_pages(*leaves.allocator(), tree)?;
     grow_root(tree)?;
     finish_each(tree, &leaves)?;
     finish_each(tree, &inner)?;
     all_pages(tree)
+}
+
+// Finishes each merge: a removed page isn't in the list of any level, so each identifier is looked at.
+fn finish_merges(tree: &mut Tree) -> Result<(), Memory>
+    requires { tree.old.staged ≡ None }
+    ensures { HoldsAll tree.old tree.new }
+{
+    for place in 0..tree.heads().len() {
+        finish_merge(tree, place)?;
+    }
+    Ok(())
+}
+
+// Finishes the merge of the page of this mapping word, if it is a removed one.
+fn finish_merge(tree: &mut Tree, place: usize) -> Result<(), Memory>
+    requires { tree.old.staged ≡ None }
+    ensures { HoldsAll tree.old tree.new }
+{
+    let Ok(page) = u32::try_from(place) else {
+        return Ok(());
+    };
+    // From here on nothing above names the removed page.
+    finish_absorb(tree, PageId(page))?;
+    Ok(())
 }
 
 // Finishes the splits of these pages.

@@ -1,11 +1,17 @@
+use Rattle.std.proofs.Common.{sym, subst}
+use Rattle.bw_shape.specs.Limits.{AreWithinBut}
 use Rattle.bw_shape.proofs.tidying.visit_all.Goals as goal
 
 pub returns-in_err-go_on-clause-within : goal.returns-in_err-go_on-clause-within
 returns-in_err-go_on-clause-within c = c.in_err-go_on.ensures.within c.args.limits.now c.requires.within
 
-pub loop-page-init : goal.loop-page-init
-loop-page-init c = record {
-  holds = c.in_ok-go_on.ensures.holds;
-  within = c.in_ok-go_on.ensures.within c.args.limits.now c.requires.within;
-  finished = c.in_ok-go_on.ensures.finished;
-}
+pub returns-in_err-begin-clause-within : goal.returns-in_err-begin-clause-within
+returns-in_err-begin-clause-within c =
+    subst (AreWithinBut c.args.limits.now c.go_on.new.tree) (sym c.in_err-begin.ensures.pages) (c.in_ok-go_on.ensures.within c.args.limits.now c.requires.within)
+
+pub visit_levels-requires-clause-within : goal.visit_levels-requires-clause-within
+visit_levels-requires-clause-within c =
+    subst (AreWithinBut c.args.limits.now c.go_on.new.tree) (sym c.in_ok-begin.ensures.pages) (c.in_ok-go_on.ensures.within c.args.limits.now c.requires.within)
+
+pub returns-clause-within : goal.returns-clause-within
+returns-clause-within c = c.lower.ensures.within c.visit_levels.new.due.pages c.args.limits.now c.in_ok-visit_levels.ensures.within

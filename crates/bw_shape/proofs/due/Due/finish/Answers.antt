@@ -16,12 +16,8 @@ named : (old new : TreeView) (page parent : ℕ) (o : Option ℕ) → o ≡ Some
 named old new page parent o is outcome due inside same =
     subst (λ (d : DueView). KeepsWithin old new due.pages d.pages) (sym same) ((tidy_all_named old new page parent (subst (Outcome old new page) is outcome)).within due.pages)
 
-pub returns-then-ne-clause-within : goal.returns-then-ne-clause-within
-returns-then-ne-clause-within c =
-    named c.args.tree.now c.name_rights.new.tree c.args.page c.in-Some.parent _ c.in-Some.is c.in_ok-parent.ensures.ok c.args.self.now _ c.self.view_is
-
-pub returns-else-ne-clause-within : goal.returns-else-ne-clause-within
-returns-else-ne-clause-within c =
+pub returns-in-Some-clause-within : goal.returns-in-Some-clause-within
+returns-in-Some-clause-within c =
     named c.args.tree.now c.name_rights.new.tree c.args.page c.in-Some.parent _ c.in-Some.is c.in_ok-parent.ensures.ok c.args.self.now _ c.self.view_is
 
 -- where none was unnamed, and the root may have grown

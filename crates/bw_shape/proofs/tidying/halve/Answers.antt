@@ -1,6 +1,0 @@
-use Rattle.bw_shape.proofs.TidyLemmas.{within_split}
-use Rattle.bw_shape.proofs.tidying.halve.Goals as goal
-
-pub returns-clause-within : goal.returns-clause-within
-returns-clause-within c =
-    within_split c.args.tree.now c.split_next.new.tree c.args.due.now.pages c.split_next.new.self.pages c.args.page c.args.keep c.requires.page c.in_ok-split_next.ensures.ok
