@@ -9,15 +9,17 @@ use Rattle.bw_key.specs.Order.{KeyBytes, key_cmp}
 use Rattle.bw_model.specs.Contents.{is_pair_in_range, is_below_end}
 use Rattle.bw_model.specs.Values.{ValueBytes}
 use Rattle.bw_page.specs.Leaves.{LeafView}
-use Rattle.bw_page.specs.Inners.{IsInner}
+use Rattle.bw_page.specs.Inners.{InnerView, IsInner}
 use Rattle.bw_page.specs.Pages.{BeginsAt}
 use Rattle.bw_page.specs.declared.pages.Page.{Page}
+use Rattle.bw_page.specs.declared.pages.Page.TheVariants.{Inner as InnerPage, Gone as GonePage}
 use Rattle.bw_page.proofs.Truths.{holds}
 use Rattle.bw_page.proofs.KeyLemmas.{below_trans}
 use Rattle.bw_chain.specs.Walk.{walked, ended}
 use Rattle.bw_chain.specs.Slots.{Slot, PageState, Pairs, Live, slot_at}
 use Rattle.bw_chain.specs.Levels.{SideBySide, Stands}
 use Rattle.bw_chain.specs.Chains.{Bases, based, slot_of_word, slots_of}
+use Rattle.bw_chain.specs.Removed.{HasNoRemoved}
 use Rattle.bw_tree.specs.Making.{AreAbutting, HasRules, base_of_leaf, count_from, pairs_in, terms_from}
 use Rattle.bw_chain.specs.Reading.{pairs_under, writes_over, row_pairs, row_writes}
 
@@ -197,3 +199,30 @@ root_rules leaves abut rules = record {
     begin [] abut = absurd abut
     begin (l ∷ []) abut = abut.0
     begin (l ∷ k ∷ leaves) abut = abut.0
+
+-- no leaf is a removed page, nor is the root over them
+pub none_removed : (leaves : List (LeafView ValueBytes)) → HasNoRemoved (map base_of_leaf leaves)
+none_removed [] n g e = clash e
+  where
+    clash : {a : Option Page} → None ≡ Some a → ⊥
+    clash e = cc
+none_removed (l ∷ leaves) zero g e = clash e
+  where
+    clash : Some (base_of_leaf l) ≡ Some (Some (GonePage g)) → ⊥
+    clash e = cc
+none_removed (l ∷ leaves) (suc n) g e = none_removed leaves n g e
+
+pub none_under : (leaves : List (LeafView ValueBytes)) (root : InnerView) → HasNoRemoved (map base_of_leaf leaves ++ Some (InnerPage root) ∷ [])
+none_under [] root zero g e = clash e
+  where
+    clash : Some (Some (InnerPage root)) ≡ Some (Some (GonePage g)) → ⊥
+    clash e = cc
+none_under [] root (suc n) g e = clash e
+  where
+    clash : {a : Option Page} → None ≡ Some a → ⊥
+    clash e = cc
+none_under (l ∷ leaves) root zero g e = clash e
+  where
+    clash : Some (base_of_leaf l) ≡ Some (Some (GonePage g)) → ⊥
+    clash e = cc
+none_under (l ∷ leaves) root (suc n) g e = none_under leaves root n g e

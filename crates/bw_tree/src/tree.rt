@@ -3,6 +3,7 @@ ghost use Rattle.std.specs.Prelude.{◌≡◌, ℕ, ◌-◌, ◌<◌, ◌≤◌,
 ghost use Rattle.std.specs.FinMap.{empty};
 ghost use Rattle.bw_chain.specs.Entries.{AreExact};
 ghost use Rattle.bw_chain.specs.Levels.{AreLevels, row};
+ghost use Rattle.bw_chain.specs.Removed.{HasNoRemoved};
 ghost use Rattle.bw_chain.specs.Searches.{IsInLevels};
 ghost use Rattle.bw_delta.specs.History.{HasDistinctStamps};
 
@@ -118,7 +119,8 @@ impl Tree {
 
     // The tree whose pages are base pages, each named by its place. The last one is the root.
     fn over(alloc: Alloc, bases: Segmented<Option<Page>>) -> Result<Tree, Memory>
-        requires { IsTree (count_from 0 (length bases.items)) bases.items [] (length bases.items - 1) 0 None }
+        requires tree { IsTree (count_from 0 (length bases.items)) bases.items [] (length bases.items - 1) 0 None }
+        requires none { HasNoRemoved bases.items }
         ensures { IfOk result (λ tree. tree ≡ tree_over bases.items) }
     {
         let count = bases.len();

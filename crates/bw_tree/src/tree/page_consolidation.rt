@@ -9,6 +9,7 @@ use bw_key::{Key, Memory};
 use bw_page::{Inner, Leaf, Page, PageId};
 
 impl Tree {
+    ghost use Rattle.bw_chain.specs.Removed.{IsNotRemoved};
     ghost use Rattle.bw_chain.specs.Levels.{row};
     ghost use Rattle.bw_chain.specs.Chains.{plain};
     ghost use Rattle.bw_chain.specs.Searches.{IsInLevels, plain_inner};
@@ -124,6 +125,7 @@ impl Tree {
         requires none { self.old.staged ≡ None }
         requires there { page < length self.old.heads }
         requires same { slot_at self.old.slots page ≡ plain state }
+        requires stays { IsNotRemoved state }
         ensures { IsRebased self.old self.new page }
     {
         let number = self.chains.replace_base(self.heads[page.0 as usize], state);

@@ -1,11 +1,14 @@
-use Rattle.std.proofs.Common.{◌≡◌, ◌∙◌, List, [], ap, sym, subst, arith, rules}
+use Rattle.std.proofs.Common.{◌≡◌, ◌∙◌, List, [], ◌∷◌, ◌++◌, Some, ap, sym, subst, arith, rules}
 use Rattle.std.specs.List.{AllByRecursion}
 use Rattle.bw_key.specs.Order.{KeyBytes}
 use Rattle.bw_model.specs.Values.{ValueBytes}
 use Rattle.bw_page.specs.Inners.{IsInner}
 use Rattle.bw_page.specs.Leaves.{LeafView}
 use Rattle.bw_tree.specs.Making.{HasRules, terms_from}
-use Rattle.bw_tree.proofs.MakingLemmas.{root_rules}
+use Rattle.bw_chain.specs.Chains.{Bases}
+use Rattle.bw_chain.specs.Removed.{HasNoRemoved}
+use Rattle.bw_page.specs.declared.pages.Page.TheVariants.{Inner as InnerPage}
+use Rattle.bw_tree.proofs.MakingLemmas.{none_removed, none_under, root_rules}
 use Rattle.bw_tree.proofs.OverLemmas.{one_over, more_over, over_ok}
 use Rattle.bw_tree.proofs.tree.Tree.from_level.Goals as goal
 
@@ -17,8 +20,8 @@ from_children-root-requires c =
     (subst (λ (cs : List _). IsInner 1 [] _ _ cs) (sym (c.in_ok-children.ensures.items ∙ ap (terms_from 0) c.deref.ensures.value))
     (root_rules leaves c.requires (subst (λ (ls : List (LeafView ValueBytes)). AllByRecursion HasRules ls) c.deref.ensures.value c.in_ok-children.ensures.rules)))
 
-pub over-requires : goal.over-requires
-over-requires c =
+pub over-requires-clause-tree : goal.over-requires-clause-tree
+over-requires-clause-tree c =
     (more_over c.in_ok-bases.bases.items c.push.new.self.items c.args.leaves.items c.from_children-root.result c.requires
     (subst (λ (ls : List (LeafView ValueBytes)). AllByRecursion HasRules ls) c.deref.ensures.value c.in_ok-children.ensures.rules)
     c.in_ok-bases.ensures (omega (arith, c.if-len-gt1.true, c.len-2.ensures)) (omega (arith, c.if-len-ge-FLOOR.false, c.len.ensures, c.args.leaves.ok))
@@ -37,8 +40,8 @@ returns-then-len-gt1 c =
     c.in_ok-push.ensures.ok)
     c.over.ensures
 
-pub over-requires-2 : goal.over-requires-2
-over-requires-2 c =
+pub over-requires-2-clause-tree : goal.over-requires-2-clause-tree
+over-requires-2-clause-tree c =
     (one_over c.in_ok-bases.bases.items c.args.leaves.items c.requires
     (subst (λ (ls : List (LeafView ValueBytes)). AllByRecursion HasRules ls) c.deref.ensures.value c.in_ok-children.ensures.rules)
     c.in_ok-bases.ensures (omega (arith, c.if-len-gt1.false, c.len-2.ensures))).tree
@@ -50,3 +53,11 @@ returns c =
     (subst (λ (ls : List (LeafView ValueBytes)). AllByRecursion HasRules ls) c.deref.ensures.value c.in_ok-children.ensures.rules)
     c.in_ok-bases.ensures (omega (arith, c.if-len-gt1.false, c.len-2.ensures)))
     c.over-2.ensures
+
+pub over-requires-clause-none : goal.over-requires-clause-none
+over-requires-clause-none c =
+    subst HasNoRemoved (sym (c.in_ok-push.ensures.ok ∙ ap (λ (bs : Bases). bs ++ Some (InnerPage c.from_children-root.result) ∷ []) c.in_ok-bases.ensures))
+    (none_under c.args.leaves.items c.from_children-root.result)
+
+pub over-requires-2-clause-none : goal.over-requires-2-clause-none
+over-requires-2-clause-none c = subst HasNoRemoved (sym c.in_ok-bases.ensures) (none_removed c.args.leaves.items)

@@ -17,8 +17,8 @@ index-head-requires c =
     let there = page_there c.self.inside.heads.items c.self.inside.chains.bases c.self.inside.chains.records c.self.inside.root c.self.inside.next _ c.self.inside.staged _ c.args.parent c.self.view_is c.self.invariant.now c.requires.page.in_levels in
     omega (arith, there, c.parent.view_is, c.self.inside.heads.ok)
 
-pub replace_base-requires : goal.replace_base-requires
-replace_base-requires c =
+pub replace_base-requires-clause-ends : goal.replace_base-requires-clause-ends
+replace_base-requires-clause-ends c =
     ends_behind c.self.inside.chains.bases c.add_records.new.self.bases c.self.inside.chains.records c.add_records.new.self.records (with_link c.index-head.result.now c.in_ok-deltas.deltas.items) c.index-head.result.now c.add_records.ensures.bases c.in_ok-add_records.ensures.ok
     (page_at_head c.self.inside.heads.items c.self.inside.chains.bases c.self.inside.chains.records c.self.inside.root c.self.inside.next _ c.self.inside.staged _ c.args.parent c.index-head.result.now c.self.view_is c.self.invariant.now c.requires.page.in_levels
     (c.index-head.ensures ∙ ap (λ n. get_or c.self.inside.heads.items n c.index-head.result.now) c.parent.view_is)).ends

@@ -10,8 +10,8 @@ index-head-requires c =
     let held = leaf_held c.self.inside.heads.items c.self.inside.chains.bases c.self.inside.chains.records c.self.inside.root c.self.inside.next _ c.self.inside.staged _ c.self.view_is c.self.invariant.now c.args.page c.requires.leaf in
     omega (arith, held, c.page.view_is, c.self.inside.heads.ok)
 
-pub replace_base-requires : goal.replace_base-requires
-replace_base-requires c =
+pub replace_base-requires-clause-ends : goal.replace_base-requires-clause-ends
+replace_base-requires-clause-ends c =
     (leaf_at c.self.inside.heads.items c.self.inside.chains.bases c.self.inside.chains.records c.self.inside.root c.self.inside.next _ c.self.inside.staged _ c.self.view_is c.self.invariant.now c.args.page c.index-head.result.now c.requires.leaf
     (c.index-head.ensures ∙ ap (λ n. get_or c.self.inside.heads.items n c.index-head.result.now) c.page.view_is)).ends
 

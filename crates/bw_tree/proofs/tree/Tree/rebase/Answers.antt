@@ -4,8 +4,8 @@ use Rattle.bw_chain.specs.Supports.{base_under}
 use Rattle.bw_tree.proofs.RebaseLemmas.{ends_there, heads_there, rebased_on}
 use Rattle.bw_tree.proofs.tree.Tree.rebase.Goals as goal
 
-pub replace_base-number-requires : goal.replace_base-number-requires
-replace_base-number-requires c =
+pub replace_base-number-requires-clause-ends : goal.replace_base-number-requires-clause-ends
+replace_base-number-requires-clause-ends c =
     ends_there c.self.inside.heads.items c.self.inside.chains.bases c.self.inside.chains.records c.self.inside.root c.self.inside.next _ c.self.inside.staged c.args.self.now c.args.page c.index.result.now c.self.view_is c.self.invariant.now c.requires.there
     (c.index.ensures ∙ ap (λ n. get_or c.self.inside.heads.items n c.index.result.now) c.page.view_is)
 
