@@ -1,7 +1,8 @@
 // Base pages that take the place of others, new ones, and some that go.
-ghost use Rattle.std.specs.Prelude.{◌≡◌, ◌<◌, ◌≤◌, length, Some, None, slice_set};
-ghost use Rattle.bw_chain.specs.Chains.{IsChain};
+ghost use Rattle.std.specs.Prelude.{◌≡◌, ◌<◌, ◌≤◌, length, Decides, Some, None, slice_get, slice_set};
+ghost use Rattle.bw_chain.specs.Chains.{IsChain, based};
 ghost use Rattle.bw_chain.specs.Placing.{put_at};
+ghost use Rattle.bw_chain.specs.Slots.{Free};
 ghost use Rattle.bw_chain.specs.Supports.{base_under};
 
 use crate::chains::Chains;
@@ -29,6 +30,21 @@ impl Chains {
         ensures records { self.new.records ≡ self.old.records }
     {
         self.bases.set(number.0 as usize, None);
+    }
+
+    /// How many numbers of base pages there are, with those that are vacant.
+    pub fn base_count(&self) -> usize
+        ensures { result ≡ length self.now.bases }
+    {
+        self.bases.len()
+    }
+
+    /// Whether there is no base page of a number.
+    #[tactic(auto, using(crate::proofs::VacancyLemmas::vacant_at))]
+    pub fn is_vacant(&self, number: PageId) -> bool
+        ensures { Decides result (based (slice_get self.now.bases number) ≡ Free) }
+    {
+        self.base(number.0 as u64).is_none()
     }
 
     // The number of the base page under a chain.

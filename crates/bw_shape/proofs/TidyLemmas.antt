@@ -1,7 +1,7 @@
 -- What tidying keeps, step by step: what the tree holds, and which leaves are within the limits.
 use Rattle.std.proofs.Common.{inl, inr, ◌⊎◌, ◌≡◌, ℕ, zero, suc, ◌+◌, ◌<◌, ◌≤◌, ◌^◌, List, [], ◌∷◌, ◌++◌, length, None, refl, sym, ap, ◌∙◌, subst, arith}
 use Rattle.std.proofs.lemmas.Bool.{cases_eq, cases_lt}
-use Rattle.std.proofs.lemmas.List.{get_or-set_same, get_or-set_other, length-set, length-append}
+use Rattle.std.proofs.lemmas.List.{get_or-set_same, get_or-set_other, length-append}
 use Rattle.std.proofs.lemmas.List.Elements.{Contains-append_left, Contains-append_right, Contains-push, Contains-push_cases}
 use Rattle.std.specs.List.{Contains}
 use Rattle.std.specs.Prelude.{slice_index}
@@ -14,7 +14,6 @@ use Rattle.bw_chain.specs.Roots.{levels_grown}
 use Rattle.bw_chain.specs.Searches.{IsInLevels}
 use Rattle.bw_chain.specs.Slots.{Slot, PageState, Body, Pairs, Children, Free, Gone, Live, slot_at}
 use Rattle.bw_chain.specs.Splits.{level_parted, put_behind, slot_entries}
-use Rattle.bw_chain.proofs.PlacingLemmas.{length_put}
 use Rattle.bw_chain.proofs.SplitLemmas.{had}
 use Rattle.bw_tree.specs.Children.{AreNamed, IsNamed, state_with_children}
 use Rattle.bw_tree.specs.Roots.{HasNewRoot}
@@ -24,12 +23,13 @@ use Rattle.bw_shape.specs.Limits.{LimitsView, AreWithinBut, IsWithin}
 use Rattle.bw_shape.specs.Naming.{AreFinished}
 use Rattle.bw_shape.specs.Sweeps.{HoldsSame}
 use Rattle.bw_shape.specs.Tidying.{HoldsAll, KeepsWithin}
-use Rattle.bw_shape.specs.Visits.{IsBare, IsNext, IsSplitNext}
+use Rattle.bw_shape.specs.Visits.{IsBare, IsNext, IsSplitNext, taken_count}
 use Rattle.bw_shape.specs.Steps.{HasLostChain, IsFinishStep, IsFinished, IsRootStep, IsSameOver}
 use Rattle.bw_tree.specs.Consolidation.{IsRebased}
 use Rattle.bw_shape.specs.declared.steps.Did.{Did}
 use Rattle.bw_shape.specs.declared.steps.Did.TheVariants.{Done, NotNeeded}
 use Rattle.bw_shape.proofs.SweepLemmas.{chain_plain, still_plain}
+use Rattle.bw_shape.proofs.TakenLemmas.{taken_but, taken_more}
 
 -- what the tree holds
 pub holds_itself : (tree : TreeView) → tree.staged ≡ None → HoldsAll tree tree
@@ -139,9 +139,6 @@ module _ (old new : TreeView) (due due' : List ℕ) (p keep : ℕ) (able : IsSpl
       by (inr other) (inl same) = inl (subst (Contains due') (sym same) due_new)
       by (inr other) (inr other') = old_one other other' (was_leaf r leaf)
 
-  split_heads : length new.heads ≡ length old.heads + 1
-  split_heads = omega (arith, h.split.pages, h.split.unused.last)
-
   pub split_due : length due' ≡ length due + 1
   split_due = omega (arith, ap length h.was, ap length h.is, length-append h.rest (p ∷ []), length-append h.rest (q ∷ p ∷ []))
 
@@ -223,7 +220,7 @@ within_more limits tree due due' kept but r leaf = by (but r leaf)
 pub record KeepsTidy (old new : TreeView) : Type 0 where
   pub holds : HoldsAll old new
   pub within : (due : List ℕ) → KeepsWithin old new due due
-  pub more : length old.heads ≤ length new.heads
+  pub more : taken_count old.slots ≤ taken_count new.slots
 
 tidy_still : (old new : TreeView) → old.staged ≡ None → new ≡ old → KeepsTidy old new
 tidy_still old new none is = subst (KeepsTidy old) (sym is) (record { holds = holds_itself old none; within = λ due limits but. but; more = omega arith })
@@ -232,7 +229,7 @@ tidy_rebased : (old new : TreeView) (p : ℕ) → old.staged ≡ None → IsReba
 tidy_rebased old new p none h = subst (KeepsTidy old) (sym h.view) (record {
   holds = record { contents = refl; next = refl; records = omega arith; staged = none };
   within = λ due limits but. but;
-  more = omega (arith, length-set old.heads p (slice_index new.heads p));
+  more = omega arith;
 })
 
 pub tidy_same : (old new : TreeView) → old.staged ≡ None → IsSameOver old new → KeepsTidy old new
@@ -243,21 +240,21 @@ pub tidy_named : (old new : TreeView) (p parent : ℕ) → IsFinished old new p 
 tidy_named old new p parent h = record {
   holds = holds_named old new parent h.sep h.side h.named;
   within = λ due. within_named old new due parent h.sep h.side h.named;
-  more = omega (arith, ap length h.named.heads, length-set old.heads parent (slice_index new.heads parent));
+  more = taken_more old.slots new.slots (taken_but old.slots new.slots parent _ h.named.named.now h.named.named.others);
 }
 
 pub tidy_all_named : (old new : TreeView) (p parent : ℕ) → AreFinished old new p parent → KeepsTidy old new
 tidy_all_named old new p parent h = record {
   holds = record { contents = held_at old new h.named.next h.named.contents; next = h.named.next; records = omega (arith, h.named.records); staged = h.named.staged };
   within = λ due. within_all_named old new due parent h.entries h.named;
-  more = omega (arith, ap length h.named.heads, length-set old.heads parent (slice_index new.heads parent));
+  more = taken_more old.slots new.slots (taken_but old.slots new.slots parent _ h.named.named.now h.named.named.others);
 }
 
 tidy_root : (old new : TreeView) (did : Did) → old.staged ≡ None → IsRootStep old new did → KeepsTidy old new
 tidy_root old new Done none h = record {
   holds = holds_root old new h.0 h.1;
   within = λ due. within_root old new due h.0 h.1;
-  more = omega (arith, ap length h.1.heads, length_put old.heads h.0 (slice_index new.heads h.0) h.1.unused.place);
+  more = taken_more old.slots new.slots (taken_but old.slots new.slots h.0 _ h.1.grown.top h.1.grown.others);
 }
 tidy_root old new NotNeeded none h = tidy_still old new none h.0
 

@@ -4,7 +4,7 @@ ghost use Rattle.std.specs.List.{Contains};
 ghost use Rattle.bw_tree.specs.Splits.{IsSplittable};
 ghost use Rattle.bw_shape.specs.Naming.{HasFinished};
 ghost use Rattle.bw_shape.specs.Tidying.{HasBoth, HasNoPage, HoldsAll, KeepsWithin};
-ghost use Rattle.bw_shape.specs.Visits.{IsNext, IsNextBefore, IsSplitNext};
+ghost use Rattle.bw_shape.specs.Visits.{IsNext, IsNextBefore, IsSplitNext, taken_count};
 
 use crate::page_lists::sort_by_low_key;
 use crate::right_neighbours::name_rights;
@@ -189,7 +189,7 @@ impl Due {
         ensures within { KeepsWithin tree.old tree.new self.old.pages self.new.pages }
         ensures pages { self.new.pages ≡ self.old.pages }
         ensures above { length self.new.above ≤ length self.old.above + 1 }
-        ensures more { length tree.old.heads ≤ length tree.new.heads }
+        ensures more { taken_count tree.old.slots ≤ taken_count tree.new.slots }
     {
         self.above.reserve(1)?;
         let alloc = *self.above.allocator();

@@ -6,6 +6,7 @@ ghost use Rattle.bw_chain.specs.Levels.{AreLevels, row};
 ghost use Rattle.bw_chain.specs.Searches.{IsInLevels};
 ghost use Rattle.bw_delta.specs.History.{HasDistinctStamps};
 
+use crate::freed::Freed;
 use crate::making::{base_pages, separators, words};
 use crate::staging::Stage;
 use bw_chain::{Chains, FLOOR};
@@ -46,6 +47,8 @@ pub struct Tree {
     next: u64,
     // the batch whose writes are the last records
     staged: Option<Stage>,
+    // identifiers that were given back, the least one first: those that aren't free any more are passed over
+    freed: Freed,
 }
 
 // Not derived: whoever drops one calls this, and its proof is spared the parts.
@@ -57,6 +60,7 @@ impl Drop for Tree {
             root: _root,
             next: _next,
             staged: _staged,
+            freed: _freed,
         } = self;
     }
 }
@@ -128,6 +132,7 @@ impl Tree {
             root: PageId((count - 1) as u32),
             next: 0,
             staged: None,
+            freed: Freed::new(alloc),
         })
     }
 
@@ -198,6 +203,7 @@ impl Tree {
         ensures there { (p : ℕ) → IsInLevels self.now.levels p → p < length self.now.heads }
         ensures placed { ArePlaced self.now.heads self.now.levels }
         ensures bare { (p : ℕ) → slice_index self.now.heads p < 2 ^ 32 → writes_over (slot_at self.now.slots p) ≡ [] }
+        ensures slots { length self.now.slots ≡ length self.now.heads }
         ensures few { length self.now.heads ≤ 2 ^ 32 }
     {
         // A look at a field is what makes the type's rule known here.
