@@ -8,7 +8,7 @@ use Rattle.bw_model.specs.Values.{ValueBytes}
 use Rattle.bw_delta.specs.ContentsAsOf.{contents_as_of}
 use Rattle.bw_delta.specs.Writes.{WriteView}
 use Rattle.bw_chain.specs.Entries.{AreExact}
-use Rattle.bw_chain.specs.Freeing.{IsForgotten, IsFreed}
+use Rattle.bw_chain.specs.Freeing.{IsUnreached, IsFreed}
 use Rattle.bw_chain.specs.Laws.{FreedPageIsKept}
 use Rattle.bw_chain.specs.Levels.{AreLevels, BeginsWith, LeadsBelow, SideBySide, Stands, row}
 use Rattle.bw_chain.specs.Reading.{contents_in, pairs_under, row_pairs, row_writes, writes_over}
@@ -53,7 +53,7 @@ has_first : (ps : List ℕ) (p : ℕ) → BeginsWith ps p → Contains ps p
 has_first [] p begins = absurd begins
 has_first (x ∷ xs) p begins = (0, omega arith, begins)
 
-module _ (old new : List Slot) (root : ℕ) (levels : List (List ℕ)) (p : ℕ) (lawful : AreLevels old root levels) (gone : IsForgotten old levels p) (freed : IsFreed old new p) where
+module _ (old new : List Slot) (root : ℕ) (levels : List (List ℕ)) (p : ℕ) (lawful : AreLevels old root levels) (gone : IsUnreached old levels p) (freed : IsFreed old new p) where
   -- the pages of a level are as before
   same_row : (n : ℕ) → n < length levels → AreSame old new (row levels n)
   same_row n lt x has = freed.others x (λ same. gone.stands (subst (IsInLevels levels) same (record { level = n; within = lt; in_level = has })))

@@ -1,15 +1,52 @@
 -- A base page that goes leaves its page's identifier free.
-use Rattle.std.proofs.Common.{set, ◌≡◌, ℕ, ◌<◌, ◌^◌, List, length, Some, None, refl, sym, ap, ◌∙◌, arith}
+use Rattle.std.proofs.Common.{set, ◌≡◌, ℕ, ◌<◌, ◌^◌, true, false, List, [], ◌∷◌, length, Option, Some, None, refl, sym, ap, ◌∙◌, arith}
 use Rattle.std.proofs.lemmas.List.{length-set}
-use Rattle.std.specs.Prelude.{slice_get}
-use Rattle.bw_chain.specs.Chains.{AllEnd, Bases, Records, based, slot_of_word, slots_of}
+use Rattle.std.specs.Borrow.{Bor}
+use Rattle.std.specs.Prelude.{Decides, is_none, slice_get}
+use Rattle.bw_page.specs.declared.pages.Page.{Page}
+use Rattle.bw_page.specs.declared.pages.Page.TheVariants.{Leaf as LeafPage, Inner as InnerPage, Gone as GonePage}
+use Rattle.bw_delta.specs.declared.deltas.Delta.{Delta}
+use Rattle.bw_delta.specs.declared.deltas.Delta.TheVariants.{Put, Split, Absorb, Removed, AddChild, DropChild}
+use Rattle.bw_chain.specs.Chains.{AllEnd, Bases, Records, based, change, changed, deltas_at, link_of, plain, slot_of_word, slots_of}
 use Rattle.bw_chain.specs.Freeing.{IsFreed}
+use Rattle.bw_chain.specs.Slots.{Slot, Free, slot_at}
 use Rattle.bw_chain.specs.Supports.{OwnBases, base_under}
+use Rattle.bw_chain.specs.Turns.{plain_at}
+use Rattle.bw_chain.specs.Walk.{walked}
 use Rattle.bw_chain.proofs.AdditionLemmas.{same_slot, slot_here}
 use Rattle.bw_chain.proofs.BaseLemmas.{get_set_other, get_set_same}
 use Rattle.bw_chain.proofs.ChainLemmas.{no_record, on_base}
 use Rattle.bw_chain.proofs.InPlaceLemmas.{under_plain}
 use Rattle.bw_chain.proofs.SupportLemmas.{base_within, ends_within, page_kept}
+
+-- a base page is no free identifier
+page_taken : (page : Page) → plain page ≡ Free → ⊥
+page_taken (LeafPage l) e = cc
+page_taken (InnerPage p) e = cc
+page_taken (GonePage g) e = cc
+
+pub vacant_at : (o : Option (Bor Page)) (slot : Slot) → plain_at o ≡ slot → Decides (is_none o) (slot ≡ Free)
+vacant_at None slot is = (λ e. sym is, λ e. refl)
+vacant_at (Some page) slot is = (λ e. absurd (different e), λ e. absurd (page_taken page.now (is ∙ e)))
+  where
+    different : false ≡ true → ⊥
+    different e = cc
+
+-- nothing is made of no page
+pub free_changed : (bases : Bases) (ds : List Delta) → changed bases ds Free ≡ Free
+free_changed bases [] = refl
+free_changed bases (Put w ∷ ds) = ap (change bases (Put w)) (free_changed bases ds)
+free_changed bases (Split k to ∷ ds) = ap (change bases (Split k to)) (free_changed bases ds)
+free_changed bases (Absorb k base high side ∷ ds) = free_changed bases ds
+free_changed bases (Removed left ∷ ds) = free_changed bases ds
+free_changed bases (AddChild k child ∷ ds) = ap (change bases (AddChild k child)) (free_changed bases ds)
+free_changed bases (DropChild k ∷ ds) = free_changed bases ds
+
+-- so a page whose base page is vacant has a free identifier
+pub vacant_free : (heads : List ℕ) (bases : Bases) (records : Records) → OwnBases heads bases records → (p word : ℕ) → slice_get heads p ≡ Some word → based (slice_get bases p) ≡ Free → slot_of_word bases records word ≡ Free
+vacant_free heads bases records own p word at vacant =
+    let ds = deltas_at records (walked (link_of records) (length records) word) in
+    ap (λ n. changed bases ds (based (slice_get bases n))) (own.number p word at) ∙ ap (changed bases ds) vacant ∙ free_changed bases ds
 
 module _ (heads : List ℕ) (bases : Bases) (records : Records) (ends : AllEnd bases records heads) (own : OwnBases heads bases records) (p word : ℕ) (at : slice_get heads p ≡ Some word) (low : word < 2 ^ 32) where
   abbrev pub bases_but : Bases

@@ -10,7 +10,7 @@ use Rattle.bw_chain.specs.Reading.{contents_in, row_writes, value_in}
 use Rattle.bw_chain.specs.Chains.{Bases, Records, slot_of_word}
 use Rattle.bw_chain.specs.Children.{FitsChild, HasChild, HasDroppedChild, MayDropChild}
 use Rattle.bw_chain.specs.Entries.{AreExact}
-use Rattle.bw_chain.specs.Freeing.{IsForgotten, IsFreed}
+use Rattle.bw_chain.specs.Freeing.{IsUnreached, IsFreed}
 use Rattle.bw_chain.specs.Merges.{IsMerged, IsNoFirstChild, level_merged}
 use Rattle.bw_chain.specs.Roots.{HasOneChild, IsGrown, levels_grown, levels_lowered}
 use Rattle.bw_chain.specs.Splits.{HasNoRemovedAt, IsParted, level_parted}
@@ -122,4 +122,4 @@ LevelsAreLowered =
 abbrev pub FreedPageIsKept : Type 0
 FreedPageIsKept =
     (old new : List Slot) (root : ℕ) (levels : List (List ℕ)) (p : ℕ) → AreLevels old root levels →
-    IsForgotten old levels p → IsFreed old new p → KeepsAll old new root levels levels
+    IsUnreached old levels p → IsFreed old new p → KeepsAll old new root levels levels

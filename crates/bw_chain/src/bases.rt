@@ -1,8 +1,9 @@
 // Base pages that take the place of others, new ones, and some that go.
-ghost use Rattle.std.specs.Prelude.{◌≡◌, ℕ, ◌<◌, ◌≤◌, length, Decides, Some, None, slice_set};
-ghost use Rattle.bw_chain.specs.Chains.{IsChain};
+ghost use Rattle.std.specs.Prelude.{◌≡◌, ℕ, ◌<◌, ◌≤◌, length, Decides, Some, None, slice_get, slice_set};
+ghost use Rattle.bw_chain.specs.Chains.{IsChain, based};
 ghost use Rattle.bw_chain.specs.Placing.{put_at};
 ghost use Rattle.bw_chain.specs.Removed.{IsNotRemoved, IsRemovedInto};
+ghost use Rattle.bw_chain.specs.Slots.{Free};
 ghost use Rattle.bw_chain.specs.Supports.{base_under};
 
 use crate::chains::Chains;
@@ -57,6 +58,21 @@ impl Chains {
             Some(Page::Gone(removed)) => removed.left == page,
             _ => false,
         }
+    }
+
+    /// How many numbers of base pages there are, with those that are vacant.
+    pub fn base_count(&self) -> usize
+        ensures { result ≡ length self.now.bases }
+    {
+        self.bases.len()
+    }
+
+    /// Whether there is no base page of a number.
+    #[tactic(auto, using(crate::proofs::VacancyLemmas::vacant_at))]
+    pub fn is_vacant(&self, number: PageId) -> bool
+        ensures { Decides result (based (slice_get self.now.bases number) ≡ Free) }
+    {
+        self.base(number.0 as u64).is_none()
     }
 
     // The number of the base page under a chain.

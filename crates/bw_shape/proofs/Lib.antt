@@ -1,4 +1,5 @@
 pub mod FinishLemmas
+pub mod TakenLemmas
 pub mod SweepLemmas
 pub mod NamingLemmas
 pub mod PartLemmas

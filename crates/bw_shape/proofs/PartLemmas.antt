@@ -10,7 +10,8 @@ use Rattle.bw_chain.specs.Splits.{level_parted, put_behind}
 use Rattle.bw_tree.specs.Routing.{IsInLevel}
 use Rattle.bw_tree.specs.View.{TreeView}
 use Rattle.bw_shape.specs.Tidying.{DueView}
-use Rattle.bw_shape.specs.Visits.{HasPassed, IsBare, IsHalved, IsNextBefore, IsPart, StandBefore, half_of, work_left}
+use Rattle.bw_shape.specs.Visits.{HasPassed, IsBare, IsHalved, IsNextBefore, IsPart, StandBefore, half_of, taken_count, work_left}
+use Rattle.bw_shape.proofs.TakenLemmas.{taken_more, taken_split}
 
 -- the pages of a row stand in it still, and the new one does
 still_there : (p q r : ℕ) (ps : List ℕ) → Contains ps r → Contains (put_behind p q ps) r
@@ -72,12 +73,20 @@ module _ (old new : TreeView) (due due' : DueView) (p keep : ℕ) (h : IsHalved 
 
   pub halved_less : work_left new due' + 2 ≤ work_left old due
   halved_less =
-      omega (arith, h.few, h.split.split.pages, h.split.split.unused.last, ap length h.split.was, ap length h.split.is, length-append h.split.rest (p ∷ []), length-append h.split.rest (right ∷ p ∷ []))
+      omega (arith, h.few, taken_split old.slots new.slots p right keep h.split.split.parted, ap length h.split.was, ap length h.split.is, length-append h.split.rest (p ∷ []), length-append h.split.rest (right ∷ p ∷ []))
 
   both_on : (n : ℕ) → IsInLevel old p n → (q : ℕ) → Contains (right ∷ p ∷ []) q → IsInLevel new q n
   both_on n on q (zero, lt, is) = subst (λ r. IsInLevel new r n) is (right_on n on)
   both_on n on q (suc zero, lt, is) = subst (λ r. IsInLevel new r n) is (still_on p n on)
   both_on n on q (suc (suc i), lt, is) = absurd (omega (arith, lt))
+
+-- where the next page was split, less is left to do, by more than an inner page that is due
+pub part_less : (old new : TreeView) (due due' : DueView) (p : ℕ) (split : Bool) → split ≡ true → IsPart old new due due' p split → work_left new due' + 2 ≤ work_left old due
+part_less old new due due' p true is h = halved_less old new due due' p (half_of old p) h
+part_less old new due due' p false is h = absurd (different is)
+  where
+    different : false ≡ true → ⊥
+    different e = cc
 
 -- a page that is within the limits
 pub passed_on : (old : TreeView) (due due' : DueView) (p level : ℕ) → due.pages ≡ due'.pages ++ p ∷ [] → HasPassed old old due due' p level
@@ -100,7 +109,7 @@ passed_part old mid new due due' p level true on bare h = record {
   is = h.split.is;
   stand = both_on mid new due due' p (half_of mid p) h level (same p level on);
   still = λ q n there. still_on mid new due due' p (half_of mid p) h q n (same q n there);
-  less = omega (arith, halved_less mid new due due' p (half_of mid p) h, bare.same.pages);
+  less = omega (arith, halved_less mid new due due' p (half_of mid p) h, taken_more old.slots mid.slots bare.same.taken);
 }
   where
     same : (q n : ℕ) → IsInLevel old q n → IsInLevel mid q n
@@ -112,7 +121,7 @@ passed_part old mid new due due' p level false on bare h = record {
   is = sym (append-nil due'.pages);
   stand = λ q has. absurd (omega (arith, has.1));
   still = λ q n there. subst (λ (l : List (List ℕ)). (n < length l) × Contains (row l n) q) (sym (ap (λ (v : TreeView). v.levels) h.0 ∙ bare.same.levels)) there;
-  less = omega (arith, ap length h.1, length-append due'.pages (p ∷ []), ap (λ (v : TreeView). length v.heads) h.0, bare.same.pages);
+  less = omega (arith, ap length h.1, length-append due'.pages (p ∷ []), ap (λ (v : TreeView). taken_count v.slots) h.0, taken_more old.slots mid.slots bare.same.taken);
 }
 
 -- what stands before others still does, with the halves

@@ -18,6 +18,7 @@ use Rattle.bw_shape.specs.Sweeps.{ArePlainBelow, HasAllRecorded, HasSameBounds, 
 use Rattle.bw_shape.specs.Tidying.{HasBoth, KeepsWithin}
 use Rattle.bw_shape.specs.declared.steps.Did.{Did}
 use Rattle.bw_shape.specs.declared.steps.Did.TheVariants.{Done, NotNeeded}
+use Rattle.bw_shape.proofs.TakenLemmas.{taken_but}
 
 bounds_same : (old new : Slot) → new ≡ old → HasSameBounds old new
 bounds_same old new is = record { low = ap low_of is; high = ap high_of is; side = ap side_of_slot is }
@@ -34,7 +35,7 @@ consolidated_bounds old new p k q = by (cases_eq q p)
     by (inr other) = bounds_same (slot_at old.slots q) (slot_at new.slots q) (k.others q other)
 
 pub holds_itself : (tree : TreeView) → tree.staged ≡ None → HoldsSame tree tree
-holds_itself tree none = record { contents = refl; levels = refl; bounds = λ p. bounds_same (slot_at tree.slots p) (slot_at tree.slots p) refl; root = refl; next = refl; records = refl; staged = none; pages = refl }
+holds_itself tree none = record { contents = refl; levels = refl; bounds = λ p. bounds_same (slot_at tree.slots p) (slot_at tree.slots p) refl; root = refl; next = refl; records = refl; staged = none; pages = refl; taken = λ p free. free }
 
 holds_on : (first old new : TreeView) → HoldsSame first old → HoldsSame old new → HoldsSame first new
 holds_on first old new a b = record {
@@ -46,6 +47,7 @@ holds_on first old new a b = record {
   records = b.records ∙ a.records;
   staged = b.staged;
   pages = b.pages ∙ a.pages;
+  taken = λ p free. a.taken p (b.taken p free);
 }
 
 module _ (old new : TreeView) (p : ℕ) where
@@ -60,6 +62,7 @@ module _ (old new : TreeView) (p : ℕ) where
       records = k.records;
       staged = k.staged;
       pages = ap length k.heads ∙ length-set old.heads p (slice_index new.heads p);
+      taken = taken_but old.slots new.slots p _ k.page k.others;
     };
     plain = k.plain;
     others = λ q other. ap (λ (ws : List ℕ). slice_index ws q) k.heads ∙ get_or-set_other old.heads p q (slice_index new.heads p) 0 other;
@@ -77,6 +80,7 @@ module _ (old new : TreeView) (p : ℕ) where
       records = ap (λ (v : TreeView). v.records) k.view;
       staged = ap (λ (v : TreeView). v.staged) k.view ∙ none;
       pages = ap (λ (v : TreeView). length v.heads) k.view ∙ length-set old.heads p (slice_index new.heads p);
+      taken = λ q free. sym (ap (λ (v : TreeView). slot_at v.slots q) k.view) ∙ free;
     };
     plain = k.plain;
     others = λ q other. ap (λ (v : TreeView). slice_index v.heads q) k.view ∙ get_or-set_other old.heads p q (slice_index new.heads p) 0 other;

@@ -1,7 +1,7 @@
 -- What tidying keeps, step by step: what the tree holds, and which leaves are within the limits.
 use Rattle.std.proofs.Common.{inl, inr, ◌⊎◌, ◌≡◌, ℕ, zero, suc, ◌+◌, ◌<◌, ◌≤◌, ◌^◌, List, [], ◌∷◌, ◌++◌, length, None, refl, sym, ap, ◌∙◌, subst, arith}
 use Rattle.std.proofs.lemmas.Bool.{cases_eq, cases_lt}
-use Rattle.std.proofs.lemmas.List.{get_or-set_same, get_or-set_other, length-set, length-append}
+use Rattle.std.proofs.lemmas.List.{get_or-set_same, get_or-set_other, length-append}
 use Rattle.std.proofs.lemmas.List.Elements.{Contains-append_left, Contains-append_right, Contains-push, Contains-push_cases}
 use Rattle.std.specs.List.{Contains}
 use Rattle.std.specs.Prelude.{slice_index}
@@ -14,7 +14,6 @@ use Rattle.bw_chain.specs.Roots.{levels_grown}
 use Rattle.bw_chain.specs.Searches.{IsInLevels}
 use Rattle.bw_chain.specs.Slots.{Slot, PageState, Body, Pairs, Children, Free, Gone, Live, slot_at}
 use Rattle.bw_chain.specs.Splits.{level_parted, put_behind, slot_entries}
-use Rattle.bw_chain.proofs.PlacingLemmas.{length_put}
 use Rattle.bw_chain.proofs.SplitLemmas.{had}
 use Rattle.bw_tree.specs.Children.{AreNamed, IsNamed, state_with_children}
 use Rattle.bw_tree.specs.Roots.{HasNewRoot}
@@ -24,12 +23,13 @@ use Rattle.bw_shape.specs.Limits.{LimitsView, AreWithinBut, IsWithin}
 use Rattle.bw_shape.specs.Naming.{AreFinished}
 use Rattle.bw_shape.specs.Sweeps.{HoldsSame}
 use Rattle.bw_shape.specs.Tidying.{HoldsAll, KeepsWithin}
-use Rattle.bw_shape.specs.Visits.{IsBare, IsNext, IsSplitNext}
+use Rattle.bw_shape.specs.Visits.{IsBare, IsNext, IsSplitNext, taken_count}
 use Rattle.bw_shape.specs.Steps.{HasLostChain, IsFinishStep, IsFinished, IsRootStep, IsSameOver}
 use Rattle.bw_tree.specs.Consolidation.{IsRebased}
 use Rattle.bw_shape.specs.declared.steps.Did.{Did}
 use Rattle.bw_shape.specs.declared.steps.Did.TheVariants.{Done, NotNeeded}
 use Rattle.bw_shape.proofs.SweepLemmas.{chain_plain, still_plain}
+use Rattle.bw_shape.proofs.TakenLemmas.{taken_but, taken_more}
 
 -- what the tree holds
 pub holds_itself : (tree : TreeView) → tree.staged ≡ None → HoldsAll tree tree
@@ -138,9 +138,6 @@ module _ (old new : TreeView) (due due' : List ℕ) (p keep : ℕ) (able : IsSpl
       by (inl same) its = inl (subst (Contains due') (sym same) due_page)
       by (inr other) (inl same) = inl (subst (Contains due') (sym same) due_new)
       by (inr other) (inr other') = old_one other other' (was_leaf r leaf)
-
-  split_heads : length new.heads ≡ length old.heads + 1
-  split_heads = omega (arith, h.split.pages, h.split.unused.last)
 
   pub split_due : length due' ≡ length due + 1
   split_due = omega (arith, ap length h.was, ap length h.is, length-append h.rest (p ∷ []), length-append h.rest (q ∷ p ∷ []))

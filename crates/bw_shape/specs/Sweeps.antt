@@ -4,7 +4,7 @@ use Rattle.std.specs.List.{AllByRecursion, Contains}
 use Rattle.bw_chain.specs.Before.{low_of}
 use Rattle.bw_chain.specs.Reading.{writes_over}
 use Rattle.bw_chain.specs.Scans.{high_of}
-use Rattle.bw_chain.specs.Slots.{Slot, side_of_slot, slot_at}
+use Rattle.bw_chain.specs.Slots.{Slot, Free, side_of_slot, slot_at}
 use Rattle.bw_tree.specs.View.{TreeView, contents_at}
 
 -- a page begins and ends where it did, and has the same right neighbour
@@ -17,6 +17,10 @@ pub record HasSameBounds (old new : Slot) : Type 0 where
 abbrev pub HaveSameBounds : TreeView → TreeView → Type 0
 HaveSameBounds old new = (p : ℕ) → HasSameBounds (slot_at old.slots p) (slot_at new.slots p)
 
+-- no identifier is free that wasn't
+abbrev pub KeepsTaken : TreeView → TreeView → Type 0
+KeepsTaken old new = (p : ℕ) → slot_at new.slots p ≡ Free → slot_at old.slots p ≡ Free
+
 -- The tree holds what it held as of its next stamp, which is the same, on the same levels of pages with the same bounds, and
 -- nothing is staged.
 pub record HoldsSame (old new : TreeView) : Type 0 where
@@ -28,6 +32,7 @@ pub record HoldsSame (old new : TreeView) : Type 0 where
   pub records : new.records ≡ old.records
   pub staged : new.staged ≡ None
   pub pages : length new.heads ≡ length old.heads
+  pub taken : KeepsTaken old new
 
 -- pages that have no record are as they were
 abbrev pub KeepsPlain : TreeView → TreeView → Type 0

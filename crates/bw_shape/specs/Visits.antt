@@ -3,7 +3,7 @@ use Rattle.std.specs.Prelude.{◌≡◌, ℕ, Bool, true, false, ◌+◌, ◌*�
 use Rattle.std.specs.List.{Contains}
 use Rattle.bw_chain.specs.Levels.{row}
 use Rattle.bw_chain.specs.Reading.{pairs_under, writes_over}
-use Rattle.bw_chain.specs.Slots.{Slot, slot_at}
+use Rattle.bw_chain.specs.Slots.{Slot, Free, Gone, Live, slot_at}
 use Rattle.bw_chain.specs.Splits.{slot_entries}
 use Rattle.bw_tree.specs.Routing.{IsInLevel}
 use Rattle.bw_tree.specs.Shapes.{pairs_on}
@@ -52,9 +52,19 @@ abbrev pub HasAbsorbed : TreeView → TreeView → DueView → DueView → Bool 
 HasAbsorbed old new due due' true = (length due'.pages < length due.pages) × (due'.unfinished ≡ None)
 HasAbsorbed old new due due' false = (new ≡ old) × (due'.pages ≡ due.pages)
 
--- what is left to do among the halves of a page: a split is worth three pages that are looked at
+-- how many identifiers aren't free
+abbrev pub one_if_taken : Slot → ℕ
+one_if_taken Free = 0
+one_if_taken (Gone l) = 1
+one_if_taken (Live s) = 1
+
+abbrev pub taken_count : List Slot → ℕ
+taken_count [] = 0
+taken_count (slot ∷ slots) = one_if_taken slot + taken_count slots
+
+-- what is left to do among the halves of a page: a split takes an identifier, and is worth three pages that are looked at
 abbrev pub work_left : TreeView → DueView → ℕ
-work_left tree due = 3 * (2 ^ 32 - length tree.heads) + length due.pages
+work_left tree due = 3 * (2 ^ 32 - taken_count tree.slots) + length due.pages
 
 -- the page has parted in two, and the parts are the next ones, the left one first
 pub record IsSplitNext (old new : TreeView) (due due' : List ℕ) (p keep : ℕ) : Type 0 where
@@ -64,11 +74,11 @@ pub record IsSplitNext (old new : TreeView) (due due' : List ℕ) (p keep : ℕ)
   pub was : due ≡ rest ++ p ∷ []
   pub is : due' ≡ rest ++ right ∷ p ∷ []
 
--- the next page has parted in two, and no tree has more pages than there are identifiers
+-- the next page has parted in two, and no tree has taken more identifiers than there are
 pub record IsHalved (old new : TreeView) (due due' : DueView) (p keep : ℕ) : Type 0 where
   pub able : IsSplittable old p keep
   pub split : IsSplitNext old new due.pages due'.pages p keep
-  pub few : length new.heads ≤ 2 ^ 32
+  pub few : taken_count new.slots ≤ 2 ^ 32
 
 -- half of a page's entries, rounded down
 abbrev pub half_of : TreeView → ℕ → ℕ

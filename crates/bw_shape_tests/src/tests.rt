@@ -6,6 +6,7 @@ mod merging;
 mod naming;
 mod refused;
 mod refused_merges;
+mod releasing;
 mod shapes;
 mod steps;
 mod sweeping;

@@ -40,13 +40,13 @@ module _ (heads : List ℕ) (bases : Bases) (records : Records) (root next : ℕ
     where
       by : (word < 2 ^ 32) ⊎ (2 ^ 32 ≤ word) → word < 2 ^ 32
       by (inl lt) = lt
-      by (inr high) = absurd (ok.forgotten.stands (t.placed p within high))
+      by (inr high) = absurd (ok.unreached.stands (t.placed p within high))
 
   freed : IsFreed old.slots new.slots p
   freed = vacated heads bases records t.ends t.own p word at_p low
 
   kept : KeepsAll old.slots new.slots root old.levels old.levels
-  kept = page_freed old.slots new.slots root old.levels p t.lawful ok.forgotten freed
+  kept = page_freed old.slots new.slots root old.levels p t.lawful ok.unreached freed
 
   pub standing : IsStanding heads bases' records root next
   standing = standing_kept heads bases records root next t heads bases' records root old.levels kept

@@ -36,4 +36,6 @@ pub mod MergeLemmas
 pub mod DropLemmas
 pub mod LoweringLemmas
 pub mod FreeLemmas
+pub mod IdentifierLemmas
+pub mod UnreachedLemmas
 pub mod RemovedLemmas

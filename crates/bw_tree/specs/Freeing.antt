@@ -1,13 +1,13 @@
 -- Identifiers that are given back.
 use Rattle.std.specs.Prelude.{◌≡◌, ℕ, None}
-use Rattle.bw_chain.specs.Freeing.{IsForgotten, IsFreed}
+use Rattle.bw_chain.specs.Freeing.{IsUnreached, IsFreed}
 use Rattle.bw_chain.specs.Slots.{Free, slot_at}
 use Rattle.bw_tree.specs.View.{TreeView, contents_at}
 
 -- an identifier that isn't free, of a page on no level to which nothing leads
 pub record MayBeFreed (tree : TreeView) (p : ℕ) : Type 0 where
   pub taken : slot_at tree.slots p ≡ Free → ⊥
-  pub forgotten : IsForgotten tree.slots tree.levels p
+  pub unreached : IsUnreached tree.slots tree.levels p
 
 -- The identifier is free. All other pages are as before, and so are the levels and what the tree holds.
 pub record HasFreed (old new : TreeView) (p : ℕ) : Type 0 where

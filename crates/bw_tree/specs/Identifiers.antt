@@ -3,9 +3,7 @@ use Rattle.std.specs.Prelude.{◌≡◌, ℕ, ◌≤◌, length}
 use Rattle.bw_chain.specs.Slots.{Free, slot_at}
 use Rattle.bw_tree.specs.View.{TreeView}
 
--- An identifier that is free, among those that have a mapping word, or the one behind all others. While none is given back
--- it is that one.
+-- an identifier that is free, among those that have a mapping word, or the one behind all others
 pub record IsUnused (tree : TreeView) (p : ℕ) : Type 0 where
   pub free : slot_at tree.slots p ≡ Free
   pub place : p ≤ length tree.heads
-  pub last : p ≡ length tree.heads

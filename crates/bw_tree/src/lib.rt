@@ -5,6 +5,7 @@
 //! A mapping word below 2^32 names a base page of the tree, and one from there on a delta record.
 #![tactic(auto)]
 
+mod freed;
 mod making;
 mod mapping_words;
 mod routes;

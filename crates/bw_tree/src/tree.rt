@@ -7,6 +7,7 @@ ghost use Rattle.bw_chain.specs.Removed.{HasNoRemoved};
 ghost use Rattle.bw_chain.specs.Searches.{IsInLevels};
 ghost use Rattle.bw_delta.specs.History.{HasDistinctStamps};
 
+use crate::freed::Freed;
 use crate::making::{base_pages, separators, words};
 use crate::staging::Stage;
 use bw_chain::{Chains, FLOOR};
@@ -47,6 +48,8 @@ pub struct Tree {
     next: u64,
     // the batch whose writes are the last records
     staged: Option<Stage>,
+    // identifiers that were given back, the least one first: those that aren't free any more are passed over
+    freed: Freed,
 }
 
 // Not derived: whoever drops one calls this, and its proof is spared the parts.
@@ -58,6 +61,7 @@ impl Drop for Tree {
             root: _root,
             next: _next,
             staged: _staged,
+            freed: _freed,
         } = self;
     }
 }
@@ -130,6 +134,7 @@ impl Tree {
             root: PageId((count - 1) as u32),
             next: 0,
             staged: None,
+            freed: Freed::new(alloc),
         })
     }
 
@@ -200,6 +205,7 @@ impl Tree {
         ensures there { (p : ℕ) → IsInLevels self.now.levels p → p < length self.now.heads }
         ensures placed { ArePlaced self.now.heads self.now.levels }
         ensures bare { (p : ℕ) → slice_index self.now.heads p < 2 ^ 32 → writes_over (slot_at self.now.slots p) ≡ [] }
+        ensures slots { length self.now.slots ≡ length self.now.heads }
         ensures few { length self.now.heads ≤ 2 ^ 32 }
     {
         // A look at a field is what makes the type's rule known here.

@@ -28,8 +28,8 @@ pub fn forget_does<R: Abort>(rt: &R, tree: &mut Tree, page: u32, wanted: Did)
     assert!(rt; finish_absorb(tree, PageId(page)) == Ok(wanted));
 }
 
-// Lowers the root, and compares what that did.
-fn drop_does<R: Abort>(rt: &R, tree: &mut Tree, wanted: Did)
+/// Lowers the root, and compares what that did.
+pub fn drop_does<R: Abort>(rt: &R, tree: &mut Tree, wanted: Did)
     requires { tree.old.staged ≡ None }
     ensures { tree.new.staged ≡ None }
 {
@@ -59,8 +59,8 @@ fn from_c(alloc: Alloc) -> Result<Leaf, Memory>
     Ok(Leaf::from_pairs(key(alloc, b"c")?, None, None, pairs))
 }
 
-// The tree of these two leaves, with page 2 as their root.
-fn of_two_pairs<R: Abort>(rt: &R, alloc: Alloc) -> Tree
+/// The tree of these two leaves, with page 2 as their root.
+pub fn of_two_pairs<R: Abort>(rt: &R, alloc: Alloc) -> Tree
     ensures { result.staged ≡ None }
 {
     let left = up_to_c(alloc).expect(rt, "a leaf");
@@ -69,8 +69,8 @@ fn of_two_pairs<R: Abort>(rt: &R, alloc: Alloc) -> Tree
     Tree::from_level(alloc, leaves).expect(rt, "a tree")
 }
 
-// Compares all that is read of that tree.
-fn has_two_pairs<R: Abort>(rt: &R, alloc: Alloc, tree: &Tree) {
+/// Compares all that is read of that tree.
+pub fn has_two_pairs<R: Abort>(rt: &R, alloc: Alloc, tree: &Tree) {
     let from = key(alloc, b"").expect(rt, "a key");
     let pairs = tree.scan_at(&from, None, 9, 0).expect(rt, "the pairs");
     let wanted: [(&[u8], &[u8]); 2] = [(b"a", b"1"), (b"c", b"3")];

@@ -1,35 +1,73 @@
-// Identifiers of pages: those that new pages take, and those that are given back.
-ghost use Rattle.std.specs.Prelude.{◌≡◌, ◌<◌, ◌^◌, None, IfOk};
+// Identifiers of pages that are given back.
+ghost use Rattle.std.specs.Prelude.{◌≡◌, ℕ, Some, None, Decides};
+ghost use Rattle.bw_chain.specs.Freeing.{IsUnreached};
+ghost use Rattle.bw_chain.specs.Slots.{Free, left_of, slot_at};
 
 use super::Tree;
-use bw_chain::FLOOR;
-use bw_key::Memory;
 use bw_page::PageId;
 
 impl Tree {
     ghost use Rattle.bw_tree.specs.Freeing.{HasFreed, MayBeFreed};
-    ghost use Rattle.bw_tree.specs.Identifiers.{IsUnused};
 
     /// Gives back the identifier of a page that stands on no level and to which nothing leads: no page of a level has an index
-    /// entry for it, and it is no removed page's left neighbour. The page's base page is let go. No batch is staged, and it
-    /// takes no memory.
+    /// entry for it, and it is no removed page's left neighbour. The page's base page is let go, and a new page may take the
+    /// identifier, if there is memory to keep it for that. No batch is staged.
     pub fn free(&mut self, page: PageId)
         requires none { self.old.staged ≡ None }
         requires page { MayBeFreed self.old page }
         ensures { HasFreed self.old self.new page }
     {
         self.chains.free_base(page);
+        self.freed.add(page);
     }
 
-    // An identifier for a new page. `Memory` is answered where there are 2^32 pages.
-    pub(super) fn unused(&self) -> Result<PageId, Memory>
-        ensures unused { IfOk result (IsUnused self.now) }
-        ensures few { IfOk result (λ page. page < 2 ^ 32) }
+    /// Whether an identifier is free, as one that was never given out. It costs two walks along the page's chain, and takes no
+    /// memory.
+    pub fn is_free(&self, page: PageId) -> bool
+        ensures { Decides result (slot_at self.now.slots page ≡ Free) }
     {
-        let count = self.heads.len() as u64;
-        if count >= FLOOR {
-            return Err(Memory);
+        if self.low_key(page).is_some() {
+            return false;
         }
-        Ok(PageId(count as u32))
+        self.removed(page).is_none()
+    }
+
+    /// Whether nothing leads to a page: it stands on no level, no page of a level has an index entry for it, and it is no
+    /// removed page's left neighbour. It costs a search, one more for a removed page, and a walk along the chain of each page.
+    /// It takes no memory.
+    pub fn is_unreached(&self, page: PageId) -> bool
+        ensures { Decides result (IsUnreached self.now.slots self.now.levels page) }
+    {
+        self.know_levels();
+        self.know_entries();
+        if self.in_level(page).is_some() {
+            return false;
+        }
+        if self.namer_of_removed(page).is_some() {
+            return false;
+        }
+        !self.is_left(page)
+    }
+
+    // Whether a page is a removed one's left neighbour.
+    fn is_left(&self, page: PageId) -> bool
+        ensures { Decides result ((removed : ℕ) × (left_of self.now.slots removed ≡ Some page)) }
+    {
+        for place in 0..self.heads.len() {
+            if self.is_left_of(page, PageId(place as u32)) {
+                return true;
+            }
+        }
+        false
+    }
+
+    // Whether a page is this removed one's left neighbour.
+    fn is_left_of(&self, page: PageId, removed: PageId) -> bool
+        ensures { Decides result (left_of self.now.slots removed ≡ Some page) }
+    {
+        match self.removed(removed) {
+            Some(left) => left.left == page,
+            None => false,
+        }
     }
 }

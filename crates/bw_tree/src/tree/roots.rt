@@ -54,9 +54,10 @@ impl Tree {
         ensures ok { IfOk result (HasNewRoot self.old self.new) }
         ensures err { OnErr result (self.new ≡ self.old) }
     {
-        let to = self.unused()?;
+        let to = self.freed.unused(&self.chains)?;
         self.heads.reserve(1)?;
         self.chains.add_base(to, Page::Inner(page))?;
+        self.freed.taken(to);
         put_own(&mut self.heads, to);
         self.root = to;
         Ok(to)

@@ -24,9 +24,10 @@ impl Tree {
         ensures err { OnErr result (self.new ≡ self.old) }
     {
         let head = self.heads[page.0 as usize];
-        let to = self.unused()?;
+        let to = self.freed.unused(&self.chains)?;
         self.heads.reserve(1)?;
         let word = self.chains.split(head, keep, to)?;
+        self.freed.taken(to);
         self.heads[page.0 as usize] = word;
         put_own(&mut self.heads, to);
         Ok(to)

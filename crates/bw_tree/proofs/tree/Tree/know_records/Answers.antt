@@ -1,4 +1,6 @@
-use Rattle.std.proofs.Common.{◌<◌, ◌≤◌, ◌^◌, length, slice_index, ap, sym, ◌∙◌, subst}
+use Rattle.std.proofs.Common.{◌≡◌, ◌<◌, ◌≤◌, ◌^◌, length, slice_index, ap, sym, ◌∙◌, subst}
+use Rattle.std.proofs.lemmas.List.{length-map}
+use Rattle.bw_chain.specs.Chains.{slot_of_word}
 use Rattle.bw_chain.specs.Reading.{writes_over}
 use Rattle.bw_chain.specs.Slots.{slot_at}
 use Rattle.bw_tree.specs.Trees.{ArePlaced}
@@ -22,3 +24,7 @@ returns-clause-bare c = λ p low.
 
 pub returns-clause-few : goal.returns-clause-few
 returns-clause-few c = subst (λ (v : TreeView). length v.heads ≤ 2 ^ 32) c.self.view_is c.self.invariant.now.few_pages
+
+pub returns-clause-slots : goal.returns-clause-slots
+returns-clause-slots c =
+    subst (λ (v : TreeView). length v.slots ≡ length v.heads) c.self.view_is (length-map c.self.inside.heads.items (slot_of_word c.self.inside.chains.bases c.self.inside.chains.records))

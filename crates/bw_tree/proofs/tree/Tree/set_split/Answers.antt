@@ -3,6 +3,7 @@ use Rattle.std.proofs.lemmas.List.{get_or_default}
 use Rattle.bw_chain.specs.Placing.{put_at}
 use Rattle.bw_tree.specs.Splits.{IsSplit}
 use Rattle.bw_tree.specs.Trees.{IsTree, view_of}
+use Rattle.bw_tree.proofs.IdentifierLemmas.{unused_on}
 use Rattle.bw_tree.proofs.RoutingLemmas.{page_at_head}
 use Rattle.bw_tree.proofs.SplitLemmas.{in_levels, split_on}
 use Rattle.bw_tree.proofs.tree.Tree.set_split.Goals as goal
@@ -27,7 +28,7 @@ split_now c =
     let at = page_at_head heads bases records c.self.inside.root c.self.inside.next _ c.self.inside.staged c.args.self.now c.args.page c.index-head.result.now c.self.view_is c.self.invariant.now (in_levels c.args.self.now c.args.page c.args.keep c.requires.page) read in
     split_on heads bases records c.self.inside.root c.self.inside.next c.self.inside.staged c.args.self.now c.self.view_is c.requires.none c.self.invariant c.args.page c.args.keep c.requires.page
     c.put_own.new.heads.items c.split.new.self.bases c.split.new.self.records to word c.index-head.result.now
-    c.in_ok-word.ensures.cut c.in_ok-to.ensures.unused c.in_ok-to.ensures.few c.in_ok-word.ensures.few c.in_ok-word.ensures.word (read ∙ get_or_default heads c.args.page c.index-head.result.now 0 at.there)
+    c.in_ok-word.ensures.cut (unused_on c.self.inside.heads.items c.self.inside.chains.bases c.self.inside.chains.records c.self.inside.root c.self.inside.next c.self.inside.staged c.args.self.now c.self.view_is c.self.invariant c.in_ok-to.to c.in_ok-to.ensures.place c.in_ok-to.ensures.vacant) c.in_ok-to.ensures.few c.in_ok-word.ensures.few c.in_ok-word.ensures.word (read ∙ get_or_default heads c.args.page c.index-head.result.now 0 at.there)
     (c.put_own.ensures ∙ ap (λ (h : List ℕ). put_at (set h c.page.inside.0 word) to to) c.in_ok-reserve.ensures.items ∙ ap (λ n. put_at (set heads n word) to to) c.page.view_is)
 
 pub invariant_of-self-2 : goal.invariant_of-self-2

@@ -1,0 +1,26 @@
+// Identifiers that are given back.
+ghost use Rattle.std.specs.Prelude.{◌≡◌, None};
+ghost use Rattle.bw_shape.specs.Releasing.{IsReleaseStep};
+
+use crate::steps::Did;
+use bw_page::PageId;
+use bw_tree::Tree;
+
+/// Gives back the identifier of a page that was removed, or of a root that went: a new page may take it then. It isn't needed
+/// where the identifier is free already, and where something leads to the page: it stands on a level, an index entry of a
+/// page of a level names it, or a page was removed into it whose identifier isn't free. No batch is staged.
+///
+/// It costs some searches, and a walk along the chain of each page.
+pub fn release(tree: &mut Tree, page: PageId) -> Did
+    requires { tree.old.staged ≡ None }
+    ensures { IsReleaseStep tree.old tree.new page result }
+{
+    if tree.is_free(page) {
+        return Did::NotNeeded;
+    }
+    if !tree.is_unreached(page) {
+        return Did::NotNeeded;
+    }
+    tree.free(page);
+    Did::Done
+}

@@ -1,0 +1,87 @@
+// Identifiers that are given back, and new pages that take them.
+ghost use Rattle.std.specs.Prelude.{◌≡◌, None};
+
+use super::making::{consolidate_does, finish_does, five, grow_does, reads_all, split_does};
+use super::merging::{absorb_does, drop_does, forget_does, has_two_pairs, of_two_pairs};
+use super::shapes::has_pages;
+use bw_fixtures::heap;
+use bw_shape::{Did, PageId, Tree, release};
+use std::process::Abort;
+
+// Gives an identifier back, and compares what that did.
+fn release_does<R: Abort>(rt: &R, tree: &mut Tree, page: u32, wanted: Did)
+    requires { tree.old.staged ≡ None }
+    ensures { tree.new.staged ≡ None }
+{
+    assert!(rt; release(tree, PageId(page)) == wanted);
+}
+
+// A leaf that was removed gives its identifier back once no index entry names it, and so does the root that went. The
+// pages that come next take them, the least one first.
+#[test]
+fn new_pages_take_what_was_given_back(rt: HostRuntime) {
+    let alloc = heap(rt.alloc()).expect(&rt, "memory");
+    let mut tree = of_two_pairs(&rt, alloc);
+    absorb_does(&rt, &mut tree, 1, Did::Done);
+    release_does(&rt, &mut tree, 1, Did::NotNeeded);
+    forget_does(&rt, &mut tree, 1, Did::Done);
+    drop_does(&rt, &mut tree, Did::Done);
+    release_does(&rt, &mut tree, 2, Did::Done);
+    release_does(&rt, &mut tree, 1, Did::Done);
+    release_does(&rt, &mut tree, 1, Did::NotNeeded);
+    has_two_pairs(&rt, alloc, &tree);
+    consolidate_does(&rt, &mut tree, 0, Did::Done);
+    split_does(&rt, &mut tree, 0, 1, Did::Done);
+    has_pages(
+        &rt,
+        &tree,
+        &[(0, 0, b"", Some(b"c"), 1, 0), (1, 0, b"c", None, 1, 0)],
+    );
+    grow_does(&rt, &mut tree, Did::Done);
+    assert!(rt; tree.root() == PageId(2));
+    has_two_pairs(&rt, alloc, &tree);
+}
+
+// Pages on levels keep their identifiers, and those that were never given out aren't given back.
+#[test]
+fn pages_on_levels_are_not_given_back(rt: HostRuntime) {
+    let alloc = heap(rt.alloc()).expect(&rt, "memory");
+    let mut tree = of_two_pairs(&rt, alloc);
+    release_does(&rt, &mut tree, 0, Did::NotNeeded);
+    release_does(&rt, &mut tree, 1, Did::NotNeeded);
+    release_does(&rt, &mut tree, 2, Did::NotNeeded);
+    release_does(&rt, &mut tree, 3, Did::NotNeeded);
+    has_two_pairs(&rt, alloc, &tree);
+}
+
+// The leaves 0, 1 and 3 under the root 2, which names all three; 1 and 0 have no record.
+fn three_leaves<R: Abort>(rt: &R, tree: &mut Tree)
+    requires { tree.old.staged ≡ None }
+    ensures { tree.new.staged ≡ None }
+{
+    split_does(rt, tree, 0, 2, Did::Done);
+    grow_does(rt, tree, Did::Done);
+    split_does(rt, tree, 1, 1, Did::Done);
+    finish_does(rt, tree, 1, Did::Done);
+    consolidate_does(rt, tree, 0, Did::Done);
+    consolidate_does(rt, tree, 1, Did::Done);
+}
+
+// A page into which another one was removed is given back after that one.
+#[test]
+fn a_left_neighbour_is_given_back_last(rt: HostRuntime) {
+    let alloc = heap(rt.alloc()).expect(&rt, "memory");
+    let mut tree = five(&rt, alloc);
+    three_leaves(&rt, &mut tree);
+    absorb_does(&rt, &mut tree, 3, Did::Done);
+    consolidate_does(&rt, &mut tree, 1, Did::Done);
+    absorb_does(&rt, &mut tree, 1, Did::Done);
+    forget_does(&rt, &mut tree, 1, Did::Done);
+    release_does(&rt, &mut tree, 1, Did::NotNeeded);
+    release_does(&rt, &mut tree, 3, Did::NotNeeded);
+    forget_does(&rt, &mut tree, 3, Did::Done);
+    release_does(&rt, &mut tree, 1, Did::NotNeeded);
+    release_does(&rt, &mut tree, 3, Did::Done);
+    release_does(&rt, &mut tree, 1, Did::Done);
+    reads_all(&rt, alloc, &tree);
+}

@@ -1,0 +1,77 @@
+// Identifiers that were given back.
+ghost use Rattle.std.specs.Prelude.{◌≡◌, ◌<◌, ◌≤◌, ◌^◌, length, slice_get, IfOk, IfSome};
+ghost use Rattle.bw_chain.specs.Chains.{based};
+ghost use Rattle.bw_chain.specs.Slots.{Free};
+
+use bw_chain::{Chains, FLOOR};
+use bw_key::Memory;
+use bw_memory::Alloc;
+use bw_page::PageId;
+use std::cmp::Reverse;
+use std::collections::BinaryHeap;
+
+/// Identifiers that were given back, the least one first. Each is looked at again before a page takes it: it may have been
+/// taken already.
+#[derive(Debug, Drop)]
+pub(crate) struct Freed {
+    heap: BinaryHeap<Reverse<u32>, Alloc>,
+}
+
+impl Freed {
+    /// None yet. It takes no memory.
+    pub(crate) fn new(alloc: Alloc) -> Freed {
+        Freed {
+            heap: BinaryHeap::new(alloc),
+        }
+    }
+
+    /// One more. Where there is no memory for it, no page takes it again.
+    pub(crate) fn add(&mut self, page: PageId) {
+        let _ = self.heap.push(Reverse(page.0));
+    }
+
+    /// A page has taken this one, which was the answer of the last search for one.
+    pub(crate) fn taken(&mut self, page: PageId) {
+        if self.least() == Some(page) {
+            self.heap.pop();
+        }
+    }
+
+    // The least one.
+    fn least(&self) -> Option<PageId> {
+        let Reverse(least) = self.heap.peek()?;
+        Some(PageId(*least))
+    }
+
+    /// An identifier for a new page: the least one here whose base page is vacant, or else the one behind all others. `Memory`
+    /// is answered where there are 2^32 pages and none is vacant.
+    pub(crate) fn unused(&mut self, chains: &Chains) -> Result<PageId, Memory>
+        ensures place { IfOk result (λ page. page ≤ length chains.now.bases) }
+        ensures vacant { IfOk result (λ page. based (slice_get chains.now.bases page) ≡ Free) }
+        ensures few { IfOk result (λ page. page < 2 ^ 32) }
+    {
+        if let Some(page) = self.vacant(chains) {
+            return Ok(page);
+        }
+        let count = chains.base_count() as u64;
+        if count >= FLOOR {
+            return Err(Memory);
+        }
+        Ok(PageId(count as u32))
+    }
+
+    // The least one whose base page is vacant. Those before it are let go.
+    fn vacant(&mut self, chains: &Chains) -> Option<PageId>
+        ensures place { IfSome result (λ page. page < length chains.now.bases) }
+        ensures vacant { IfSome result (λ page. based (slice_get chains.now.bases page) ≡ Free) }
+    {
+        while let Some(Reverse(least)) = self.heap.peek() {
+            let page = PageId(*least);
+            if (page.0 as usize) < chains.base_count() && chains.is_vacant(page) {
+                return Some(page);
+            }
+            self.heap.pop();
+        }
+        None
+    }
+}
