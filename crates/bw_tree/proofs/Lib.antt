@@ -37,5 +37,6 @@ pub mod DropLemmas
 pub mod LoweringLemmas
 pub mod FreeLemmas
 pub mod IdentifierLemmas
+pub mod LeftLemmas
 pub mod UnreachedLemmas
 pub mod RemovedLemmas

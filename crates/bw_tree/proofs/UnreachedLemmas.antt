@@ -15,7 +15,7 @@ use Rattle.bw_chain.specs.Slots.{Slot, Free, Gone, Live, left_of, left_of_slot, 
 use Rattle.bw_chain.specs.Steps.{IsTerm}
 use Rattle.bw_chain.specs.Walk.{Leads}
 use Rattle.bw_chain.proofs.StepLemmas.{child_there}
-use Rattle.bw_tree.specs.Merges.{IsNamedNoMore, StillNames}
+use Rattle.bw_tree.specs.Merges.{HasNoNamerOfRemoved, IsNamerOfRemoved}
 use Rattle.bw_tree.specs.Routing.{IsInLevel, IsInNoLevel}
 use Rattle.bw_tree.specs.View.{TreeView}
 
@@ -68,7 +68,7 @@ different e = cc
 
 module _ (tree : TreeView) (lawful : AreLevels tree.slots tree.root tree.levels) (exact : AreExact tree.slots tree.levels) (p : ℕ) where
   -- a child of a page of a level is a page of the level below, or a removed one that is named where it began
-  term_there : (n : ℕ) (k : KeyBytes) → suc n < length tree.levels → IsTerm tree.slots tree.levels n k p → IsInNoLevel tree p → IsNamedNoMore tree p → ⊥
+  term_there : (n : ℕ) (k : KeyBytes) → suc n < length tree.levels → IsTerm tree.slots tree.levels n k p → IsInNoLevel tree p → HasNoNamerOfRemoved tree p → ⊥
   term_there n k lt term off unnamed = by (slot_at tree.slots p) refl
     where
       leads : LeadsBelow tree.slots (row tree.levels n) k p
@@ -92,7 +92,7 @@ module _ (tree : TreeView) (lawful : AreLevels tree.slots tree.root tree.levels)
                 (subst (λ (key : KeyBytes). HasChildAt (Live term.state) key p) (sym began.0) term.named);
           })
 
-  pub unreached : IsInNoLevel tree p → IsNamedNoMore tree p → ((q : ℕ) → left_of tree.slots q ≡ Some p → ⊥) → IsUnreached tree.slots tree.levels p
+  pub unreached : IsInNoLevel tree p → HasNoNamerOfRemoved tree p → ((q : ℕ) → left_of tree.slots q ≡ Some p → ⊥) → IsUnreached tree.slots tree.levels p
   unreached off unnamed left = record {
     stands = λ on. off on.level (on.within, on.in_level);
     named = λ n k lt term. term_there n k lt term off unnamed;
@@ -100,7 +100,7 @@ module _ (tree : TreeView) (lawful : AreLevels tree.slots tree.root tree.levels)
   }
 
   -- what is still named isn't unreached
-  pub named_still : (parent : ℕ) → StillNames tree p parent → IsUnreached tree.slots tree.levels p → ⊥
+  pub named_still : (parent : ℕ) → IsNamerOfRemoved tree p parent → IsUnreached tree.slots tree.levels p → ⊥
   named_still parent still gone = by (slot_at tree.slots parent) refl still.named
     where
       by : (o : Slot) → slot_at tree.slots parent ≡ o → HasChildAt o still.removed.low p → ⊥
@@ -109,11 +109,11 @@ module _ (tree : TreeView) (lawful : AreLevels tree.slots tree.root tree.levels)
       by (Live s) is named = gone.named still.removed.level still.removed.low still.above.0 (record { page = parent; in_level = still.above.1; state = s; is = is; named = named })
 
   -- by what a search for its name answers
-  pub named_some : (o : Option ℕ) → is_some o ≡ true → MatchOption o (IsNamedNoMore tree p) (StillNames tree p) → IsUnreached tree.slots tree.levels p → ⊥
+  pub named_some : (o : Option ℕ) → is_some o ≡ true → MatchOption o (HasNoNamerOfRemoved tree p) (IsNamerOfRemoved tree p) → IsUnreached tree.slots tree.levels p → ⊥
   named_some None some answer gone = different (sym some)
   named_some (Some parent) some answer gone = named_still parent answer gone
 
-  pub named_none : (o : Option ℕ) → is_some o ≡ false → MatchOption o (IsNamedNoMore tree p) (StillNames tree p) → IsNamedNoMore tree p
+  pub named_none : (o : Option ℕ) → is_some o ≡ false → MatchOption o (HasNoNamerOfRemoved tree p) (IsNamerOfRemoved tree p) → HasNoNamerOfRemoved tree p
   named_none None none answer = answer
   named_none (Some parent) none answer = absurd (different none)
 

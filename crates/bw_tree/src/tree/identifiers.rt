@@ -33,8 +33,8 @@ impl Tree {
     }
 
     /// Whether nothing leads to a page: it stands on no level, no page of a level has an index entry for it, and it is no
-    /// removed page's left neighbour. It costs a search, one more for a removed page, and a walk along the chain of each page.
-    /// It takes no memory.
+    /// removed page's left neighbour. It costs a search, one more for a removed page, and a look at each removed page whose
+    /// identifier isn't given back. It takes no memory.
     pub fn is_unreached(&self, page: PageId) -> bool
         ensures { Decides result (IsUnreached self.now.slots self.now.levels page) }
     {
@@ -53,21 +53,6 @@ impl Tree {
     fn is_left(&self, page: PageId) -> bool
         ensures { Decides result ((removed : ℕ) × (left_of self.now.slots removed ≡ Some page)) }
     {
-        for place in 0..self.heads.len() {
-            if self.is_left_of(page, PageId(place as u32)) {
-                return true;
-            }
-        }
-        false
-    }
-
-    // Whether a page is this removed one's left neighbour.
-    fn is_left_of(&self, page: PageId, removed: PageId) -> bool
-        ensures { Decides result (left_of self.now.slots removed ≡ Some page) }
-    {
-        match self.removed(removed) {
-            Some(left) => left.left == page,
-            None => false,
-        }
+        self.chains.is_left(page)
     }
 }

@@ -1,0 +1,10 @@
+use Rattle.std.proofs.Common.{ℕ, Some, ◌≡◌, Decides, subst}
+use Rattle.bw_chain.specs.Slots.{left_of}
+use Rattle.bw_tree.specs.View.{TreeView}
+use Rattle.bw_tree.proofs.LeftLemmas.{decides_left}
+use Rattle.bw_tree.proofs.tree.Tree.is_left.Goals as goal
+
+pub returns : goal.returns
+returns c =
+    subst (λ (v : TreeView). Decides c.is_left.result ((q : ℕ) × (left_of v.slots q ≡ Some c.args.page))) c.self.view_is
+    (decides_left c.self.inside.heads.items c.self.inside.chains.bases c.self.inside.chains.records c.self.invariant.now.own c.args.page c.is_left.result c.is_left.ensures)
