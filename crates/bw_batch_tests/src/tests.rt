@@ -2,6 +2,7 @@
 // texts, and which pages the tree below has.
 mod batches;
 mod gates;
+mod merges;
 mod options;
 mod refusals;
 mod running;

@@ -27,7 +27,7 @@ pub struct Due {
     later: Vec<PageId, Alloc>,
     // the leaf that was consolidated where tidying stopped before it was split or merged, if need be
     begun: Option<PageId>,
-    // the page behind which tidying stopped before its new right neighbours were named, or before its own name was dropped
+    // where tidying stopped: the page whose new right neighbours may not be named yet, or the removed one that may be still
     unfinished: Option<PageId>,
 }
 

@@ -16,12 +16,13 @@ use bw_key::Memory;
 use bw_page::PageId;
 use bw_tree::Tree;
 
-/// Looks at all pages, as `tidy_due` does at those that are due. Before that each merge is finished, a root that was split gets
-/// a root above it, and each split is finished, level by level from the leaves up. No batch is staged.
+/// Looks at all pages, as `tidy_due` does at those that are due. Before that each merge is finished, a root that was split
+/// gets a root above it, and each split is finished, level by level from the leaves up. No batch is staged.
 ///
-/// It costs a look at each mapping word, the list of all pages twice, two searches for each, and for each inner page some for
-/// each level below it; each merge and each split that it finishes copies the children of the page above. At the first `Memory` it stops, and the tree holds the same. Where it doesn't stop, no leaf is over a limit,
-/// and so none has more than `page_max` and `chain_max` pairs together.
+/// It costs a look at each mapping word, the list of all pages twice, two searches for each, and for each inner page some
+/// for each level below it; each merge and each split that it finishes copies the children of the page above. At the first
+/// `Memory` it stops, and the tree holds the same. Where it doesn't stop, no leaf is over a limit, and so none has more than
+/// `page_max` and `chain_max` pairs together.
 pub fn tidy(tree: &mut Tree, limits: &Limits) -> Tidy
     requires { tree.old.staged ≡ None }
     ensures holds { HoldsAll tree.old tree.new }

@@ -8,8 +8,8 @@ use bw_memory::Alloc;
 use std::process::Abort;
 use std::thread::Threads;
 
-// Runs a batch, and answers what tidying behind it did.
-fn run<R: Abort + Threads + Sync>(
+/// Runs a batch, and answers what tidying behind it did.
+pub fn run<R: Abort + Threads + Sync>(
     rt: &R,
     alloc: Alloc,
     index: &mut Index,
@@ -56,14 +56,14 @@ fn limited<R: Abort>(
     Index::new(alloc, options).expect(rt, "an index")
 }
 
-// One write in a chain, and four pairs on a page.
-fn small_pages<R: Abort>(rt: &R, alloc: Alloc) -> Index {
+/// An empty index of small pages: one write in a chain, four pairs on a page, and a page without pairs is merged.
+pub fn small_pages<R: Abort>(rt: &R, alloc: Alloc) -> Index {
     limited(rt, alloc, (1, 4), (65536, 1048576))
 }
 
-// A page as it is listed: its identifier and level, where its range begins and ends, and how many pairs or children and
-// writes it has.
-type Listed = (u32, u32, &'static str, Option<&'static str>, usize, usize);
+/// A page as it is listed: its identifier and level, where its range begins and ends, and how many pairs or children and
+/// writes it has.
+pub type Listed = (u32, u32, &'static str, Option<&'static str>, usize, usize);
 
 // Whether a range has this end, or none.
 fn is_end(end: Option<&Key>, text: Option<&'static str>) -> bool {
@@ -84,8 +84,8 @@ fn is_listed(page: &PageShape, (id, level, low, high, pairs, writes): Listed) ->
         && page.writes == writes
 }
 
-// Compares the pages of an index's tree.
-fn has_pages<R: Abort>(rt: &R, index: &Index, expected: &[Listed]) {
+/// Compares the pages of an index's tree.
+pub fn has_pages<R: Abort>(rt: &R, index: &Index, expected: &[Listed]) {
     let shape = index.tree().shape().expect(rt, "memory");
     assert_eq!(rt; shape.len(), expected.len());
     for (page, row) in shape.iter().zip(expected) {
@@ -107,8 +107,8 @@ fn letters<R: Abort>(rt: &R, alloc: Alloc, count: usize) -> Vec<Op, Alloc> {
     ops
 }
 
-// Inserts the first letters, and answers what tidying behind them did.
-fn insert<R: Abort + Threads + Sync>(
+/// Inserts the first letters, and answers what tidying behind them did.
+pub fn insert<R: Abort + Threads + Sync>(
     rt: &R,
     alloc: Alloc,
     index: &mut Index,
@@ -143,7 +143,8 @@ fn insert_letters<R: Abort + Threads + Sync>(
     assert_eq!(rt; index.tree().heads().len(), expected.len());
 }
 
-const FIVE: &[Listed] = &[
+/// What five letters make.
+pub const FIVE: &[Listed] = &[
     (0, 0, "", Some("c"), 2, 0),
     (1, 0, "c", None, 3, 0),
     (2, 1, "", None, 2, 0),

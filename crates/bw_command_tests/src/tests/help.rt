@@ -56,8 +56,6 @@ A key has 0 to 64 bytes. It is spelled by letters, digits, _, . and -, or by % a
 hexadecimal digits for each byte; % alone is the empty key. A value is a number up to
 18446744073709551615. Behind a first line `bw 2` it has 0 to 1024 bytes, spelled as a key.
 
---page-min has no effect yet: no page is merged.
-
 Try it:
   printf 'upsert apple 7\\nget apple\\n' | bw_run run
   bw_run picture trace > tree.svg

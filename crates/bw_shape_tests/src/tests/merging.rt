@@ -5,11 +5,12 @@ use super::making::{
     FLOOR, consolidate_does, finds, finish_does, five, grow_does, split_does, stands,
 };
 use super::shapes::has_pages;
+use super::tidying::{did, four_pairs};
 use bw_fixtures::{are, heap, key};
 use bw_memory::Alloc;
 use bw_model::Pairs;
 use bw_page::Leaf;
-use bw_shape::{Did, Memory, PageId, Tree, absorb, drop_root, finish_absorb};
+use bw_shape::{Did, Memory, PageId, Tree, absorb, drop_root, finish_absorb, tidy};
 use std::process::Abort;
 
 /// Merges a page into its left neighbour, and compares what that did.
@@ -111,6 +112,17 @@ fn two_leaves_become_one(rt: HostRuntime) {
         &tree,
         &[(0, 0, b"", Some(b"c"), 1, 0), (3, 0, b"c", None, 1, 0)],
     );
+    has_two_pairs(&rt, alloc, &tree);
+}
+
+// A merge was left where the page above still names the leaf. Tidying all pages finishes it, and the root goes.
+#[test]
+fn a_merge_that_was_left_is_finished(rt: HostRuntime) {
+    let alloc = heap(rt.alloc()).expect(&rt, "memory");
+    let mut tree = of_two_pairs(&rt, alloc);
+    absorb_does(&rt, &mut tree, 1, Did::Done);
+    assert!(rt; tidy(&mut tree, &four_pairs()) == did(0, 0));
+    has_pages(&rt, &tree, &[(0, 0, b"", None, 2, 0)]);
     has_two_pairs(&rt, alloc, &tree);
 }
 

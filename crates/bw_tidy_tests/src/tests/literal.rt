@@ -18,8 +18,8 @@ pub struct PlainPage {
     pub writes: usize,
     // a leaf's pairs without those writes
     base: usize,
-    // whether a split stands in its chain
-    is_split: bool,
+    // whether a split or a merge stands in its chain
+    is_changed: bool,
 }
 
 // One leaf without pairs.
@@ -30,7 +30,7 @@ const EMPTY: PlainPage = PlainPage {
     high: None,
     writes: 0,
     base: 0,
-    is_split: false,
+    is_changed: false,
 };
 
 // Tidying takes fewer looks at pages.
@@ -54,11 +54,14 @@ fn number_of(key: &Key) -> u8 {
 pub struct PlainTree {
     chain_max: usize,
     page_max: usize,
+    page_min: usize,
     record_max: usize,
     // the keys that have a value, in their order
     keys: Vec<u8, Alloc>,
     // the leaves from left to right, and behind them the pages of each level above
     pages: Vec<PlainPage, Alloc>,
+    // how many identifiers were given out
+    identifiers: usize,
     counts: Tidy,
     // the records and the stamps since the last sweep
     records: usize,
@@ -73,6 +76,7 @@ impl PlainTree {
         alloc: Alloc,
         chain_max: usize,
         page_max: usize,
+        page_min: usize,
         record_max: usize,
     ) -> PlainTree {
         let mut pages = Vec::new(alloc);
@@ -80,9 +84,11 @@ impl PlainTree {
         PlainTree {
             chain_max,
             page_max,
+            page_min,
             record_max,
             keys: Vec::new(alloc),
             pages,
+            identifiers: 1,
             counts: Tidy::default(),
             records: 0,
             stamps: 0,
@@ -95,7 +101,13 @@ impl PlainTree {
         &self.pages
     }
 
-    /// How many records there are: one for each write, each split and each index entry since the last sweep.
+    /// How many identifiers were given out.
+    pub fn identifiers(&self) -> usize {
+        self.identifiers
+    }
+
+    /// How many records there are since the last sweep: one for each write, each split, each index entry and each that went,
+    /// and two for each merge.
     pub fn records(&self) -> usize {
         self.records
     }
@@ -178,7 +190,7 @@ impl PlainTree {
         let bare = PlainPage {
             base: entries,
             writes: 0,
-            is_split: false,
+            is_changed: false,
             ..*page
         };
         assert!(rt; place < self.pages.len());
@@ -210,12 +222,13 @@ impl PlainTree {
     }
 
     /// Tidies, and answers what that did. The halves of a page that is split stand in its place, so they are looked at next,
-    /// and inner pages stand behind all pages below them.
+    /// and inner pages stand behind all pages below them. A page that is merged leaves its place to the next one.
     pub fn tidy<R: Abort>(&mut self, rt: &R) -> Tidy {
         self.counts = Tidy::default();
         let mut place = 0usize;
         for _ in 0..LOOKS {
             let Some(page) = self.pages.get(place).copied() else {
+                self.lower(rt);
                 return self.counts;
             };
             if !self.look(rt, place, &page) {
@@ -225,29 +238,103 @@ impl PlainTree {
         panic!(rt; "tidying goes on and on")
     }
 
-    // Looks at the page at a place. Whether it was over a limit.
+    // Drops the root, the last page, while it has one child alone.
+    fn lower<R: Abort>(&mut self, rt: &R) {
+        for _ in 0..LOOKS {
+            let root = self.pages.last().copied().expect(rt, "a root");
+            if root.level == 0 || self.count_entries(rt, &root) > 1 {
+                return;
+            }
+            self.pages.pop();
+        }
+    }
+
+    // Looks at the page at a place. Whether another page stands there now, which is to be looked at.
     fn look<R: Abort>(&mut self, rt: &R, place: usize, page: &PlainPage) -> bool {
         let entries = self.entries(rt, page);
-        if !self.is_over(page, entries.len()) {
+        if !self.is_due(page) {
             return false;
         }
-        if page.level == 0 && (page.writes > 0 || page.is_split) {
-            self.counts.consolidated = self.counts.consolidated.saturating_add(1);
-        }
+        self.count_consolidated(page);
         if entries.len() > self.page_max {
             self.split(rt, place, page, &entries);
             return true;
         }
-        self.bare(rt, place, page, entries.len());
+        if page.level == 0 {
+            self.bare(rt, place, page, entries.len());
+        }
+        entries.len() < self.page_min && self.merge(rt, place, page, entries.len())
+    }
+
+    // A page is consolidated, which counts where it is a leaf and has records.
+    fn count_consolidated(&mut self, page: &PlainPage) {
+        if page.level == 0 && (page.writes > 0 || page.is_changed) {
+            self.counts.consolidated = self.counts.consolidated.saturating_add(1);
+        }
+    }
+
+    // Whether a page is due, as each inner page is.
+    fn is_due(&self, page: &PlainPage) -> bool {
+        match page.level {
+            0 => page.writes > self.chain_max || page.base > self.page_max,
+            _ => true,
+        }
+    }
+
+    // The page left of a place that one page of the level above names together with the page there.
+    fn sibling(&self, place: usize, page: &PlainPage) -> Option<PlainPage> {
+        let left = self.pages.get(place.checked_sub(1)?).copied()?;
+        let parent = self.parent(page)?;
+        if left.level == page.level && is_in(&parent, left.low) {
+            return Some(left);
+        }
+        None
+    }
+
+    // The page of the level above that names a page.
+    fn parent(&self, page: &PlainPage) -> Option<PlainPage> {
+        for above in &self.pages {
+            if above.level == page.level.saturating_add(1) && is_in(above, page.low) {
+                return Some(*above);
+            }
+        }
+        None
+    }
+
+    // Merges the page at a place, which has so many entries, into the one before it, if it may be. Whether it was.
+    fn merge<R: Abort>(
+        &mut self,
+        rt: &R,
+        place: usize,
+        page: &PlainPage,
+        entries: usize,
+    ) -> bool {
+        let Some(left) = self.sibling(place, page) else {
+            return false;
+        };
+        let base = self.count_entries(rt, &left).saturating_add(entries);
+        if base > self.page_max {
+            return false;
+        }
+        self.count_consolidated(&left);
+        let joined = PlainPage {
+            high: page.high,
+            writes: 0,
+            base,
+            is_changed: true,
+            ..left
+        };
+        self.join(rt, place, joined);
+        self.counts.merges = self.counts.merges.saturating_add(1);
+        self.records = self.records.saturating_add(3);
         true
     }
 
-    // Whether a page with so many entries is over a limit.
-    fn is_over(&self, page: &PlainPage, entries: usize) -> bool {
-        match page.level {
-            0 => page.writes > self.chain_max || page.base > self.page_max,
-            _ => entries > self.page_max,
-        }
+    // Puts a page in the place of two, the second of which stood at this place.
+    fn join<R: Abort>(&mut self, rt: &R, place: usize, joined: PlainPage) {
+        assert!(rt; place > 0 && place < self.pages.len());
+        self.pages.remove(place);
+        self.pages[place - 1] = joined;
     }
 
     // Splits a page in the middle of its entries.
@@ -258,17 +345,18 @@ impl PlainTree {
             high: Some(middle),
             writes: 0,
             base: keep,
-            is_split: true,
+            is_changed: true,
             ..*page
         };
         let right = PlainPage {
-            page: self.pages.len(),
+            page: self.identifiers,
             low: middle,
             writes: 0,
             base: entries.len() - keep,
-            is_split: false,
+            is_changed: false,
             ..*page
         };
+        self.identifiers = self.identifiers.saturating_add(1);
         self.part(rt, place, left, right);
         self.counts.splits = self.counts.splits.saturating_add(1);
         self.records = self.records.saturating_add(1);
@@ -284,10 +372,11 @@ impl PlainTree {
             return;
         }
         let root = PlainPage {
-            page: self.pages.len(),
+            page: self.identifiers,
             level: left.level.saturating_add(1),
             ..EMPTY
         };
+        self.identifiers = self.identifiers.saturating_add(1);
         self.pages.push(root).expect(rt, "memory");
     }
 }

@@ -44,7 +44,7 @@ fn same_shape<R: Abort>(rt: &R, shape: &[PageShape], plain: &PlainTree) {
 pub fn same_pages<R: Abort>(rt: &R, index: &Index, plain: &PlainTree) {
     let shape = index.tree().shape().expect(rt, "memory");
     same_shape(rt, &shape, plain);
-    assert_eq!(rt; index.tree().heads().len(), plain.pages().len());
+    assert_eq!(rt; index.tree().heads().len(), plain.identifiers());
     assert_eq!(rt; index.tree().records(), plain.records());
     assert_eq!(rt; index.tree().next_stamp(), plain.stamps() as u64);
 }

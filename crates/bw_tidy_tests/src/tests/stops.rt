@@ -28,7 +28,7 @@ fn empty<R: Abort>(rt: &R, make: &Maker<R>) -> Compared {
     let options = Options::new(1, 64, 1, 4, 0, 64, 1048576).expect(rt, "options");
     Compared {
         index: Index::new(make.alloc, options).expect(rt, "an index"),
-        plain: PlainTree::new(rt, make.alloc, 1, 4, 1048576),
+        plain: PlainTree::new(rt, make.alloc, 1, 4, 0, 1048576),
     }
 }
 

@@ -10,7 +10,10 @@ use std::process::Abort;
 use std::thread::Threads;
 
 // How many batches there are.
-const BATCHES: u64 = 60;
+const BATCHES: u64 = 80;
+
+// How many of them in a row grow the index, before as many shrink it.
+const ROW: u64 = 20;
 
 // How many keys.
 const KEYS: usize = 200;
@@ -43,9 +46,12 @@ fn drawn_most(random: &mut Random) -> u64 {
     random.below(40) as u64
 }
 
-// An operation that is drawn.
-fn draw<R: Abort>(make: &Maker<R>, random: &mut Random) -> Op {
+// An operation that is drawn: mostly a delete, where the index is to shrink.
+fn draw<R: Abort>(make: &Maker<R>, random: &mut Random, shrinks: bool) -> Op {
     let key = drawn_key(random);
+    if shrinks && random.below(4) > 0 {
+        return make.delete(key);
+    }
     match random.below(12) {
         0 => make.get(key),
         1 => make.scan(key, drawn_end(random), drawn_most(random)),
@@ -59,17 +65,59 @@ fn draw<R: Abort>(make: &Maker<R>, random: &mut Random) -> Op {
 }
 
 // A batch of 1 to 12 operations that are drawn, or of 100.
-fn batch<R: Abort>(rt: &R, make: &Maker<R>, random: &mut Random) -> Vec<Op, Alloc> {
+fn batch<R: Abort>(
+    rt: &R,
+    make: &Maker<R>,
+    random: &mut Random,
+    shrinks: bool,
+) -> Vec<Op, Alloc> {
     let len = match random.below(10) {
         0 => LONGEST,
         _ => random.below(12) + 1,
     };
     let mut ops = Vec::new(make.alloc);
     for _ in 0..len {
-        ops.push(draw(make, random)).expect(rt, "memory");
+        ops.push(draw(make, random, shrinks)).expect(rt, "memory");
     }
     ops
 }
+
+// Limits of pages.
+#[derive(Clone, Copy)]
+struct Sizes {
+    chain_max: u64,
+    page_max: u64,
+    page_min: u64,
+}
+
+// With one write in a chain and four pairs no page is merged, or an empty one, or one of one pair.
+const SPLIT: Sizes = Sizes {
+    chain_max: 1,
+    page_max: 4,
+    page_min: 0,
+};
+const EMPTY: Sizes = Sizes {
+    chain_max: 1,
+    page_max: 4,
+    page_min: 1,
+};
+const SMALL: Sizes = Sizes {
+    chain_max: 1,
+    page_max: 4,
+    page_min: 2,
+};
+
+// With three writes in a chain.
+const LONG_SPLIT: Sizes = Sizes {
+    chain_max: 3,
+    page_max: 5,
+    page_min: 0,
+};
+const LONG: Sizes = Sizes {
+    chain_max: 3,
+    page_max: 6,
+    page_min: 3,
+};
 
 // An index, the plain program that tidies, and the one that answers.
 #[derive(Drop)]
@@ -84,18 +132,28 @@ fn empty<R: Abort>(
     rt: &R,
     make: &Maker<R>,
     workers: u64,
-    chain_max: u64,
-    page_max: u64,
+    limits: Sizes,
     record_max: u64,
 ) -> Compared {
+    let Sizes {
+        chain_max,
+        page_max,
+        page_min,
+    } = limits;
     let batch_max = LONGEST as u64;
-    let options = Options::new(workers, 1, chain_max, page_max, 0, batch_max, record_max).expect(
-        rt, "options",
+    let options = Options::new(
+        workers, 1, chain_max, page_max, page_min, batch_max, record_max,
     );
-    let (chain_max, page_max) = (chain_max as usize, page_max as usize);
     Compared {
-        index: Index::new(make.alloc, options).expect(rt, "an index"),
-        plain: PlainTree::new(rt, make.alloc, chain_max, page_max, record_max as usize),
+        index: Index::new(make.alloc, options.expect(rt, "options")).expect(rt, "an index"),
+        plain: PlainTree::new(
+            rt,
+            make.alloc,
+            chain_max as usize,
+            page_max as usize,
+            page_min as usize,
+            record_max as usize,
+        ),
         map: ReferenceMap::new(make.alloc),
     }
 }
@@ -113,69 +171,90 @@ fn same_replies<R: Abort>(rt: &R, map: &mut ReferenceMap, ops: &[Op], replies: &
     same(rt, replies, expected.as_slice());
 }
 
-// Runs a batch by all, and compares the replies, what tidying did, the pages and the pairs.
-fn run<R: Abort + Threads + Sync>(rt: &R, all: &mut Compared, ops: &[Op]) {
+// Runs a batch by all, and compares the replies, what tidying did, the pages and the pairs. How many pages were merged.
+fn run<R: Abort + Threads + Sync>(rt: &R, all: &mut Compared, ops: &[Op]) -> u64 {
     let done = all.index.run(rt, ops, &OpenGate).expect(rt, "memory");
     same_replies(rt, &mut all.map, ops, done.replies.as_slice());
     all.plain.run(rt, ops);
     assert!(rt; done.tidy == all.plain.tidy(rt));
     same_pages(rt, &all.index, &all.plain);
     same_pairs(rt, &all.index, &all.map);
+    done.tidy.merges
 }
 
-// Runs batches that are drawn by all.
-fn run_all<R: Abort + Threads + Sync>(rt: &R, make: &Maker<R>, all: &mut Compared) {
+// What was seen along the batches.
+#[derive(Clone, Copy)]
+struct Seen {
+    merges: u64,
+    // the most pages at once
+    pages: usize,
+}
+
+// Runs batches that are drawn by all. In turn many of them grow the index, and as many shrink it.
+fn run_all<R: Abort + Threads + Sync>(rt: &R, make: &Maker<R>, all: &mut Compared) -> Seen {
     let mut random = Random::new(20130408);
-    for _ in 0..BATCHES {
-        let ops = batch(rt, make, &mut random);
-        run(rt, all, &ops);
+    let mut seen = Seen {
+        merges: 0,
+        pages: 0,
+    };
+    for number in 0..BATCHES {
+        let ops = batch(rt, make, &mut random, number / ROW % 2 == 1);
+        seen.merges = seen.merges.saturating_add(run(rt, all, &ops));
+        seen.pages = seen.pages.max(all.plain.pages().len());
     }
-    assert!(rt; all.plain.pages().len() > 30);
+    seen
 }
 
-// Runs batches with these limits on writes and pairs, by one worker and by four.
-fn compare<R: Abort + Threads + Sync>(rt: &R, make: &Maker<R>, chain_max: u64, page_max: u64) {
+// Runs batches with these limits, by one worker and by four, without sweeps, and with sweeps between them. Pages are merged,
+// if they are to be.
+fn compare<R: Abort + Threads + Sync>(rt: &R, make: &Maker<R>, limits: Sizes, record_max: u64) {
     for workers in [1u64, 4] {
-        let mut all = empty(rt, make, workers, chain_max, page_max, AMPLE);
-        run_all(rt, make, &mut all);
-        assert_eq!(rt; all.plain.sweeps(), 0);
-    }
-}
-
-// The same with sweeps between them.
-fn compare_swept<R: Abort + Threads + Sync>(
-    rt: &R,
-    make: &Maker<R>,
-    chain_max: u64,
-    page_max: u64,
-) {
-    for workers in [1u64, 4] {
-        let mut all = empty(rt, make, workers, chain_max, page_max, FEW);
-        run_all(rt, make, &mut all);
-        assert!(rt; all.plain.sweeps() > 2);
+        let mut all = empty(rt, make, workers, limits, record_max);
+        let seen = run_all(rt, make, &mut all);
+        assert!(rt; seen.pages > 30);
+        assert!(rt; seen.merges > 20 || limits.page_min == 0);
+        assert!(rt; (all.plain.sweeps() > 2) == (record_max == FEW));
     }
 }
 
 #[test]
 fn small_pages_are_split_as_by_the_plain_program(rt: HostRuntime) {
     let make = Maker::new(&rt, rt.alloc());
-    compare(&rt, &make, 1, 4);
+    compare(&rt, &make, SPLIT, AMPLE);
 }
 
 #[test]
 fn chains_stay_and_pages_are_split_as_by_the_plain_program(rt: HostRuntime) {
     let make = Maker::new(&rt, rt.alloc());
-    compare(&rt, &make, 3, 5);
+    compare(&rt, &make, LONG_SPLIT, AMPLE);
 }
 
 #[test]
-fn small_pages_are_split_as_by_the_plain_program_among_sweeps(rt: HostRuntime) {
+fn empty_pages_are_merged_as_by_the_plain_program(rt: HostRuntime) {
     let make = Maker::new(&rt, rt.alloc());
-    compare_swept(&rt, &make, 1, 4);
+    compare(&rt, &make, EMPTY, AMPLE);
 }
 
 #[test]
-fn chains_stay_and_pages_are_split_as_by_the_plain_program_among_sweeps(rt: HostRuntime) {
+fn small_pages_are_merged_as_by_the_plain_program(rt: HostRuntime) {
     let make = Maker::new(&rt, rt.alloc());
-    compare_swept(&rt, &make, 3, 5);
+    compare(&rt, &make, SMALL, AMPLE);
+}
+
+#[test]
+fn chains_stay_and_pages_are_merged_as_by_the_plain_program(rt: HostRuntime) {
+    let make = Maker::new(&rt, rt.alloc());
+    compare(&rt, &make, LONG, AMPLE);
+}
+
+#[test]
+fn small_pages_are_merged_as_by_the_plain_program_among_sweeps(rt: HostRuntime) {
+    let make = Maker::new(&rt, rt.alloc());
+    compare(&rt, &make, SMALL, FEW);
+}
+
+#[test]
+fn chains_stay_and_pages_are_merged_as_by_the_plain_program_among_sweeps(rt: HostRuntime) {
+    let make = Maker::new(&rt, rt.alloc());
+    compare(&rt, &make, LONG, FEW);
 }
