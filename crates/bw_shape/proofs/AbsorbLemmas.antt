@@ -17,7 +17,8 @@ use Rattle.bw_chain.specs.Splits.{slot_entries}
 use Rattle.bw_chain.proofs.AboveLemmas.{own_level}
 use Rattle.bw_tree.specs.Consolidation.{IsConsolidated, IsRebased, consolidated_leaf}
 use Rattle.bw_tree.specs.Making.{leaf_slot}
-use Rattle.bw_tree.specs.Merges.{HasLostChild, HasMerged}
+use Rattle.bw_tree.specs.Freeing.{HasFreed, MayBeFreed}
+use Rattle.bw_tree.specs.Merges.{HasLostChild, HasMerged, MayMerge}
 use Rattle.bw_tree.specs.Pages.{IsLeft}
 use Rattle.bw_tree.specs.Routing.{IsInLevel}
 use Rattle.bw_tree.specs.Shapes.{pairs_on}
@@ -25,7 +26,8 @@ use Rattle.bw_tree.specs.View.{TreeView, contents_at}
 use Rattle.bw_tree.proofs.NeighbourLemmas.{one_left}
 use Rattle.bw_tree.proofs.PageLemmas.{lowest_leaf}
 use Rattle.bw_shape.specs.Limits.{LimitsView, AreWithinBut, IsWithin}
-use Rattle.bw_shape.specs.Merges.{HasLoweredRoot, IsAbsorptionStep, IsForgettingStep, IsLoweringStep, MayBeAbsorbed}
+use Rattle.bw_shape.specs.Releasing.{IsReleaseStep}
+use Rattle.bw_shape.specs.Merges.{HasLoweredRoot, IsAbsorptionFinishStep, IsAbsorptionStep, IsLoweringStep}
 use Rattle.bw_shape.specs.Steps.{HasLostChain, IsConsolidationStep, IsSameOver}
 use Rattle.bw_shape.specs.Sweeps.{HoldsSame}
 use Rattle.bw_shape.specs.Tidying.{HoldsAll, KeepsWithin}
@@ -73,7 +75,7 @@ joined_within limits (Children level children) (Pairs pairs writes) bare few = (
 joined_within limits (Children level children) (Children other more) bare few = (omega arith, omega arith)
 
 -- the next page was absorbed by its left neighbour
-module _ (old new : TreeView) (page q : ℕ) (m : MayBeAbsorbed old page q) (h : HasMerged old new q page) where
+module _ (old new : TreeView) (page q : ℕ) (m : MayMerge old q page) (h : HasMerged old new q page) where
   pub holds_merged : HoldsAll old new
   holds_merged = record { contents = held_at old new h.next h.contents; next = h.next; records = omega (arith, h.records); staged = h.staged }
 
@@ -92,8 +94,7 @@ module _ (old new : TreeView) (page q : ℕ) (m : MayBeAbsorbed old page q) (h :
       where
         before : Contains (row old.levels 0) r
         before =
-            let on = m.left.0 in
-            was_leaf old.levels on.level page r on.within (subst (λ (l : List (List ℕ)). Contains (row l 0) r) (h.levels on.level on.within on.in_level) leaf)
+            was_leaf old.levels m.level page r m.within (subst (λ (l : List (List ℕ)). Contains (row l 0) r) (h.levels m.level m.within m.in_level) leaf)
 
         or_it : (r ≡ page → ⊥) → Contains due' r ⊎ (page ≡ r) → Contains due' r
         or_it other (inl has) = has
@@ -124,14 +125,41 @@ within_dropped old new due parent sep h limits but r leaf = by (cases_eq r paren
         inr (subst (IsWithin limits) (sym (ap (slot_at new.slots) same ∙ h.dropped.now))
         (child_without limits sep h.dropped.was.body (subst (IsWithin limits) (ap (slot_at old.slots) same ∙ h.dropped.is) within)))
 
-pub tidy_forgotten : (old new : TreeView) (p : ℕ) (did : Did) → old.staged ≡ None → IsForgettingStep old new p did → KeepsTidy old new
-tidy_forgotten old new p Done none h =
+pub tidy_dropped : (old new : TreeView) (p : ℕ) (did : Did) → old.staged ≡ None → IsAbsorptionFinishStep old new p did → KeepsTidy old new
+tidy_dropped old new p Done none h =
     let lost = h.1.lost in
     record {
       holds = record { contents = held_at old new lost.next lost.contents; next = lost.next; records = omega (arith, lost.records); staged = lost.staged };
-      within = λ due. within_dropped old new due h.0 h.1.was.names.removed.low lost;
+      within = λ due. within_dropped old new due h.0 h.1.was.removed.low lost;
     }
-tidy_forgotten old new p NotNeeded none h = tidy_still old new none h.0
+tidy_dropped old new p NotNeeded none h = tidy_still old new none h.0
+
+-- an identifier that is given back is of no leaf
+some_level : (levels : List (List ℕ)) (r : ℕ) → Contains (row levels 0) r → 0 < length levels
+some_level [] r has = absurd (omega (arith, has.1))
+some_level (ps ∷ levels) r has = omega arith
+
+within_released : (old new : TreeView) (due : List ℕ) (p : ℕ) → MayBeFreed old p → HasFreed old new p → KeepsWithin old new due due
+within_released old new due p may h limits but r leaf = by (but r there)
+  where
+    there : Contains (row old.levels 0) r
+    there = subst (λ (l : List (List ℕ)). Contains (row l 0) r) h.levels leaf
+
+    other : r ≡ p → ⊥
+    other same = may.unreached.stands (record { level = 0; within = some_level old.levels r there; in_level = subst (Contains (row old.levels 0)) same there })
+
+    by : Contains due r ⊎ IsWithin limits (slot_at old.slots r) → Contains due r ⊎ IsWithin limits (slot_at new.slots r)
+    by (inl has) = inl has
+    by (inr within) = inr (subst (IsWithin limits) (sym (h.freed.others r other)) within)
+
+pub tidy_released : (old new : TreeView) (p : ℕ) (did : Did) → old.staged ≡ None → IsReleaseStep old new p did → KeepsTidy old new
+tidy_released old new p Done none h =
+    let freed = h.1 in
+    record {
+      holds = record { contents = held_at old new freed.next freed.contents; next = freed.next; records = omega (arith, freed.records); staged = freed.staged };
+      within = λ due. within_released old new due p h.0 freed;
+    }
+tidy_released old new p NotNeeded none h = tidy_still old new none h.0
 
 -- the root's only child is the root
 row_lowered : (levels : List (List ℕ)) (n r : ℕ) → Contains (row (take n levels) 0) r → Contains (row levels 0) r
@@ -218,7 +246,7 @@ few_together limits tree root p q r lawful left few other =
 pub absorbed_within : (limits : LimitsView) (old new : TreeView) (page : ℕ) (did : Did) (due due' : List ℕ) → did ≡ Done → IsAbsorptionStep old new page did → ((q : ℕ) → IsLeft old page q → AreFewTogether limits old page q) → due ≡ due' ++ page ∷ [] → AreWithinBut limits old due → AreWithinBut limits new due'
 absorbed_within limits old new page did due due' done step few is but =
     let h : IsAbsorptionStep old new page Done = subst (IsAbsorptionStep old new page) done step in
-    within_merged old new page h.0 h.1.0 h.1.1 limits (few h.0 h.1.0.left) due due' is but
+    within_merged old new page h.0 h.1.0 h.1.1 limits (few h.0 (record { level = h.1.0.level; within = h.1.0.within; in_level = h.1.0.in_level }, h.1.0.linked)) due due' is but
 
 pub tidy_on : (first old new : TreeView) → KeepsTidy first old → KeepsTidy old new → KeepsTidy first new
 tidy_on first old new a b = record { holds = holds_on first old new a.holds b.holds; within = λ due limits but. b.within due limits (a.within due limits but) }

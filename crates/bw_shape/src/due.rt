@@ -8,6 +8,7 @@ ghost use Rattle.bw_shape.specs.Visits.{IsNext, IsNextBefore, IsSplitNext};
 
 use crate::merges::finish_absorb;
 use crate::page_lists::{first_below, least_level, mark, pages_on, pages_over, sort_by_low_key};
+use crate::releasing::release;
 use crate::right_neighbours::name_rights;
 use crate::steps::grow_root;
 use bw_key::Memory;
@@ -281,8 +282,9 @@ impl Due {
         Ok(())
     }
 
-    /// Finishes the merge of a page, if it is a removed one: the page above no longer names it. That page is looked at behind
-    /// the pages of the levels below it, and so is its right neighbour. After `Memory` the merge isn't finished.
+    /// Finishes the merge of a page, if it is a removed one: the page above no longer names it, and its identifier is given
+    /// back, if nothing else leads to it. The page above is looked at behind the pages of the levels below it, and so is its
+    /// right neighbour. After `Memory` the merge isn't finished.
     pub(crate) fn finish_merge(&mut self, tree: &mut Tree, page: PageId) -> Result<(), Memory>
         requires { tree.old.staged ≡ None }
         ensures holds { HoldsAll tree.old tree.new }
@@ -294,7 +296,7 @@ impl Due {
             return Ok(());
         };
         finish_absorb(tree, page)?;
-        // From here on nothing above names the removed page.
+        release(tree, page);
         mark(&mut self.above, tree, parent);
         Ok(())
     }

@@ -1,5 +1,5 @@
 // Tidying: the pages that are due are looked at, level by level.
-ghost use Rattle.std.specs.Prelude.{◌≡◌, ℕ, ◌<◌, false, List, [], None, length, OnOk};
+ghost use Rattle.std.specs.Prelude.{◌≡◌, ℕ, ◌<◌, false, List, [], None, length, IfOk, OnOk};
 ghost use Rattle.bw_shape.specs.Limits.{AreWithinBut};
 ghost use Rattle.bw_shape.specs.Tidying.{HasNoneDue, HoldsAll, KeepsWithin};
 
@@ -7,6 +7,7 @@ use crate::due::Due;
 use crate::limits::Limits;
 use crate::merges::drop_root;
 use crate::outcome::Tidy;
+use crate::releasing::release;
 use crate::steps::Did;
 use crate::visits::visit;
 use bw_key::Memory;
@@ -122,12 +123,22 @@ fn lower(tree: &mut Tree) -> Result<(), Memory>
     ensures holds { HoldsAll tree.old tree.new }
     ensures within { (due : List ℕ) → KeepsWithin tree.old tree.new due due }
 {
-    loop {
-        tree.know_levels();
-        match drop_root(tree)? {
-            // From here on nothing above names the old root.
-            Did::Done => {}
-            Did::NotNeeded => return Ok(()),
-        }
+    while lower_once(tree)? == Did::Done {}
+    Ok(())
+}
+
+// Drops such a root, and gives its identifier back, if nothing leads to it.
+fn lower_once(tree: &mut Tree) -> Result<Did, Memory>
+    requires { tree.old.staged ≡ None }
+    ensures holds { HoldsAll tree.old tree.new }
+    ensures within { (due : List ℕ) → KeepsWithin tree.old tree.new due due }
+    ensures fewer { IfOk result (λ did. did ≡ Did.Done → length tree.new.levels < length tree.old.levels) }
+{
+    tree.know_levels();
+    let root = tree.root();
+    let did = drop_root(tree)?;
+    if did == Did::Done {
+        release(tree, root);
     }
+    Ok(did)
 }

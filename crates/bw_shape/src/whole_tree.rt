@@ -10,6 +10,7 @@ use crate::limits::Limits;
 use crate::merges::finish_absorb;
 use crate::outcome::Tidy;
 use crate::page_lists::{inner_pages, leaf_pages};
+use crate::releasing::release;
 use crate::steps::{finish_split, grow_root};
 use crate::tidying::tidy_due;
 use bw_key::Memory;
@@ -77,16 +78,18 @@ fn finish_merges(tree: &mut Tree) -> Result<(), Memory>
     Ok(())
 }
 
-// Finishes the merge of the page of this mapping word, if it is a removed one.
+// Finishes the merge of the page of this mapping word, if it is a removed one, and gives its identifier back where nothing leads
+// to the page.
 fn finish_merge(tree: &mut Tree, place: usize) -> Result<(), Memory>
     requires { tree.old.staged ≡ None }
     ensures { HoldsAll tree.old tree.new }
 {
-    let Ok(page) = u32::try_from(place) else {
+    let Ok(number) = u32::try_from(place) else {
         return Ok(());
     };
-    // From here on nothing above names the removed page.
-    finish_absorb(tree, PageId(page))?;
+    let page = PageId(number);
+    finish_absorb(tree, page)?;
+    release(tree, page);
     Ok(())
 }
 
