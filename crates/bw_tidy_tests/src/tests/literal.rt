@@ -302,13 +302,7 @@ impl PlainTree {
     }
 
     // Merges the page at a place, which has so many entries, into the one before it, if it may be. Whether it was.
-    fn merge<R: Abort>(
-        &mut self,
-        rt: &R,
-        place: usize,
-        page: &PlainPage,
-        entries: usize,
-    ) -> bool {
+    fn merge<R: Abort>(&mut self, rt: &R, place: usize, page: &PlainPage, entries: usize) -> bool {
         let Some(left) = self.sibling(place, page) else {
             return false;
         };

@@ -65,12 +65,7 @@ fn draw<R: Abort>(make: &Maker<R>, random: &mut Random, shrinks: bool) -> Op {
 }
 
 // A batch of 1 to 12 operations that are drawn, or of 100.
-fn batch<R: Abort>(
-    rt: &R,
-    make: &Maker<R>,
-    random: &mut Random,
-    shrinks: bool,
-) -> Vec<Op, Alloc> {
+fn batch<R: Abort>(rt: &R, make: &Maker<R>, random: &mut Random, shrinks: bool) -> Vec<Op, Alloc> {
     let len = match random.below(10) {
         0 => LONGEST,
         _ => random.below(12) + 1,
@@ -96,11 +91,13 @@ const SPLIT: Sizes = Sizes {
     page_max: 4,
     page_min: 0,
 };
+
 const EMPTY: Sizes = Sizes {
     chain_max: 1,
     page_max: 4,
     page_min: 1,
 };
+
 const SMALL: Sizes = Sizes {
     chain_max: 1,
     page_max: 4,
@@ -113,6 +110,7 @@ const LONG_SPLIT: Sizes = Sizes {
     page_max: 5,
     page_min: 0,
 };
+
 const LONG: Sizes = Sizes {
     chain_max: 3,
     page_max: 6,
