@@ -1,41 +1,36 @@
 -- What tidying keeps where pages are merged, lose an index entry, or the root goes.
-use Rattle.std.proofs.Common.{inl, inr, ◌⊎◌, ◌≡◌, ℕ, zero, suc, ◌+◌, ◌-◌, ◌<◌, ◌≤◌, ◌^◌, Bool, true, false, cond, nat_eq, List, [], ◌∷◌, ◌++◌, length, take, drop, Option, None, slice_index, refl, sym, ap, ◌∙◌, subst, arith, length-append}
+use Rattle.std.proofs.Common.{inl, inr, ◌⊎◌, ◌≡◌, ℕ, zero, suc, ◌+◌, ◌-◌, ◌<◌, ◌≤◌, Bool, true, false, cond, nat_eq, List, [], ◌∷◌, ◌++◌, length, take, Option, None, refl, sym, ap, ◌∙◌, subst, arith, length-append}
 use Rattle.std.proofs.lemmas.Bool.{cases_eq, cases_lt}
-use Rattle.std.proofs.lemmas.List.{get_or-set_same, get_or-set_other, length-set, length-take}
+use Rattle.std.proofs.lemmas.List.{get_or-set_same, get_or-set_other, length-take}
 use Rattle.std.proofs.lemmas.List.Elements.{Contains-push_cases}
 use Rattle.std.specs.List.{Contains}
 use Rattle.bw_key.specs.Order.{KeyBytes}
-use Rattle.bw_page.specs.declared.pages.RemovedPage.{RemovedPage}
-use Rattle.bw_chain.specs.Children.{body_without_child, state_without_child}
+use Rattle.bw_chain.specs.Children.{body_without_child}
 use Rattle.bw_chain.specs.Levels.{AreLevels, row}
-use Rattle.bw_chain.specs.Merges.{bodies_joined, level_merged, state_joined, without_page}
+use Rattle.bw_chain.specs.Merges.{bodies_joined, level_merged, without_page}
 use Rattle.bw_chain.specs.Reading.{body_pairs, body_writes, pairs_under, writes_over}
-use Rattle.bw_chain.specs.Roots.{levels_lowered}
 use Rattle.bw_chain.specs.Searches.{IsInLevels}
-use Rattle.bw_chain.specs.Slots.{Slot, PageState, Body, Pairs, Children, Free, Gone, Live, is_leaf, side_of, slot_at, slot_level}
+use Rattle.bw_chain.specs.Slots.{Slot, Body, Pairs, Children, Free, Gone, Live, is_leaf, side_of, slot_at, slot_level}
 use Rattle.bw_chain.specs.Splits.{slot_entries}
 use Rattle.bw_chain.proofs.AboveLemmas.{own_level}
 use Rattle.bw_tree.specs.Consolidation.{IsConsolidated, IsRebased, consolidated_leaf}
-use Rattle.bw_tree.specs.Making.{leaf_slot}
 use Rattle.bw_tree.specs.Freeing.{HasFreed, MayBeFreed}
 use Rattle.bw_tree.specs.Merges.{HasLostChild, HasMerged, MayMerge}
 use Rattle.bw_tree.specs.Pages.{IsLeft}
 use Rattle.bw_tree.specs.Routing.{IsInLevel}
 use Rattle.bw_tree.specs.Shapes.{pairs_on}
-use Rattle.bw_tree.specs.View.{TreeView, contents_at}
+use Rattle.bw_tree.specs.View.{TreeView}
 use Rattle.bw_tree.proofs.NeighbourLemmas.{one_left}
 use Rattle.bw_tree.proofs.PageLemmas.{lowest_leaf}
 use Rattle.bw_shape.specs.Limits.{LimitsView, AreWithinBut, IsWithin}
 use Rattle.bw_shape.specs.Releasing.{IsReleaseStep}
 use Rattle.bw_shape.specs.Merges.{HasLoweredRoot, IsAbsorptionFinishStep, IsAbsorptionStep, IsLoweringStep}
-use Rattle.bw_shape.specs.Steps.{HasLostChain, IsConsolidationStep, IsSameOver}
-use Rattle.bw_shape.specs.Sweeps.{HoldsSame}
+use Rattle.bw_shape.specs.Steps.{IsConsolidationStep}
 use Rattle.bw_shape.specs.Tidying.{HoldsAll, KeepsWithin}
 use Rattle.bw_shape.specs.Visits.{AreFewTogether, HasRoomOn, KeepsWithinAt}
 use Rattle.bw_shape.specs.declared.steps.Did.{Did}
 use Rattle.bw_shape.specs.declared.steps.Did.TheVariants.{Done, NotNeeded}
-use Rattle.bw_shape.proofs.SweepLemmas.{step_plain}
-use Rattle.bw_shape.proofs.TidyLemmas.{KeepsTidy, few_pairs, held_at, holds_on, tidy_same, tidy_still}
+use Rattle.bw_shape.proofs.TidyLemmas.{KeepsTidy, few_pairs, held_at, holds_on, tidy_still}
 
 -- a page above the leaves is no leaf
 pub no_leaf : (tree : TreeView) (root : ℕ) → AreLevels tree.slots root tree.levels → (p n : ℕ) → IsInLevel tree p n → 0 < n → Contains (row tree.levels 0) p → ⊥

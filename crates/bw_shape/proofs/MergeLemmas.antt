@@ -3,21 +3,15 @@ use Rattle.std.proofs.Common.{◌≡◌, ℕ, suc, ◌-◌, ◌<◌, ◌≤◌, 
 use Rattle.std.proofs.lemmas.Bool.{eq-eqb, eqb-true}
 use Rattle.std.proofs.lemmas.List.{set-set}
 use Rattle.std.specs.List.{Contains}
-use Rattle.std.specs.Ordering.{is_lt}
-use Rattle.bw_key.specs.Order.{KeyBytes, key_cmp, key_eq, key_eq_equiv}
+use Rattle.bw_key.specs.Order.{KeyBytes}
 use Rattle.bw_page.specs.declared.pages.RemovedPage.{RemovedPage}
-use Rattle.bw_page.proofs.KeyLemmas.{neither_below}
-use Rattle.bw_page.proofs.Search.{same_keys}
-use Rattle.bw_page.proofs.Truths.{holds_not}
-use Rattle.bw_chain.specs.Before.{low_at, low_of}
 use Rattle.bw_chain.specs.Children.{HasChildAt, MayDropChild}
 use Rattle.bw_chain.specs.Entries.{AreExact}
 use Rattle.bw_chain.specs.Levels.{AreLevels, BeginsWith, IsHomeAt, row}
 use Rattle.bw_chain.specs.Roots.{HasOneChild}
 use Rattle.bw_chain.specs.Searches.{IsInLevels}
-use Rattle.bw_chain.specs.Slots.{Slot, PageState, Body, Pairs, Children, Free, Gone, Live, IsSoundBody, children_of, level_of, side_of, side_of_slot, slot_at}
+use Rattle.bw_chain.specs.Slots.{Slot, PageState, Body, Pairs, Children, Gone, Live, IsSoundBody, children_of, level_of, side_of, side_of_slot, slot_at}
 use Rattle.bw_chain.specs.Splits.{entry_count, slot_entries}
-use Rattle.bw_chain.proofs.AboveLemmas.{one_above}
 use Rattle.bw_tree.specs.Consolidation.{IsRebased}
 use Rattle.bw_tree.specs.Merges.{HasLostChild, IsLowered, IsNamerOfRemoved, MayBeLowered, MayMerge}
 use Rattle.bw_tree.specs.Pages.{IsLeft, IsNamer, IsPlain}

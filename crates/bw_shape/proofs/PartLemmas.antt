@@ -1,14 +1,20 @@
 -- What splitting the next page into halves keeps, and what is due in its place.
-use Rattle.std.proofs.Common.{inl, inr, ◌⊎◌, ◌≡◌, ℕ, zero, suc, ◌+◌, ◌-◌, ◌<◌, ◌≤◌, Bool, true, false, cond, nat_eq, List, [], ◌∷◌, ◌++◌, length, drop, refl, sym, ap, ◌∙◌, subst, arith, length-append, length-drop}
+use Rattle.std.proofs.Common.{inl, inr, ◌⊎◌, ◌≡◌, ℕ, zero, suc, ◌+◌, ◌-◌, ◌<◌, ◌≤◌, ◌^◌, Bool, true, false, cond, nat_eq, List, [], ◌∷◌, ◌++◌, length, drop, Some, None, slice_index, refl, sym, ap, ◌∙◌, subst, arith, length-append, length-drop}
 use Rattle.std.proofs.lemmas.Bool.{cases_eq}
 use Rattle.std.proofs.lemmas.Bool.Decides.{nat_tests}
 use Rattle.std.proofs.lemmas.List.{append-nil, drop-append-le, get_or-set_same, get_or-set_other, length-set}
 use Rattle.std.proofs.lemmas.List.Elements.{Contains-append_cases, Contains-append_left}
 use Rattle.std.specs.List.{Contains}
-use Rattle.bw_chain.specs.Levels.{row}
-use Rattle.bw_chain.specs.Splits.{level_parted, put_behind}
+use Rattle.std.specs.Option.{option_map}
+use Rattle.std.specs.Prelude.{slice_get}
+use Rattle.bw_key.specs.Order.{KeyBytes}
+use Rattle.bw_chain.specs.Levels.{AreLevels, row}
+use Rattle.bw_chain.specs.Slots.{Slot, Body, Pairs, Children, Free, Gone, Live, body_is_leaf, children_of, is_leaf, slot_at}
+use Rattle.bw_chain.specs.Splits.{level_parted, put_behind, slot_child, slot_entries}
 use Rattle.bw_tree.specs.Routing.{IsInLevel}
+use Rattle.bw_tree.specs.Splits.{IsSplittable}
 use Rattle.bw_tree.specs.View.{TreeView}
+use Rattle.bw_tree.proofs.PageLemmas.{lowest_leaf}
 use Rattle.bw_shape.specs.Tidying.{DueView}
 use Rattle.bw_shape.specs.Visits.{HasPassed, IsBare, IsHalved, IsNextBefore, IsPart, StandBefore, half_of, taken_count, work_left}
 use Rattle.bw_shape.proofs.TakenLemmas.{taken_more, taken_split}
@@ -80,13 +86,42 @@ module _ (old new : TreeView) (due due' : DueView) (p keep : ℕ) (h : IsHalved 
   both_on n on q (suc zero, lt, is) = subst (λ r. IsInLevel new r n) is (still_on p n on)
   both_on n on q (suc (suc i), lt, is) = absurd (omega (arith, lt))
 
--- where the next page was split, less is left to do, by more than an inner page that is due
-pub part_less : (old new : TreeView) (due due' : DueView) (p : ℕ) (split : Bool) → split ≡ true → IsPart old new due due' p split → work_left new due' + 2 ≤ work_left old due
-part_less old new due due' p true is h = halved_less old new due due' p (half_of old p) h
-part_less old new due due' p false is h = absurd (different is)
+-- a leaf with many pairs may be split, as it has no child
+no_child : (slot : Slot) (place c : ℕ) → is_leaf slot ≡ true → slot_child place slot ≡ Some c → ⊥
+no_child Free place c leaf e = none e
   where
-    different : false ≡ true → ⊥
-    different e = cc
+    none : None ≡ Some c → ⊥
+    none e = cc
+no_child (Gone g) place c leaf e = none e
+  where
+    none : None ≡ Some c → ⊥
+    none e = cc
+no_child (Live s) place c leaf e = by s.body leaf e
+  where
+    none : None ≡ Some c → ⊥
+    none e = cc
+
+    inner : false ≡ true → ⊥
+    inner e = cc
+
+    by : (b : Body) → body_is_leaf b ≡ true → option_map (λ (x : KeyBytes × ℕ). x.1) (slice_get (children_of b) place) ≡ Some c → ⊥
+    by (Pairs pairs writes) leaf e = none e
+    by (Children level children) leaf e = inner leaf
+
+some_level : (levels : List (List ℕ)) (r : ℕ) → Contains (row levels 0) r → 0 < length levels
+some_level [] r has = absurd (omega (arith, has.1))
+some_level (ps ∷ levels) r has = omega arith
+
+pub leaf_parts : (tree : TreeView) (root : ℕ) → AreLevels tree.slots root tree.levels → (p keep : ℕ) → Contains (row tree.levels 0) p → slice_index tree.heads p < 2 ^ 32 → 0 < keep → keep < slot_entries (slot_at tree.slots p) → IsSplittable tree p keep
+leaf_parts tree root lawful p keep leaf plain some fewer = record {
+  level = 0;
+  within = some_level tree.levels p leaf;
+  in_level = leaf;
+  plain = plain;
+  some = some;
+  fewer = fewer;
+  live = λ c e. absurd (no_child (slot_at tree.slots p) keep c (lowest_leaf tree root lawful p (some_level tree.levels p leaf, leaf)) e);
+}
 
 -- a page that is within the limits
 pub passed_on : (old : TreeView) (due due' : DueView) (p level : ℕ) → due.pages ≡ due'.pages ++ p ∷ [] → HasPassed old old due due' p level

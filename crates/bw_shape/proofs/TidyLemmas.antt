@@ -23,13 +23,12 @@ use Rattle.bw_shape.specs.Limits.{LimitsView, AreWithinBut, IsWithin}
 use Rattle.bw_shape.specs.Naming.{AreFinished}
 use Rattle.bw_shape.specs.Sweeps.{HoldsSame}
 use Rattle.bw_shape.specs.Tidying.{HoldsAll, KeepsWithin}
-use Rattle.bw_shape.specs.Visits.{IsBare, IsNext, IsSplitNext, taken_count}
+use Rattle.bw_shape.specs.Visits.{IsBare, IsNext, IsSplitNext}
 use Rattle.bw_shape.specs.Steps.{HasLostChain, IsFinishStep, IsFinished, IsRootStep, IsSameOver}
 use Rattle.bw_tree.specs.Consolidation.{IsRebased}
 use Rattle.bw_shape.specs.declared.steps.Did.{Did}
 use Rattle.bw_shape.specs.declared.steps.Did.TheVariants.{Done, NotNeeded}
 use Rattle.bw_shape.proofs.SweepLemmas.{chain_plain, still_plain}
-use Rattle.bw_shape.proofs.TakenLemmas.{taken_but, taken_more}
 
 -- what the tree holds
 pub holds_itself : (tree : TreeView) → tree.staged ≡ None → HoldsAll tree tree

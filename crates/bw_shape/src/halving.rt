@@ -228,6 +228,7 @@ fn part(
     ensures within { AreWithinBut limits.now tree.new due.new.pages }
     ensures ok { IfOk result (IsPart tree.old tree.new due.old due.new page) }
 {
+    tree.know_levels();
     tree.know_records();
     let count = tree.entries(page);
     if count as u64 <= limits.page_max() {

@@ -11,6 +11,5 @@ pub returns-clause-ok : goal.returns-clause-ok
 returns-clause-ok c = record {
   able = c.requires.page;
   split = c.in_ok-split_next.ensures.ok;
-  above = c.split_next.ensures.above;
   few = omega (arith, taken_few c.split_next.new.tree.slots, c.know_records.ensures.slots, c.know_records.ensures.few);
 }

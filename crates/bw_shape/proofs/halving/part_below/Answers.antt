@@ -1,7 +1,7 @@
 use Rattle.std.proofs.Common.{◌∙◌, ◌-◌, sym, subst, ap, arith, length, [], ◌∷◌}
 use Rattle.std.proofs.lemmas.List.{length-append}
 use Rattle.bw_shape.specs.Limits.{AreWithinBut}
-use Rattle.bw_shape.proofs.PartLemmas.{part_less, passed_part, stand_first, stand_on}
+use Rattle.bw_shape.proofs.PartLemmas.{passed_part, stand_first, stand_on}
 use Rattle.bw_shape.proofs.TidyLemmas.{bare_still}
 use Rattle.bw_shape.proofs.halving.part_below.Goals as goal
 
@@ -24,18 +24,3 @@ returns-in_err-finish-clause-within c = c.in_err-finish.ensures.within c.args.li
 pub returns-clause-within : goal.returns-clause-within
 returns-clause-within c =
     subst (AreWithinBut c.args.limits.now c.finish.new.tree) (sym c.set_unfinished-2.ensures.pages) (c.in_ok-finish.ensures.within c.args.limits.now c.in_ok-part_halves.ensures.within)
-
-pub returns-clause-less : goal.returns-clause-less
-returns-clause-less c =
-    omega (
-      arith,
-      part_less c.args.tree.now c.part.new.tree c.set_unfinished.new.self c.part.new.due c.args.page c.in_ok-part.field-0 c.if-not-branch.false c.in_ok-part.ensures.ok,
-      c.in_ok-part_halves.ensures.upto,
-      c.finish.ensures.more,
-      ap length c.finish.ensures.pages,
-      c.finish.ensures.above,
-      ap length c.set_unfinished.ensures.pages,
-      ap length c.set_unfinished.ensures.above,
-      ap length c.set_unfinished-2.ensures.pages,
-      ap length c.set_unfinished-2.ensures.above,
-    )

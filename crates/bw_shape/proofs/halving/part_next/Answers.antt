@@ -1,9 +1,5 @@
-use Rattle.std.proofs.Common.{ℕ, ◌<◌, [], ◌∷◌, length, Result, Ok, Err, OnOk, ap, arith}
+use Rattle.std.proofs.Common.{[], ◌∷◌, length, ap, arith}
 use Rattle.std.proofs.lemmas.List.{length-append}
-use Rattle.bw_tree.specs.View.{TreeView}
-use Rattle.bw_shape.specs.Tidying.{DueView}
-use Rattle.bw_shape.specs.Visits.{IsBare, work_left}
-use Rattle.bw_shape.proofs.TakenLemmas.{taken_more}
 use Rattle.bw_shape.proofs.TidyLemmas.{leaf_level, within_bare, within_pass}
 use Rattle.bw_shape.proofs.halving.part_next.Goals as goal
 
@@ -27,11 +23,3 @@ returns-in_default-clause-less c =
 pub part_below-requires-clause-within : goal.part_below-requires-clause-within
 part_below-requires-clause-within c =
     within_bare c.args.tree.now c.bare.new.tree c.args.due.now.pages c.args.page c.in_ok-bare.ensures.ok c.requires.next c.args.limits.now c.requires.within
-
--- a page that lost its records is still to be looked at
-after_bare : {T E : Type 0} (old mid new : TreeView) (due due' : DueView) (p : ℕ) (r : Result T E) → IsBare old mid p → OnOk r (work_left new due' < work_left mid due) → OnOk r (work_left new due' < work_left old due)
-after_bare old mid new due due' p (Ok u) bare less = omega (arith, less, taken_more old.slots mid.slots bare.same.taken)
-after_bare old mid new due due' p (Err e) bare less = less
-
-pub returns-clause-less : goal.returns-clause-less
-returns-clause-less c = after_bare c.args.tree.now c.bare.new.tree c.part_all.new.tree c.args.due.now c.part_all.new.due c.args.page c.part_all.result c.in_ok-bare.ensures.ok c.part_all.ensures.less

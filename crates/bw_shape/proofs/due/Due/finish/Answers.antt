@@ -1,12 +1,11 @@
-use Rattle.std.proofs.Common.{◌≡◌, ℕ, Option, Some, None, sym, subst}
+use Rattle.std.proofs.Common.{◌≡◌, ℕ, Option, Some, sym, subst}
 use Rattle.std.specs.Prelude.{MatchOption}
 use Rattle.bw_tree.specs.View.{TreeView}
 use Rattle.bw_shape.specs.Naming.{AreFinished}
-use Rattle.bw_shape.specs.Steps.{IsFinishStep, IsRootStep}
+use Rattle.bw_shape.specs.Steps.{IsFinishStep}
 use Rattle.bw_shape.specs.Tidying.{DueView, KeepsWithin}
-use Rattle.bw_shape.specs.declared.steps.Did.{Did}
 use Rattle.bw_shape.specs.declared.steps.Did.TheVariants.{NotNeeded}
-use Rattle.bw_shape.proofs.TidyLemmas.{KeepsTidy, tidy_after, tidy_all_named}
+use Rattle.bw_shape.proofs.TidyLemmas.{tidy_after, tidy_all_named}
 use Rattle.bw_shape.proofs.due.Due.finish.Goals as goal
 
 abbrev Outcome : TreeView → TreeView → ℕ → Option ℕ → Type 0
@@ -20,17 +19,11 @@ pub returns-in-Some-clause-within : goal.returns-in-Some-clause-within
 returns-in-Some-clause-within c =
     named c.args.tree.now c.name_rights.new.tree c.args.page c.in-Some.parent _ c.in-Some.is c.in_ok-parent.ensures.ok c.args.self.now _ c.self.view_is
 
--- where none was unnamed, and the root may have grown
-grown : (old mid new : TreeView) (page : ℕ) (o : Option ℕ) (did : Did) → old.staged ≡ None → o ≡ None → Outcome old mid page o → IsRootStep mid new did → KeepsTidy old new
-grown old mid new page o did none is outcome step = tidy_after old mid new did none (subst (Outcome old mid page) is outcome).0 step
-
 pub returns-clause-within : goal.returns-clause-within
 returns-clause-within c =
     let old = c.args.tree.now in
+    let mid = c.name_rights.new.tree in
     let new = c.grow_root.new.tree in
+    let not : IsFinishStep old mid c.args.page NotNeeded = subst (Outcome old mid c.args.page) c.in_default.is c.in_ok-parent.ensures.ok in
     subst (λ (d : DueView). KeepsWithin old new c.args.self.now.pages d.pages) (sym c.self.view_is)
-    ((grown old c.name_rights.new.tree new c.args.page _ c.in_ok-grow_root.field-0 c.requires c.in_default.is c.in_ok-parent.ensures.ok c.in_ok-grow_root.ensures.ok).within c.args.self.now.pages)
-
-pub returns-clause-more : goal.returns-clause-more
-returns-clause-more c =
-    (grown c.args.tree.now c.name_rights.new.tree c.grow_root.new.tree c.args.page _ c.in_ok-grow_root.field-0 c.requires c.in_default.is c.in_ok-parent.ensures.ok c.in_ok-grow_root.ensures.ok).more
+    ((tidy_after old mid new c.in_ok-grow_root.field-0 c.requires not.0 c.in_ok-grow_root.ensures.ok).within c.args.self.now.pages)
