@@ -60,8 +60,9 @@ pub struct PlainTree {
     keys: Vec<u8, Alloc>,
     // the leaves from left to right, and behind them the pages of each level above
     pages: Vec<PlainPage, Alloc>,
-    // how many identifiers were given out
+    // how many identifiers were given out, and those that were given back, in their order
     identifiers: usize,
+    freed: Vec<usize, Alloc>,
     counts: Tidy,
     // the records and the stamps since the last sweep
     records: usize,
@@ -89,6 +90,7 @@ impl PlainTree {
             keys: Vec::new(alloc),
             pages,
             identifiers: 1,
+            freed: Vec::new(alloc),
             counts: Tidy::default(),
             records: 0,
             stamps: 0,
@@ -246,6 +248,25 @@ impl PlainTree {
                 return;
             }
             self.pages.pop();
+            self.free(rt, root.page);
+        }
+    }
+
+    // The least identifier that was given back, or the one behind all others.
+    fn take(&mut self) -> usize {
+        if let Some(least) = self.freed.first().copied() {
+            self.freed.remove(0);
+            return least;
+        }
+        let page = self.identifiers;
+        self.identifiers = self.identifiers.saturating_add(1);
+        page
+    }
+
+    // An identifier is given back.
+    fn free<R: Abort>(&mut self, rt: &R, page: usize) {
+        if let Err(place) = self.freed.binary_search(&page) {
+            self.freed.insert(place, page).expect(rt, "memory");
         }
     }
 
@@ -319,6 +340,7 @@ impl PlainTree {
             ..left
         };
         self.join(rt, place, joined);
+        self.free(rt, page.page);
         self.counts.merges = self.counts.merges.saturating_add(1);
         self.records = self.records.saturating_add(3);
         true
@@ -343,14 +365,13 @@ impl PlainTree {
             ..*page
         };
         let right = PlainPage {
-            page: self.identifiers,
+            page: self.take(),
             low: middle,
             writes: 0,
             base: entries.len() - keep,
             is_changed: false,
             ..*page
         };
-        self.identifiers = self.identifiers.saturating_add(1);
         self.part(rt, place, left, right);
         self.counts.splits = self.counts.splits.saturating_add(1);
         self.records = self.records.saturating_add(1);
@@ -366,11 +387,10 @@ impl PlainTree {
             return;
         }
         let root = PlainPage {
-            page: self.identifiers,
+            page: self.take(),
             level: left.level.saturating_add(1),
             ..EMPTY
         };
-        self.identifiers = self.identifiers.saturating_add(1);
         self.pages.push(root).expect(rt, "memory");
     }
 }
