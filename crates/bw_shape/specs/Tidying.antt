@@ -1,4 +1,4 @@
--- Tidying: pages that are over a limit are consolidated and split.
+-- Tidying: pages that are over a limit are consolidated and split, and pages with few entries are merged.
 use Rattle.std.specs.Prelude.{◌≡◌, ℕ, ◌≤◌, ◌⊎◌, List, [], Option, None, drop, reverse}
 use Rattle.std.specs.List.{Contains, concat}
 use Rattle.bw_chain.specs.Levels.{row}
@@ -6,7 +6,8 @@ use Rattle.bw_tree.specs.View.{TreeView, contents_at}
 use Rattle.bw_shape.specs.Limits.{LimitsView, AreWithinBut}
 
 -- The pages that are to be looked at, the next one last; the inner pages to look at behind those, the first one first;
--- and the page whose right neighbours the level above may not name yet, if there is one.
+-- and the page whose right neighbours the level above may not name yet, or that it may still name though it was removed, if
+-- there is one.
 pub record DueView : Type 0 where
   pub pages : List ℕ
   pub above : List ℕ

@@ -47,7 +47,7 @@ AreFewTogether limits tree p q =
 abbrev pub KeepsWithinAt : LimitsView → TreeView → TreeView → Type 0
 KeepsWithinAt limits old new = (due : List ℕ) → AreWithinBut limits old due → AreWithinBut limits new due
 
--- the next page is due no more, and nothing is left to be finished; or nothing has changed
+-- the next page is due no more, and nothing is left to be finished; or the tree is the same, with the same pages due
 abbrev pub HasAbsorbed : TreeView → TreeView → DueView → DueView → Bool → Type 0
 HasAbsorbed old new due due' true = (length due'.pages < length due.pages) × (due'.unfinished ≡ None)
 HasAbsorbed old new due due' false = (new ≡ old) × (due'.pages ≡ due.pages)

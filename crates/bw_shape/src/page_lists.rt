@@ -1,5 +1,5 @@
 // Lists of a tree's pages, in the order in which tidying looks at them.
-ghost use Rattle.std.specs.Prelude.{◌≡◌, ℕ, ◌+◌, ◌<◌, ◌≤◌, ◌^◌, drop, length, IfOk, IfSome, OnOk, vec_capacity};
+ghost use Rattle.std.specs.Prelude.{◌≡◌, ℕ, ◌+◌, ◌<◌, ◌≤◌, ◌^◌, drop, length, IfOk, IfSome, OnOk, vec_capacity, true};
 ghost use Rattle.std.specs.List.{Contains, concat};
 ghost use Rattle.bw_chain.specs.Levels.{row};
 ghost use Rattle.bw_shape.specs.Sweeps.{HasAllRecorded};
@@ -72,19 +72,33 @@ fn by_low_key(tree: &Tree, a: PageId, b: PageId) -> Ordering {
 }
 
 /// Adds an inner page, whose children have changed, to a list with room for two more, and before it its right neighbour,
-/// which may be merged into it now. It adds none where the page is the last one already, as the pages of one parent come one
+/// which may be merged into it now. It adds none where both are the last ones already, as the pages of one parent come one
 /// after another. It costs a search.
 pub(crate) fn mark(pages: &mut Vec<PageId, Alloc>, tree: &Tree, page: PageId)
     requires { length pages.old.items + 2 ≤ vec_capacity pages.old }
     ensures { Contains pages.new.items page }
 {
-    if pages.last().copied() == Some(page) {
+    let Some(right) = right_neighbour(tree, page) else {
+        if pages.last().copied() != Some(page) {
+            pages.push(page).unwrap();
+        }
+        return;
+    };
+    if ends_with(pages, right, page) {
         return;
     }
-    if let Some(right) = right_neighbour(tree, page) {
-        pages.push(right).unwrap();
-    }
+    pages.push(right).unwrap();
     pages.push(page).unwrap();
+}
+
+// Whether the last two pages of a list are these.
+fn ends_with(pages: &[PageId], before: PageId, last: PageId) -> bool
+    ensures { result ≡ true → Contains pages.now last }
+{
+    if pages.last().copied() != Some(last) {
+        return false;
+    }
+    pages.len() > 1 && pages[pages.len() - 2] == before
 }
 
 // The right neighbour of a page, or none for a page of no level.

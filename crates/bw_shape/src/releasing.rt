@@ -10,7 +10,7 @@ use bw_tree::Tree;
 /// where the identifier is free already, and where something leads to the page: it stands on a level, an index entry of a
 /// page of a level names it, or a page was removed into it whose identifier isn't free. No batch is staged.
 ///
-/// It costs some searches, and a walk along the chain of each page.
+/// It costs some searches, and a look at each removed page whose identifier isn't given back.
 pub fn release(tree: &mut Tree, page: PageId) -> Did
     requires { tree.old.staged ≡ None }
     ensures { IsReleaseStep tree.old tree.new page result }

@@ -52,6 +52,7 @@ fn visit_all(
 {
     go_on(tree, due)?;
     due.begin()?;
+    due.resume()?;
     visit_levels(tree, limits, due, counts)?;
     lower(tree)
 }
