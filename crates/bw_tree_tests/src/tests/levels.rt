@@ -1,7 +1,7 @@
 // What a tree of three levels tells of each page, over a split that isn't finished.
 ghost use Rattle.std.specs.Prelude.{◌≡◌, None};
 
-use super::making::{LONG, are, heap, key, three_leaves, three_with, value};
+use super::making::{LONG, are, heap, key, split_page, three_leaves, three_with, value};
 use super::refused::was_refused;
 use bw_key::Key;
 use bw_memory::Alloc;
@@ -18,13 +18,7 @@ fn split<R: Abort>(rt: &R, tree: &mut Tree, page: u32, keep: usize)
     requires { tree.old.staged ≡ None }
     ensures { tree.new.staged ≡ None }
 {
-    let page = PageId(page);
-    let Some(_) = tree.in_level(page) else {
-        panic!(rt; "a page of no level");
-    };
-    assert!(rt; tree.is_plain(page));
-    assert!(rt; keep > 0 && keep < tree.entries(page));
-    tree.set_split(page, keep).expect(rt, "memory");
+    split_page(rt, tree, PageId(page), keep).expect(rt, "memory");
 }
 
 // Puts a root over a root that was split.

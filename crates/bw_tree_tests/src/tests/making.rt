@@ -1,10 +1,12 @@
 // Trees of one leaf and of three, and what tests compare with.
-ghost use Rattle.std.specs.Prelude.{◌≡◌, [], None};
+ghost use Rattle.std.specs.Prelude.{◌≡◌, true, [], None};
+ghost use Rattle.bw_chain.specs.Splits.{HasNoRemovedAt};
 ghost use Rattle.bw_tree.specs.Making.{AreAbutting};
+ghost use Rattle.bw_tree.specs.Pages.{IsPlain};
 
 use bw_fixtures::{leaf_of, pair, two};
 pub use bw_fixtures::{LONG, are};
-use bw_key::Key;
+use bw_key::{Key, Memory};
 use bw_memory::Alloc;
 use bw_model::Value;
 use bw_tree::{Leaf, PageId, Tree};
@@ -24,6 +26,37 @@ pub fn key<R: Abort>(rt: &R, alloc: Alloc, bytes: &[u8]) -> Key
 
 pub fn value<R: Abort>(rt: &R, alloc: Alloc, bytes: &[u8]) -> Value {
     bw_fixtures::value(alloc, bytes).expect(rt, "a value")
+}
+
+/// Splits a page of a level, which is a base page by itself, unless it doesn't have more than `keep` entries or the first one
+/// that would move names a removed page.
+pub fn split_page<R: Abort>(
+    rt: &R,
+    tree: &mut Tree,
+    page: PageId,
+    keep: usize,
+) -> Result<PageId, Memory>
+    requires { tree.old.staged ≡ None }
+    ensures { tree.new.staged ≡ None }
+{
+    let Some(_) = tree.in_level(page) else {
+        panic!(rt; "a page of no level");
+    };
+    assert!(rt; tree.is_plain(page));
+    assert!(rt; keep > 0 && keep < tree.entries(page));
+    assert!(rt; moves_no_removed(tree, page, keep));
+    tree.set_split(page, keep)
+}
+
+// Whether the child at a place, if there is one, isn't a removed page.
+fn moves_no_removed(tree: &Tree, page: PageId, place: usize) -> bool
+    requires { IsPlain tree.now page }
+    ensures { result ≡ true → HasNoRemovedAt tree.now.slots page place }
+{
+    let Some(child) = tree.child_at(page, place) else {
+        return true;
+    };
+    tree.removed(child).is_none()
 }
 
 /// Three leaves: a 1 and b 2; c and this value; e 5.

@@ -1,7 +1,7 @@
 // The lists of trees' pages.
 ghost use Rattle.std.specs.Prelude.{◌≡◌, None};
 
-use super::making::{LONG, heap, key, stands, three_leaves, three_with};
+use super::making::{LONG, heap, key, split_page, stands, three_leaves, three_with};
 use super::refused::was_refused;
 use bw_key::Key;
 use bw_memory::Alloc;
@@ -67,9 +67,7 @@ fn split<R: Abort>(rt: &R, alloc: Alloc, tree: &mut Tree)
     requires { tree.old.staged ≡ None }
 {
     let page = tree.route(&key(rt, alloc, b""));
-    assert!(rt; tree.heads()[page.0 as usize] < 4294967296);
-    assert!(rt; tree.entries(page) > 1);
-    tree.set_split(page, 1).expect(rt, "memory");
+    split_page(rt, tree, page, 1).expect(rt, "memory");
 }
 
 #[test]

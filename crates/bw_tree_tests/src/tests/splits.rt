@@ -1,7 +1,7 @@
 // Leaves that part in two, of which the page above knows nothing yet.
 ghost use Rattle.std.specs.Prelude.{◌≡◌, None};
 
-use super::making::{LONG, are, has, heap, key, long_leaf, stands, three_leaves};
+use super::making::{LONG, are, has, heap, key, long_leaf, split_page, stands, three_leaves};
 use super::refused::was_refused;
 use bw_memory::Alloc;
 use bw_tree::{Memory, PageId, Tree};
@@ -22,9 +22,7 @@ pub fn split<R: Abort>(
     ensures { tree.new.staged ≡ None }
 {
     let page = tree.route(&key(rt, alloc, bytes));
-    assert!(rt; tree.heads()[page.0 as usize] < FLOOR);
-    assert!(rt; keep > 0 && keep < tree.entries(page));
-    tree.set_split(page, keep)
+    split_page(rt, tree, page, keep)
 }
 
 /// Compares the leaf of a key.
