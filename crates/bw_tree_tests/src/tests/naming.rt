@@ -95,6 +95,7 @@ fn name_both<R: Abort>(rt: &R, alloc: Alloc, tree: &mut Tree, page: PageId) -> R
     ensures { tree.new.staged ≡ None }
 {
     tree.know_levels();
+    tree.know_entries();
     let first = unnamed(rt, tree, page);
     let second = unnamed(rt, tree, first.page);
     let parent = first.parent;
@@ -125,6 +126,7 @@ fn name_one<R: Abort>(rt: &R, tree: &mut Tree, page: PageId)
     ensures { tree.new.staged ≡ None }
 {
     tree.know_levels();
+    tree.know_entries();
     let found = unnamed(rt, tree, page);
     let parent = found.parent;
     let child = found.page;

@@ -30,6 +30,6 @@ name_all-requires-clause-fit g c =
     let lawful = c.know_levels.ensures.lawful in
     let told : nat_eq second.parent first.parent ≡ true = cc (c.eq.ensures) in
     subst (MayHaveChildren tree first.parent) (sym c.in_ok-entries.ensures) (
-      fits_child tree tree.root lawful c.args.page first.parent first.sep.now first.page c.unnamed-first.ensures,
-      (fits_child tree tree.root lawful first.page first.parent second.sep.now second.page (subst (λ p. IsUnnamed tree first.page p second.sep.now second.page) (same second.parent first.parent told) c.unnamed-second.ensures), tt),
+      fits_child tree tree.root lawful c.args.page c.know_entries.ensures first.parent first.sep.now first.page c.unnamed-first.ensures,
+      (fits_child tree tree.root lawful first.page c.know_entries.ensures first.parent second.sep.now second.page (subst (λ p. IsUnnamed tree first.page p second.sep.now second.page) (same second.parent first.parent told) c.unnamed-second.ensures), tt),
     )

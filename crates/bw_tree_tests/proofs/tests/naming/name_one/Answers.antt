@@ -9,4 +9,4 @@ set_child-requires-clause-page g c =
     let tree = c.args.tree.now in
     let found = c.unnamed-found.result in
     subst (λ (k : KeyBytes). MayHaveChild tree found.parent k found.page) (sym c.copy_of-sep.ensures)
-    (record { fits = fits_child tree tree.root c.know_levels.ensures.lawful c.args.page found.parent found.sep.now found.page c.unnamed-found.ensures; plain = c.is_plain.ensures })
+    (record { fits = fits_child tree tree.root c.know_levels.ensures.lawful c.args.page c.know_entries.ensures found.parent found.sep.now found.page c.unnamed-found.ensures; plain = c.is_plain.ensures })
