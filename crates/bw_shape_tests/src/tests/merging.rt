@@ -244,6 +244,7 @@ fn no_page_begins_with_a_removed_one(rt: HostRuntime) {
     let alloc = heap(rt.alloc()).expect(&rt, "memory");
     let mut tree = two_leaves(&rt, alloc);
     absorb_does(&rt, &mut tree, 1, Did::Done);
+    assert!(rt; tree.is_plain(PageId(2)));
     assert!(rt; tree.child_at(PageId(2), 1) == Some(PageId(1)));
     assert!(rt; tree.child_at(PageId(2), 2) == None);
     split_does(&rt, &mut tree, 2, 1, Did::NotNeeded);
