@@ -146,17 +146,6 @@ impl Due {
         Ok(())
     }
 
-    /// The leaf that was consolidated before tidying stopped, if there is one, is looked at next.
-    pub(crate) fn resume(&mut self) -> Result<(), Memory>
-        ensures kept { (p : ℕ) → Contains self.old.pages p → Contains self.new.pages p }
-        ensures unfinished { self.new.unfinished ≡ self.old.unfinished }
-    {
-        if let Some(page) = self.begun {
-            self.pages.push(page)?;
-        }
-        Ok(())
-    }
-
     /// The next page, an inner one, is looked at behind those of its level.
     pub(crate) fn put_off(&mut self, page: PageId) -> Result<(), Memory>
         requires { IsNext self.old.pages page }

@@ -52,7 +52,6 @@ fn visit_all(
 {
     go_on(tree, due)?;
     due.begin()?;
-    due.resume()?;
     visit_levels(tree, limits, due, counts)?;
     lower(tree)
 }

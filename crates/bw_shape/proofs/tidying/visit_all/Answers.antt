@@ -1,6 +1,5 @@
 use Rattle.std.proofs.Common.{sym, subst}
 use Rattle.bw_shape.specs.Limits.{AreWithinBut}
-use Rattle.bw_shape.proofs.TidyLemmas.{within_more}
 use Rattle.bw_shape.proofs.tidying.visit_all.Goals as goal
 
 pub returns-in_err-go_on-clause-within : goal.returns-in_err-go_on-clause-within
@@ -10,15 +9,9 @@ pub returns-in_err-begin-clause-within : goal.returns-in_err-begin-clause-within
 returns-in_err-begin-clause-within c =
     subst (AreWithinBut c.args.limits.now c.go_on.new.tree) (sym c.in_err-begin.ensures.pages) (c.in_ok-go_on.ensures.within c.args.limits.now c.requires.within)
 
-pub returns-in_err-resume-clause-within : goal.returns-in_err-resume-clause-within
-returns-in_err-resume-clause-within c =
-    within_more c.args.limits.now c.go_on.new.tree c.begin.new.self.pages c.resume.new.self.pages c.in_err-resume.ensures.kept
-    (subst (AreWithinBut c.args.limits.now c.go_on.new.tree) (sym c.in_ok-begin.ensures.pages) (c.in_ok-go_on.ensures.within c.args.limits.now c.requires.within))
-
 pub visit_levels-requires-clause-within : goal.visit_levels-requires-clause-within
 visit_levels-requires-clause-within c =
-    within_more c.args.limits.now c.go_on.new.tree c.begin.new.self.pages c.resume.new.self.pages c.in_ok-resume.ensures.kept
-    (subst (AreWithinBut c.args.limits.now c.go_on.new.tree) (sym c.in_ok-begin.ensures.pages) (c.in_ok-go_on.ensures.within c.args.limits.now c.requires.within))
+    subst (AreWithinBut c.args.limits.now c.go_on.new.tree) (sym c.in_ok-begin.ensures.pages) (c.in_ok-go_on.ensures.within c.args.limits.now c.requires.within)
 
 pub returns-clause-within : goal.returns-clause-within
 returns-clause-within c = c.lower.ensures.within c.visit_levels.new.due.pages c.args.limits.now c.in_ok-visit_levels.ensures.within
