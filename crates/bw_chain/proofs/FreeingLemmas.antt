@@ -19,7 +19,7 @@ use Rattle.bw_chain.specs.Walk.{Leads}
 use Rattle.bw_chain.proofs.StepLemmas.{levels_kept}
 
 -- pages of a row are the same in both
-abbrev AreSame : List Slot → List Slot → List ℕ → Type 0
+abbrev pub AreSame : List Slot → List Slot → List ℕ → Type 0
 AreSame old new ps = (x : ℕ) → Contains ps x → slot_at new x ≡ slot_at old x
 
 same_behind : (old new : List Slot) (p : ℕ) (ps : List ℕ) → AreSame old new (p ∷ ps) → AreSame old new ps
@@ -47,6 +47,16 @@ all_same f old new [] same = refl
 all_same f old new (p ∷ ps) same =
     ap (λ s. f s ++ flat_map (λ p. f (slot_at new p)) ps) (same_first old new p ps same)
     ∙ ap (λ l. f (slot_at old p) ++ l) (all_same f old new ps (same_behind old new p ps same))
+
+-- over leaves that are the same there are the same writes
+pub writes_of_same : (old new : List Slot) (levels : List (List ℕ)) → AreSame old new (row levels 0) → row_writes new (row levels 0) ≡ row_writes old (row levels 0)
+writes_of_same old new levels leaves = all_same writes_over old new (row levels 0) leaves
+
+-- so their levels hold the same
+pub contents_of_same : (old new : List Slot) (levels : List (List ℕ)) → AreSame old new (row levels 0) → (stamp : ℕ) → contents_in new levels stamp ≡ contents_in old levels stamp
+contents_of_same old new levels leaves stamp =
+    ap (λ (es : List (KeyBytes × ValueBytes)). contents_as_of (from_entries es) (row_writes new (row levels 0)) stamp) (all_same pairs_under old new (row levels 0) leaves)
+    ∙ ap (λ (ws : List WriteView). contents_as_of (from_entries (row_pairs old (row levels 0))) ws stamp) (writes_of_same old new levels leaves)
 
 -- a row has the page that it begins with
 has_first : (ps : List ℕ) (p : ℕ) → BeginsWith ps p → Contains ps p
@@ -111,18 +121,10 @@ module _ (old new : List Slot) (root : ℕ) (levels : List (List ℕ)) (p : ℕ)
   leaves : AreSame old new (row levels 0)
   leaves = same_row 0 lawful.some
 
-  writes_same : row_writes new (row levels 0) ≡ row_writes old (row levels 0)
-  writes_same = all_same writes_over old new (row levels 0) leaves
-
-  contents_same : (stamp : ℕ) → contents_in new levels stamp ≡ contents_in old levels stamp
-  contents_same stamp =
-      ap (λ (es : List (KeyBytes × ValueBytes)). contents_as_of (from_entries es) (row_writes new (row levels 0)) stamp) (all_same pairs_under old new (row levels 0) leaves)
-      ∙ ap (λ (ws : List WriteView). contents_as_of (from_entries (row_pairs old (row levels 0))) ws stamp) writes_same
-
 pub page_freed : FreedPageIsKept
 page_freed old new root levels p lawful gone freed = record {
   lawful = levels_kept old new root levels levels lawful (keeps old new root levels p lawful gone freed);
   exact = exact_still old new root levels p lawful gone freed;
-  writes = writes_same old new root levels p lawful gone freed;
-  contents = λ distinct. contents_same old new root levels p lawful gone freed;
+  writes = writes_of_same old new levels (leaves old new root levels p lawful gone freed);
+  contents = λ distinct. contents_of_same old new levels (leaves old new root levels p lawful gone freed);
 }

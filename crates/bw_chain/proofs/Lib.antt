@@ -41,3 +41,5 @@ pub mod FreeingLemmas
 pub mod VacancyLemmas
 pub mod JoiningLemmas
 pub mod BareLemmas
+pub mod SameLemmas
+pub mod TrimLemmas

@@ -7,9 +7,9 @@ use Rattle.bw_page.specs.declared.pages.Page.{Page}
 use Rattle.bw_page.specs.declared.pages.Page.TheVariants.{Leaf as LeafPage, Inner as InnerPage, Gone as GonePage}
 use Rattle.bw_delta.specs.declared.deltas.Delta.{Delta}
 use Rattle.bw_delta.specs.declared.deltas.Delta.TheVariants.{Put, Split, Absorb, Removed, AddChild, DropChild}
-use Rattle.bw_chain.specs.Chains.{AllEnd, Bases, Records, based, change, changed, deltas_at, link_of, plain, slot_of_word, slots_of}
+use Rattle.bw_chain.specs.Chains.{AllEnd, Bases, Records, based, body_below, body_with_child, body_written, change, changed, deltas_at, link_of, page_changed, plain, slot_of_word, slots_of}
 use Rattle.bw_chain.specs.Freeing.{IsFreed}
-use Rattle.bw_chain.specs.Slots.{Slot, Free, slot_at}
+use Rattle.bw_chain.specs.Slots.{Slot, PageState, Free, Gone, Live}
 use Rattle.bw_chain.specs.Supports.{OwnBases, base_under}
 use Rattle.bw_chain.specs.Turns.{plain_at}
 use Rattle.bw_chain.specs.Walk.{walked}
@@ -41,6 +41,27 @@ free_changed bases (Absorb k base high side ∷ ds) = free_changed bases ds
 free_changed bases (Removed left ∷ ds) = free_changed bases ds
 free_changed bases (AddChild k child ∷ ds) = ap (change bases (AddChild k child)) (free_changed bases ds)
 free_changed bases (DropChild k ∷ ds) = free_changed bases ds
+
+-- and what is no page was made of none
+no_page_changed : (f : PageState → PageState) (slot : Slot) → page_changed f slot ≡ Free → slot ≡ Free
+no_page_changed f Free e = e
+no_page_changed f (Gone l) e = e
+no_page_changed f (Live s) e = absurd (taken e)
+  where
+    taken : {s : PageState} → Live s ≡ Free → ⊥
+    taken e = cc
+
+pub free_under : (bases : Bases) (ds : List Delta) (slot : Slot) → changed bases ds slot ≡ Free → slot ≡ Free
+free_under bases [] slot e = e
+free_under bases (d ∷ ds) slot e = free_under bases ds slot (by d e)
+  where
+    by : (d : Delta) → change bases d (changed bases ds slot) ≡ Free → changed bases ds slot ≡ Free
+    by (Put w) e = no_page_changed (λ s. record s { body = body_written w s.body }) (changed bases ds slot) e
+    by (Split k to) e = no_page_changed (λ s. record s { high = Some k; side = Some to; body = body_below k s.body }) (changed bases ds slot) e
+    by (Absorb k base high side) e = e
+    by (Removed left) e = e
+    by (AddChild k child) e = no_page_changed (λ s. record s { body = body_with_child k child s.body }) (changed bases ds slot) e
+    by (DropChild k) e = e
 
 -- so a page whose base page is vacant has a free identifier
 pub vacant_free : (heads : List ℕ) (bases : Bases) (records : Records) → OwnBases heads bases records → (p word : ℕ) → slice_get heads p ≡ Some word → based (slice_get bases p) ≡ Free → slot_of_word bases records word ≡ Free

@@ -22,3 +22,4 @@ pub mod Roots
 pub mod Merges
 pub mod Removed
 pub mod Freeing
+pub mod Vacancy

@@ -1,10 +1,11 @@
 // Base pages that take the place of others, new ones, and some that go.
-ghost use Rattle.std.specs.Prelude.{◌≡◌, ℕ, ◌<◌, ◌≤◌, length, Decides, Some, None, slice_get, slice_set};
+ghost use Rattle.std.specs.Prelude.{◌≡◌, ℕ, ◌<◌, ◌≤◌, length, take, Decides, Some, None, slice_get, slice_set};
 ghost use Rattle.bw_chain.specs.Chains.{IsChain, based};
 ghost use Rattle.bw_chain.specs.Placing.{put_at};
 ghost use Rattle.bw_chain.specs.Removed.{IsNotRemoved, IsRemovedInto};
 ghost use Rattle.bw_chain.specs.Slots.{Free};
 ghost use Rattle.bw_chain.specs.Supports.{base_under};
+ghost use Rattle.bw_chain.specs.Vacancy.{AreVacantFrom, IsTakenBefore};
 
 use crate::chains::Chains;
 use bw_page::{Page, PageId};
@@ -73,6 +74,34 @@ impl Chains {
         ensures { Decides result (based (slice_get self.now.bases number) ≡ Free) }
     {
         self.base(number.0 as u64).is_none()
+    }
+
+    /// Lets the vacant numbers behind the last base page go, and answers how many numbers are left. It takes no memory, and
+    /// costs a step for each number that goes.
+    pub fn trim_bases(&mut self) -> usize
+        ensures vacant { AreVacantFrom self.old.bases result }
+        ensures last { IsTakenBefore self.old.bases result }
+        ensures bases { self.new.bases ≡ take result self.old.bases }
+        ensures records { self.new.records ≡ self.old.records }
+    {
+        let count = self.taken_count();
+        self.bases.truncate(count);
+        count
+    }
+
+    // How many numbers there are up to the last one that isn't vacant.
+    fn taken_count(&self) -> usize
+        ensures vacant { AreVacantFrom self.now.bases result }
+        ensures last { IsTakenBefore self.now.bases result }
+    {
+        let mut count = self.bases.len();
+        while count > 0 {
+            if self.base(count as u64 - 1).is_some() {
+                return count;
+            }
+            count -= 1;
+        }
+        0
     }
 
     // The number of the base page under a chain.
