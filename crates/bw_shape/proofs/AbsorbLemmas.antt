@@ -14,7 +14,7 @@ use Rattle.bw_chain.specs.Slots.{Slot, Body, Pairs, Children, Free, Gone, Live, 
 use Rattle.bw_chain.specs.Splits.{slot_entries}
 use Rattle.bw_chain.proofs.AboveLemmas.{own_level}
 use Rattle.bw_tree.specs.Consolidation.{IsConsolidated, IsRebased, consolidated_leaf}
-use Rattle.bw_tree.specs.Freeing.{HasFreed, MayBeFreed}
+use Rattle.bw_tree.specs.Freeing.{HasFreed, IsTrimmed, MayBeFreed}
 use Rattle.bw_tree.specs.Merges.{HasLostChild, HasMerged, MayMerge}
 use Rattle.bw_tree.specs.Pages.{IsLeft}
 use Rattle.bw_tree.specs.Routing.{IsInLevel}
@@ -155,6 +155,15 @@ tidy_released old new p Done none h =
       within = λ due. within_released old new due p h.0 freed;
     }
 tidy_released old new p NotNeeded none h = tidy_still old new none h.0
+
+-- identifiers that are forgotten are of no leaf
+pub tidy_trimmed : (old new : TreeView) → IsTrimmed old new → KeepsTidy old new
+tidy_trimmed old new trimmed = record {
+  holds = record { contents = held_at old new trimmed.next trimmed.contents; next = trimmed.next; records = omega (arith, trimmed.records); staged = trimmed.staged };
+  within = λ due limits but r leaf.
+      subst (λ (s : Slot). Contains due r ⊎ IsWithin limits s) (sym (trimmed.pages r))
+      (but r (subst (λ (l : List (List ℕ)). Contains (row l 0) r) trimmed.levels leaf));
+}
 
 -- the root's only child is the root
 row_lowered : (levels : List (List ℕ)) (n r : ℕ) → Contains (row (take n levels) 0) r → Contains (row levels 0) r

@@ -17,7 +17,8 @@ use bw_tree::Tree;
 /// `page_max`, is consolidated. It's split into halves until none has too many pairs, or, with fewer than `page_min`, merged
 /// into its left neighbour, where one page above names both and the two have at most `page_max` pairs. A page above that got
 /// or lost index entries is looked at next, and so is its right neighbour, level by level, by the same two limits on how many
-/// children it has. A root that was split gets a root above it, and one that has one child alone goes. No batch is staged.
+/// children it has. A root that was split gets a root above it, and one that has one child alone goes. Free identifiers
+/// behind the last page are forgotten at the end. No batch is staged.
 ///
 /// At the first `Memory` it stops, and what it didn't look at stays due. Where it doesn't stop, no leaf is over a limit,
 /// if none was that wasn't due. It costs a walk along the chain of each page that is due, and for each page that is over a
@@ -53,7 +54,9 @@ fn visit_all(
     go_on(tree, due)?;
     due.begin()?;
     visit_levels(tree, limits, due, counts)?;
-    lower(tree)
+    lower(tree)?;
+    forget_free(tree);
+    Ok(())
 }
 
 // Finishes the splits or the merge at which tidying stopped, if it did.
@@ -125,6 +128,15 @@ fn lower(tree: &mut Tree) -> Result<(), Memory>
 {
     while lower_once(tree)? == Did::Done {}
     Ok(())
+}
+
+// Forgets the free identifiers behind the last page.
+fn forget_free(tree: &mut Tree)
+    requires { tree.old.staged ≡ None }
+    ensures holds { HoldsAll tree.old tree.new }
+    ensures within { (due : List ℕ) → KeepsWithin tree.old tree.new due due }
+{
+    tree.trim();
 }
 
 // Drops such a root, and gives its identifier back, if nothing leads to it.

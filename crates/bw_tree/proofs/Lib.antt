@@ -36,6 +36,7 @@ pub mod MergeLemmas
 pub mod DropLemmas
 pub mod LoweringLemmas
 pub mod FreeLemmas
+pub mod TrimLemmas
 pub mod IdentifierLemmas
 pub mod LeftLemmas
 pub mod UnreachedLemmas

@@ -1,5 +1,5 @@
 -- Identifiers that are given back.
-use Rattle.std.specs.Prelude.{◌≡◌, ℕ, None}
+use Rattle.std.specs.Prelude.{◌≡◌, ℕ, suc, List, length, take, None}
 use Rattle.bw_chain.specs.Freeing.{IsUnreached, IsFreed}
 use Rattle.bw_chain.specs.Slots.{Free, slot_at}
 use Rattle.bw_tree.specs.View.{TreeView, contents_at}
@@ -15,6 +15,23 @@ pub record HasFreed (old new : TreeView) (p : ℕ) : Type 0 where
   pub levels : new.levels ≡ old.levels
   pub contents : (stamp : ℕ) → contents_at new stamp ≡ contents_at old stamp
   pub heads : new.heads ≡ old.heads
+  pub root : new.root ≡ old.root
+  pub records : new.records ≡ old.records
+  pub next : new.next ≡ old.next
+  pub staged : new.staged ≡ None
+
+-- the last identifier that has a mapping word isn't free
+abbrev pub EndsTaken : TreeView → Type 0
+EndsTaken tree = (p : ℕ) → suc p ≡ length tree.heads → slot_at tree.slots p ≡ Free → ⊥
+
+-- The free identifiers at the end have no mapping words any more. All pages are as before, and so are the levels and what the
+-- tree holds.
+pub record IsTrimmed (old new : TreeView) : Type 0 where
+  pub pages : (p : ℕ) → slot_at new.slots p ≡ slot_at old.slots p
+  pub heads : new.heads ≡ take (length new.heads) old.heads
+  pub taken : EndsTaken new
+  pub levels : new.levels ≡ old.levels
+  pub contents : (stamp : ℕ) → contents_at new stamp ≡ contents_at old stamp
   pub root : new.root ≡ old.root
   pub records : new.records ≡ old.records
   pub next : new.next ≡ old.next

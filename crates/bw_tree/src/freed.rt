@@ -37,6 +37,15 @@ impl Freed {
         }
     }
 
+    /// Forgets the identifiers from this one on, where most of them are, and gives their room back. There are so many that it
+    /// costs no more than it took to add them.
+    pub(crate) fn forget_from(&mut self, count: usize) {
+        if self.heap.len() / 2 > count {
+            self.heap.retain(|Reverse(page)| (*page as usize) < count);
+            self.heap.shrink_to_fit();
+        }
+    }
+
     // The least one.
     fn least(&self) -> Option<PageId> {
         let Reverse(least) = self.heap.peek()?;

@@ -1,5 +1,5 @@
 // Mapping words of some pages, put in their places.
-ghost use Rattle.std.specs.Prelude.{◌≡◌, ℕ, ◌+◌, ◌<◌, ◌≤◌, Some, length, vec_capacity, vec_len};
+ghost use Rattle.std.specs.Prelude.{◌≡◌, ℕ, ◌+◌, ◌<◌, ◌≤◌, Some, length, take, vec_capacity, vec_len};
 ghost use Rattle.std.specs.List.{AllByRecursion, slice_set};
 ghost use Rattle.bw_core.specs.World.{times};
 ghost use Rattle.bw_chain.specs.Placing.{put_at};
@@ -87,4 +87,15 @@ pub(crate) fn put_own(heads: &mut Vec<u64, Alloc>, page: PageId)
         return;
     }
     heads.push(page.0 as u64).unwrap();
+}
+
+/// Leaves the first words. Where they need a quarter of the room at the most, the list moves to a smaller block, if there is
+/// memory for it.
+pub(crate) fn truncate_words(heads: &mut Vec<u64, Alloc>, count: usize)
+    ensures { heads.new.items ≡ take count heads.old.items }
+{
+    heads.truncate(count);
+    if heads.capacity() / 4 > count {
+        heads.shrink_to(count.saturating_mul(2));
+    }
 }

@@ -31,6 +31,7 @@ mod shape;
 mod snapshot_reads;
 mod splits;
 mod staged_batch;
+mod trimming;
 
 pub use children::Unnamed;
 pub use shape::PageShape;

@@ -14,4 +14,6 @@ visit_levels-requires-clause-within c =
     subst (AreWithinBut c.args.limits.now c.go_on.new.tree) (sym c.in_ok-begin.ensures.pages) (c.in_ok-go_on.ensures.within c.args.limits.now c.requires.within)
 
 pub returns-clause-within : goal.returns-clause-within
-returns-clause-within c = c.lower.ensures.within c.visit_levels.new.due.pages c.args.limits.now c.in_ok-visit_levels.ensures.within
+returns-clause-within c =
+    c.forget_free.ensures.within c.visit_levels.new.due.pages c.args.limits.now
+    (c.in_ok-lower.ensures.within c.visit_levels.new.due.pages c.args.limits.now c.in_ok-visit_levels.ensures.within)
