@@ -107,24 +107,10 @@ all_removed bases i page numbers all n g is = by (set_removed bases i (Some page
     by (inl here) = subst (Contains (numbers ++ i ∷ [])) (sym here.0) (last numbers)
     by (inr there) = still numbers (all n g there)
 
--- the number of a page that is vacant may leave it
-pub all_popped : (bases : Bases) (i : ℕ) (numbers rest : List ℕ) → numbers ≡ rest ++ i ∷ [] → HasAllRemoved bases numbers → HasAllRemoved (set bases i None) rest
-all_popped bases i numbers rest parts all n g is = by (set_removed bases i None n g is)
+-- a number that is of no removed page may leave it
+pub all_passed : (bases : Bases) (i : ℕ) (numbers rest : List ℕ) → numbers ≡ rest ++ i ∷ [] → ((removed : RemovedPage) × IsRemovedAt bases i removed → ⊥) → HasAllRemoved bases numbers → HasAllRemoved bases rest
+all_passed bases i numbers rest parts not all n g is = stays (of rest (subst (λ ns. Contains ns n) parts (all n g is)))
   where
-    none : {a : Page} → None ≡ Some a → ⊥
-    none e = cc
-
-    vacant : (bs : Bases) (k : ℕ) → IsRemovedAt (set bs k None) k g → ⊥
-    vacant [] k e = clash e
-      where
-        clash : {a : Option Page} → None ≡ Some a → ⊥
-        clash e = cc
-    vacant (x ∷ bs) zero e = clash e
-      where
-        clash : {a : Page} → Some None ≡ Some (Some a) → ⊥
-        clash e = cc
-    vacant (x ∷ bs) (suc k) e = vacant bs k e
-
     of : (ns : List ℕ) → Contains (ns ++ i ∷ []) n → Contains ns n ⊎ (n ≡ i)
     of [] (zero, lt, at) = inr (sym at)
     of [] (suc k, lt, at) = absurd (omega (arith, lt))
@@ -137,8 +123,4 @@ all_popped bases i numbers rest parts all n g is = by (set_removed bases i None 
 
     stays : Contains rest n ⊎ (n ≡ i) → Contains rest n
     stays (inl has) = has
-    stays (inr same) = absurd (vacant bases i (subst (λ k. IsRemovedAt (set bases i None) k g) same is))
-
-    by : ((n ≡ i) × (None ≡ Some (GonePage g))) ⊎ IsRemovedAt bases n g → Contains rest n
-    by (inl here) = absurd (none here.1)
-    by (inr there) = stays (of rest (subst (λ ns. Contains ns n) parts (all n g there)))
+    stays (inr same) = absurd (not (g, subst (λ k. IsRemovedAt bases k g) same is))

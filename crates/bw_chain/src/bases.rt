@@ -2,12 +2,14 @@
 ghost use Rattle.std.specs.Prelude.{◌≡◌, ℕ, ◌<◌, ◌≤◌, length, take, Decides, Some, None, slice_get, slice_set};
 ghost use Rattle.bw_chain.specs.Chains.{IsChain, based};
 ghost use Rattle.bw_chain.specs.Placing.{put_at};
-ghost use Rattle.bw_chain.specs.Removed.{IsNotRemoved, IsRemovedInto};
+ghost use Rattle.bw_page.specs.declared.pages.RemovedPage.{RemovedPage};
+ghost use Rattle.bw_chain.specs.Removed.{HasAllRemoved, IsNotRemoved, IsRemovedAt, IsRemovedInto};
 ghost use Rattle.bw_chain.specs.Slots.{Free};
 ghost use Rattle.bw_chain.specs.Supports.{base_under};
 ghost use Rattle.bw_chain.specs.Vacancy.{AreVacantFrom, IsTakenBefore};
 
 use crate::chains::Chains;
+use bw_memory::Alloc;
 use bw_page::{Page, PageId};
 use bw_segment::Segmented;
 
@@ -26,16 +28,15 @@ impl Chains {
         number
     }
 
-    /// Lets the base page of a number go, which is vacant from then on. It takes no memory.
+    /// Lets the base page of a number go, which is vacant from then on. It costs a look at the last ones of the base pages that
+    /// say of their page that it was removed, and takes no memory.
     pub fn free_base(&mut self, number: PageId)
         requires { number < length self.old.bases }
         ensures bases { self.new.bases ≡ slice_set self.old.bases number None }
         ensures records { self.new.records ≡ self.old.records }
     {
         self.bases.set(number.0 as usize, None);
-        if self.removed.last().copied() == Some(number) {
-            self.removed.pop();
-        }
+        pass_removed(&self.bases, &mut self.removed);
     }
 
     /// Whether a base page says that its page was removed into this left neighbour. It costs a look at each that says so, and
@@ -129,4 +130,23 @@ pub(crate) fn put_base(bases: &mut Segmented<Option<Page>>, number: usize, page:
         return;
     }
     bases.push_reserved(Some(page));
+}
+
+// Takes the last numbers from a list with those of all removed pages, up to one that is of a removed page still.
+fn pass_removed(bases: &Segmented<Option<Page>>, numbers: &mut Vec<PageId, Alloc>)
+    ensures { HasAllRemoved bases.now.items numbers.old.items → HasAllRemoved bases.now.items numbers.new.items }
+{
+    while let Some(number) = numbers.last().copied() {
+        if is_removed(bases, number) {
+            return;
+        }
+        numbers.pop();
+    }
+}
+
+// Whether the base page of a number says that its page was removed.
+fn is_removed(bases: &Segmented<Option<Page>>, number: PageId) -> bool
+    ensures { Decides result ((removed : RemovedPage) × IsRemovedAt bases.now.items number removed) }
+{
+    matches!(bases.get(number.0 as usize), Some(Some(Page::Gone(_))))
 }
