@@ -23,24 +23,11 @@ pub struct Drain {
 }
 
 fn options(workers: u64) -> Result<Options> {
-    Ok(Options::new(
-        workers,
-        64,
-        8,
-        64,
-        16,
-        BATCH,
-        RECORDS_DEFAULT,
-    )?)
+    Ok(Options::new(workers, 64, 8, 64, 16, BATCH, RECORDS_DEFAULT)?)
 }
 
 // An index and a map that got so many keys, scattered ones.
-fn grown<R: Threads + Clock + Sync>(
-    rt: &R,
-    heaps: Heaps,
-    workers: u64,
-    keys: u64,
-) -> Result<Both> {
+fn grown<R: Threads + Clock + Sync>(rt: &R, heaps: Heaps, workers: u64, keys: u64) -> Result<Both> {
     let mut both = Both {
         index: Index::new(heaps.index, options(workers)?)?,
         map: BTreeMap::new(heaps.map),
@@ -84,7 +71,9 @@ pub fn print_drain<R: Threads + Clock + Sync + Print>(
     requires { 0 < drain.load.operations }
 {
     let Load {
-        keys, operations, ..
+        keys,
+        operations,
+        ..
     } = drain.load;
     let words = drain.order.words();
     println!(rt;

@@ -3,13 +3,13 @@
 //! An index and a map are filled with the same keys of 8 bytes, 44 to a leaf of the index, and then run the same batches,
 //! which are drawn from a seed. With no word there are few keys, and how many replies of the two are the same is printed.
 //! `run` times batches of one kind, as its options say; `time` those of all kinds over 10,000 keys and 1,000,000, `small`
-//! batches of 1, 8, 64 and 1,024 operations, and `insert` an empty index and an empty map that get 1,048,576 keys, rising
-//! ones and scattered ones. What is printed is nanoseconds an operation, of the batch whose time is in the middle and of all
+//! batches of 1, 8, 64 and 1,024 operations, `insert` an empty index and an empty map that get 1,048,576 keys, rising
+//! ones and scattered ones, and `drain` both as they lose as many. What is printed is nanoseconds an operation, of the batch whose time is in the middle and of all
 //! batches together, index / map, and the ratio. `bytes` prints how many bytes a key the index and the map have in use.
 //! `picture` writes what `run` times as an SVG text, over several numbers of workers, operations of a batch or keys.
 #![tactic(auto)]
 
-ghost use Rattle.std.specs.Prelude.{◌<◌, IfOk};
+ghost use Rattle.std.specs.Prelude.{◌≡◌, ◌<◌, IfOk};
 
 mod chart;
 mod drain;
@@ -84,6 +84,7 @@ const RECORDS_DEFAULT: u64 = 1 << 20;
 // So many keys, once each, by batches of so many.
 fn fresh(keys: u64, operations: u64) -> Load
     requires { 0 < operations }
+    ensures { result.operations ≡ operations }
 {
     Load {
         keys,
@@ -473,7 +474,7 @@ fn print_drains<R: Threads + Clock + Sync + Print>(
     Ok(())
 }
 
-// By batches of so many operations, with 1 worker and with 4.
+// By batches of so many operations, in both orders.
 fn print_drains_by<R: Threads + Clock + Sync + Print>(
     rt: &R,
     global: Global,
@@ -484,15 +485,29 @@ fn print_drains_by<R: Threads + Clock + Sync + Print>(
 {
     let load = fresh(FRESH, operations);
     for order in [Order::Rising, Order::Scattered] {
-        for workers in [1, 4] {
-            let drain = Drain {
-                order,
-                load,
-                workers,
-            };
-            print_drain(rt, alloc, drain, true)?;
-            print_left(rt, global, alloc, drain)?;
-        }
+        print_drains_in(rt, global, alloc, order, load)?;
+    }
+    Ok(())
+}
+
+// In one order, with 1 worker and with 4.
+fn print_drains_in<R: Threads + Clock + Sync + Print>(
+    rt: &R,
+    global: Global,
+    alloc: Alloc,
+    order: Order,
+    load: Load,
+) -> Result<()>
+    requires { 0 < load.operations }
+{
+    for workers in [1, 4] {
+        let drain = Drain {
+            order,
+            load,
+            workers,
+        };
+        print_drain(rt, alloc, drain, true)?;
+        print_left(rt, global, alloc, drain)?;
     }
     Ok(())
 }

@@ -6,6 +6,7 @@ mod drops;
 mod heaps;
 mod largest;
 mod leaves;
+mod merges;
 mod numbers;
 mod random;
 mod refused;

@@ -34,18 +34,11 @@ const FIVE_INSERTED: &str = "inserted\ninserted\ninserted\ninserted\ninserted\n"
 
 const FIVE_DELETED: &str = "was 1\nwas 2\nwas 3\nwas 4\nwas 5\n";
 
-const SCANNED_TEXT: &str =
-    "scan 5\na 6\nb 7\nc 8\nd 9\ne 10\nwas 6\nwas 7\nwas 8\nwas 9\nwas 10\n";
+const SCANNED_TEXT: &str = "scan 5\na 6\nb 7\nc 8\nd 9\ne 10\nwas 6\nwas 7\nwas 8\nwas 9\nwas 10\n";
 
 impl<R: Abort + Files + AllocGlobal + Threads + Clock + Sync> Runner<'_, R> {
     // Runs a trace by so many workers, in pieces of so many records.
-    fn expect_by(
-        &self,
-        workers: &'static str,
-        piece: &'static str,
-        text: &str,
-        output: &str,
-    ) {
+    fn expect_by(&self, workers: &'static str, piece: &'static str, text: &str, output: &str) {
         let words = ["run", "--workers", workers, "--piece", piece];
         self.expect_words(&words, text, output, "", 0);
     }

@@ -20,7 +20,13 @@ fn number_at(place: u32, is_scattered: bool) -> u32 {
 }
 
 // Upserts of the keys from one place up to another.
-fn upserts<R: Abort>(rt: &R, alloc: Alloc, from: u32, to: u32, is_scattered: bool) -> Vec<Op, Alloc> {
+fn upserts<R: Abort>(
+    rt: &R,
+    alloc: Alloc,
+    from: u32,
+    to: u32,
+    is_scattered: bool,
+) -> Vec<Op, Alloc> {
     let mut ops = Vec::new(alloc);
     for place in from..to {
         let number = number_at(place, is_scattered);
@@ -32,7 +38,7 @@ fn upserts<R: Abort>(rt: &R, alloc: Alloc, from: u32, to: u32, is_scattered: boo
 
 // An index of all keys, put by batches of 10,000.
 fn filled<R: Abort + Threads + Sync>(rt: &R, alloc: Alloc, is_scattered: bool) -> Index {
-    let mut index = Index::new(alloc, working(rt, 4, 64)).expect(rt, "an index");
+    let mut index = Index::new(alloc, working(rt, 1, 64)).expect(rt, "an index");
     for batch in 0..10u32 {
         let from = batch * 10_000;
         let ops = upserts(rt, alloc, from, from + 10_000, is_scattered);
@@ -43,7 +49,13 @@ fn filled<R: Abort + Threads + Sync>(rt: &R, alloc: Alloc, is_scattered: bool) -
 }
 
 // Deletes of the keys from one place up to another.
-fn deletes<R: Abort>(rt: &R, alloc: Alloc, from: u32, to: u32, is_scattered: bool) -> Vec<Op, Alloc> {
+fn deletes<R: Abort>(
+    rt: &R,
+    alloc: Alloc,
+    from: u32,
+    to: u32,
+    is_scattered: bool,
+) -> Vec<Op, Alloc> {
     let mut ops = Vec::new(alloc);
     for place in from..to {
         let number = number_at(place, is_scattered);
