@@ -104,8 +104,8 @@ fn bytes_of_new(global: Global, workers: u64) -> Result<u64> {
     Ok(used)
 }
 
-/// Deletes all keys of an index and a map, each with a heap of its own, and prints how many bytes they have in use before and
-/// after.
+/// Deletes all keys of an index and a map, each with a heap of its own, and prints how many bytes they have in use before
+/// that and after it.
 pub fn print_left<R: Threads + Clock + Sync + Print>(
     rt: &R,
     global: Global,

@@ -1,12 +1,13 @@
 //! What a batch costs on an index of many leaves, beside the same operations on std's `BTreeMap` by one thread.
 //!
-//! An index and a map are filled with the same keys of 8 bytes, 44 to a leaf of the index, and then run the same batches,
-//! which are drawn from a seed. With no word there are few keys, and how many replies of the two are the same is printed.
-//! `run` times batches of one kind, as its options say; `time` those of all kinds over 10,000 keys and 1,000,000, `small`
-//! batches of 1, 8, 64 and 1,024 operations, `insert` an empty index and an empty map that get 1,048,576 keys, rising
-//! ones and scattered ones, and `drain` both as they lose as many. What is printed is nanoseconds an operation, of the batch whose time is in the middle and of all
-//! batches together, index / map, and the ratio. `bytes` prints how many bytes a key the index and the map have in use.
-//! `picture` writes what `run` times as an SVG text, over several numbers of workers, operations of a batch or keys.
+//! An index and a map are filled with the same keys of 8 bytes, 44 to a leaf of the index, and then run the same
+//! batches, which are drawn from a seed. With no word there are few keys, and how many replies of the two are the same
+//! is printed. `run` times batches of one kind, as its options say; `time` those of all kinds over 10,000 keys and
+//! 1,000,000, `small` batches of 1, 8, 64 and 1,024 operations, `insert` an empty index and an empty map that get
+//! 1,048,576 keys, rising ones and scattered ones, and `drain` both as they lose as many. What is printed is
+//! nanoseconds an operation, of the batch whose time is in the middle and of all batches together, index / map, and the
+//! ratio. `bytes` prints how many bytes a key the index and the map have in use. `picture` writes what `run` times as
+//! an SVG text, over several numbers of workers, operations of a batch or keys.
 #![tactic(auto)]
 
 ghost use Rattle.std.specs.Prelude.{◌≡◌, ◌<◌, IfOk};
