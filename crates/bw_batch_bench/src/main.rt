@@ -1,17 +1,19 @@
 //! What a batch costs on an index of many leaves, beside the same operations on std's `BTreeMap` by one thread.
 //!
-//! An index and a map are filled with the same keys of 8 bytes, 44 to a leaf of the index, and then run the same batches,
-//! which are drawn from a seed. With no word there are few keys, and how many replies of the two are the same is printed.
-//! `run` times batches of one kind, as its options say; `time` those of all kinds over 10,000 keys and 1,000,000, `small`
-//! batches of 1, 8, 64 and 1,024 operations, and `insert` an empty index and an empty map that get 1,048,576 keys, rising
-//! ones and scattered ones. What is printed is nanoseconds an operation, of the batch whose time is in the middle and of all
-//! batches together, index / map, and the ratio. `bytes` prints how many bytes a key the index and the map have in use.
-//! `picture` writes what `run` times as an SVG text, over several numbers of workers, operations of a batch or keys.
+//! An index and a map are filled with the same keys of 8 bytes, 44 to a leaf of the index, and then run the same
+//! batches, which are drawn from a seed. With no word there are few keys, and how many replies of the two are the same
+//! is printed. `run` times batches of one kind, as its options say; `time` those of all kinds over 10,000 keys and
+//! 1,000,000, `small` batches of 1, 8, 64 and 1,024 operations, `insert` an empty index and an empty map that get
+//! 1,048,576 keys, rising ones and scattered ones, and `drain` both as they lose as many. What is printed is
+//! nanoseconds an operation, of the batch whose time is in the middle and of all batches together, index / map, and the
+//! ratio. `bytes` prints how many bytes a key the index and the map have in use. `picture` writes what `run` times as
+//! an SVG text, over several numbers of workers, operations of a batch or keys.
 #![tactic(auto)]
 
-ghost use Rattle.std.specs.Prelude.{◌<◌, IfOk};
+ghost use Rattle.std.specs.Prelude.{◌≡◌, ◌<◌, IfOk};
 
 mod chart;
+mod drain;
 mod request;
 mod workload;
 
@@ -19,6 +21,7 @@ use anyhow::{Context, Result, bail};
 use bw_batch::{Index, Key, Op, OpenGate, Options, Tree, Value};
 use bw_memory::{Alloc, Heap, LIMIT_MAX};
 use chart::{Column, print_chart};
+use drain::{Drain, print_drain, print_left};
 use request::{By, Job, Request, request_in};
 use std::alloc::Global;
 use std::collections::BTreeMap;
@@ -76,9 +79,13 @@ const RECORDS: u64 = 1 << 24;
 
 const FEW_RECORDS: u64 = 1 << 18;
 
+// As many as the program has where nothing is said.
+const RECORDS_DEFAULT: u64 = 1 << 20;
+
 // So many keys, once each, by batches of so many.
 fn fresh(keys: u64, operations: u64) -> Load
     requires { 0 < operations }
+    ensures { result.operations ≡ operations }
 {
     Load {
         keys,
@@ -157,7 +164,7 @@ fn filled<R: Threads + Clock + Sync>(
     workers: u64,
     keys: u64,
 ) -> Result<Both> {
-    let options = Options::new(workers, 64, 8, 64, 16, BATCH, 1_048_576)?;
+    let options = Options::new(workers, 64, 8, 64, 16, BATCH, RECORDS_DEFAULT)?;
     let tree = Tree::from_level(heaps.index, leaves_for(heaps.index, keys)?)?;
     let mut both = Both {
         index: Index::from_tree(heaps.index, options, tree)?,
@@ -456,6 +463,56 @@ fn print_all_inserts<R: Threads + Clock + Sync + Print>(rt: &R, alloc: Alloc) ->
     Ok(())
 }
 
+// Deletes all keys of an index and a map of many keys, in both orders.
+fn print_drains<R: Threads + Clock + Sync + Print>(
+    rt: &R,
+    global: Global,
+    alloc: Alloc,
+) -> Result<()> {
+    for operations in [BATCH, 64] {
+        print_drains_by(rt, global, alloc, operations)?;
+    }
+    Ok(())
+}
+
+// By batches of so many operations, in both orders.
+fn print_drains_by<R: Threads + Clock + Sync + Print>(
+    rt: &R,
+    global: Global,
+    alloc: Alloc,
+    operations: u64,
+) -> Result<()>
+    requires { 0 < operations }
+{
+    let load = fresh(FRESH, operations);
+    for order in [Order::Rising, Order::Scattered] {
+        print_drains_in(rt, global, alloc, order, load)?;
+    }
+    Ok(())
+}
+
+// In one order, with 1 worker and with 4.
+fn print_drains_in<R: Threads + Clock + Sync + Print>(
+    rt: &R,
+    global: Global,
+    alloc: Alloc,
+    order: Order,
+    load: Load,
+) -> Result<()>
+    requires { 0 < load.operations }
+{
+    for workers in [1, 4] {
+        let drain = Drain {
+            order,
+            load,
+            workers,
+        };
+        print_drain(rt, alloc, drain, true)?;
+        print_left(rt, global, alloc, drain)?;
+    }
+    Ok(())
+}
+
 // A heap that counts the bytes in use.
 fn counting_heap(global: Global) -> Result<Alloc> {
     Ok(Heap::within(global, LIMIT_MAX).leak(global)?)
@@ -493,7 +550,13 @@ fn bytes_each(bytes: u64, keys: u64) -> f64 {
 // Compares the replies of an index and of a map over few keys.
 fn print_brief<R: Threads + Clock + Sync + Print>(rt: &R, alloc: Alloc) -> Result<()> {
     print_load(rt, alloc, BRIEF, false)?;
-    print_inserts(rt, alloc, Order::Scattered, fresh(1000, 64), RECORDS, false)
+    print_inserts(rt, alloc, Order::Scattered, fresh(1000, 64), RECORDS, false)?;
+    let drain = Drain {
+        order: Order::Scattered,
+        load: fresh(1000, 64),
+        workers: 1,
+    };
+    print_drain(rt, alloc, drain, false)
 }
 
 // Does what a request asks for.
@@ -516,6 +579,7 @@ fn print_request<R: Threads + Clock + Sync + Print>(
             print_small(rt, alloc, LARGE.keys)
         }
         Job::Insert => print_all_inserts(rt, alloc),
+        Job::Drain => print_drains(rt, global, alloc),
         Job::Picture => print_picture(rt, alloc, request),
     }
 }

@@ -14,6 +14,7 @@ pub enum Job {
     Time,
     Small,
     Insert,
+    Drain,
     Picture,
 }
 
@@ -84,8 +85,8 @@ impl Request {
     }
 }
 
-static JOBS: [&str; 7] = [
-    "check", "run", "bytes", "time", "small", "insert", "picture",
+static JOBS: [&str; 8] = [
+    "check", "run", "bytes", "time", "small", "insert", "drain", "picture",
 ];
 
 static BYS: [&str; 3] = ["workers", "batch", "keys"];
@@ -99,6 +100,8 @@ const AFTER: &str = "The jobs:
   time    times all kinds of batches of 65536, over 10000 keys and 1000000, with 1, 2 and 4 workers
   small   times batches of 1, 8, 64 and 1024 gets, and of gets and upserts
   insert  times an empty index and an empty map that get 1048576 keys
+  drain   times an index and a map of 1048576 keys that lose them all, with 1 and 4 workers, and
+          prints what bytes they have in use then
   picture writes a picture of times to standard output, an SVG text: what `run` times with 1, 2
           and 4 workers, by batches of 1, 8, 64, 1024 and 65536 operations, or over 10000, 100000
           and 1000000 keys, as --by says; of small batches as many as have 8192 operations
@@ -128,6 +131,7 @@ fn job_named(word: Option<&str>) -> Job {
         Some("time") => Job::Time,
         Some("small") => Job::Small,
         Some("insert") => Job::Insert,
+        Some("drain") => Job::Drain,
         Some("picture") => Job::Picture,
         _ => Job::Check,
     }

@@ -123,6 +123,41 @@ pub fn upserts(alloc: Alloc, order: Order, from: u64, to: u64) -> Result<Vec<Op,
     Ok(ops)
 }
 
+// Puts numbers in an order that is drawn.
+fn shuffle(random: &mut Random, numbers: &mut [u64]) {
+    for place in 1..numbers.len() {
+        let other = random.below(place as u64 + 1) as usize;
+        numbers.swap(place, other);
+    }
+}
+
+/// The numbers of the first keys that come scattered, in the order in which they go: rising, or drawn.
+pub fn numbers(
+    alloc: Alloc,
+    random: &mut Random,
+    order: Order,
+    keys: u64,
+) -> Result<Vec<u64, Alloc>> {
+    let mut numbers = Vec::new(alloc);
+    for place in 0..keys {
+        numbers.push(Order::Scattered.number(place))?;
+    }
+    match order {
+        Order::Rising => numbers.sort_unstable(),
+        Order::Scattered => shuffle(random, &mut numbers),
+    }
+    Ok(numbers)
+}
+
+/// Deletes of the keys of these numbers.
+pub fn deletes(alloc: Alloc, numbers: &[u64]) -> Result<Vec<Op, Alloc>> {
+    let mut ops = Vec::new(alloc);
+    for number in numbers {
+        ops.push(Op::Delete(key(alloc, *number)?))?;
+    }
+    Ok(ops)
+}
+
 /// What a batch is made of; of two kinds of operations in equal parts.
 #[derive(Clone, Copy, PartialEq, Eq)]
 pub enum Kind {
@@ -194,7 +229,7 @@ fn scanned(
     Ok(pairs)
 }
 
-/// What the map answers to a get, an upsert or a scan without an end, after which it is changed.
+/// What the map answers to a get, an upsert, a delete or a scan without an end, after which it is changed.
 pub fn answer(alloc: Alloc, map: &mut BTreeMap<Key, Value, Alloc>, op: &Op) -> Result<Reply> {
     Ok(match op {
         Op::Get(key) => match map.get(key) {
@@ -205,11 +240,15 @@ pub fn answer(alloc: Alloc, map: &mut BTreeMap<Key, Value, Alloc>, op: &Op) -> R
             Some(value) => Reply::Was(value),
             None => Reply::New,
         },
+        Op::Delete(key) => match map.remove(key) {
+            Some(value) => Reply::Was(value),
+            None => Reply::Absent,
+        },
         Op::Scan {
             from,
             to: None,
             most,
         } => Reply::Pairs(scanned(alloc, map, from, *most)?),
-        _ => bail!("no get, no upsert, and no scan without an end"),
+        _ => bail!("no get, no upsert, no delete, and no scan without an end"),
     })
 }

@@ -18,3 +18,4 @@ mod stats;
 mod stops;
 mod traces;
 mod words;
+mod workers;

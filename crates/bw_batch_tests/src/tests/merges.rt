@@ -1,7 +1,8 @@
 // Pages that are merged behind batches of deletes.
-use super::running::{Row, ops_of, run as read};
+use super::running::{Row, WORKERS, ops_of, run as read};
 use super::trees::{FIVE, Listed, has_pages, insert, run, small_pages};
-use bw_batch::{Index, Op, OpenGate, Refusal, Tidy};
+use super::turns::{Batches, compare_with};
+use bw_batch::{Index, Op, OpenGate, Options, Refusal, Tidy};
 use bw_fixtures::TextOp::{Delete, Get, Insert, Scan};
 use bw_fixtures::TextReply::{Absent, Inserted, Pairs, Was};
 use bw_fixtures::{TextOp, heap, was_refused};
@@ -87,6 +88,47 @@ fn five_letters_come_and_go_twice(rt: HostRuntime) {
     read(&rt, alloc, &mut index, SCAN);
     has_pages(&rt, &index, EMPTY);
     read(&rt, alloc, &mut index, READS);
+}
+
+// Inserts of five letters, and deletes of them.
+const FIRST: &[Row] = &[
+    (Insert("a", "1"), Inserted),
+    (Insert("b", "2"), Inserted),
+    (Insert("c", "3"), Inserted),
+    (Insert("d", "4"), Inserted),
+    (Insert("e", "5"), Inserted),
+];
+
+const GONE: &[Row] = &[
+    (Delete("a"), Was("1")),
+    (Delete("b"), Was("2")),
+    (Delete("c"), Was("3")),
+    (Delete("d"), Was("4")),
+    (Delete("e"), Was("5")),
+];
+
+const ONCE: Batches = &[FIRST, GONE];
+
+const TWICE: Batches = &[FIRST, GONE, INSERTS, SCAN];
+
+// Small pages, with so many workers, and pieces of so many records.
+fn small<R: Abort>(rt: &R, workers: u64, piece: u64) -> Options {
+    Options::new(workers, piece, 1, 4, 1, 65536, 1048576).expect(rt, "options")
+}
+
+// Five letters come and go once and twice, and all are gone in the end.
+fn come_and_go<R: Abort + Threads + Sync>(rt: &R, alloc: Alloc, workers: u64, piece: u64) {
+    compare_with(rt, alloc, small(rt, workers, piece), ONCE, &[]);
+    compare_with(rt, alloc, small(rt, workers, piece), TWICE, &[]);
+}
+
+#[test]
+fn each_number_of_workers_merges_leaves(rt: HostRuntime) {
+    let alloc = heap(rt.alloc()).expect(&rt, "a heap");
+    for workers in WORKERS {
+        come_and_go(&rt, alloc, workers, 1);
+        come_and_go(&rt, alloc, workers, 4096);
+    }
 }
 
 // Seventeen letters in the order of keys, and deletes of them.

@@ -61,8 +61,8 @@ fn run_at_once<R: Abort + Threads + Sync>(
     holds(rt, &index, after);
 }
 
-// Runs them both ways, by so many workers, in pieces of so many records.
-fn compare_with<R: Abort + Threads + Sync>(
+/// Runs them one by one and all at once, with these options. Compares the replies, and the pairs in the end.
+pub fn compare_with<R: Abort + Threads + Sync>(
     rt: &R,
     alloc: Alloc,
     options: Options,

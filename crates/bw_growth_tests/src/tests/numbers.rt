@@ -18,6 +18,11 @@ pub fn upsert<R: Abort>(rt: &R, alloc: Alloc, key: u32, number: u32) -> Op {
     Op::Upsert(key_of(rt, alloc, key), value_of(rt, alloc, number))
 }
 
+/// A delete of the key of a number.
+pub fn delete<R: Abort>(rt: &R, alloc: Alloc, key: u32) -> Op {
+    Op::Delete(key_of(rt, alloc, key))
+}
+
 /// A scan for the pair at the key of a number.
 pub fn scan_one<R: Abort>(rt: &R, alloc: Alloc, key: u32) -> Op {
     Op::Scan {
@@ -38,6 +43,14 @@ pub fn is_was(reply: &Reply, number: u32) -> bool {
 /// How many of the replies say that the key was new.
 pub fn count_new(replies: &[Reply]) -> usize {
     replies.iter().filter(|reply| **reply == Reply::New).count()
+}
+
+/// How many of the replies say that there was no key.
+pub fn count_absent(replies: &[Reply]) -> usize {
+    replies
+        .iter()
+        .filter(|reply| **reply == Reply::Absent)
+        .count()
 }
 
 /// How many pairs the index holds.

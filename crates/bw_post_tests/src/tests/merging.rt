@@ -4,24 +4,24 @@ ghost use Rattle.std.specs.Prelude.{◌≡◌, None};
 use super::half_done::{
     five_pairs, has_put_on_halves, has_put_on_leaves, put_on_halves, put_on_leaves,
 };
-use super::making::holds;
+use super::making::{has, holds};
 use super::shapes::has_pages;
 use super::tidying::{five_tidied, tidy_does};
-use bw_fixtures::heap;
+use bw_fixtures::{are, heap, key};
 use bw_memory::Alloc;
 use bw_page::PageId;
 use bw_post::Tree;
-use bw_shape::{Did, absorb, consolidate, drop_root, finish_absorb, sweep};
+use bw_shape::{Did, absorb, consolidate, drop_root, finish_absorb, grow_root, split, sweep};
 use std::process::Abort;
 use std::thread::Threads;
 
-// Drops the index entry of page 1.
-fn finish<R: Abort>(rt: &R, tree: &mut Tree)
+// Drops the index entry of a removed page.
+fn finish<R: Abort>(rt: &R, tree: &mut Tree, page: u32)
     requires { tree.old.staged ≡ None }
     ensures next { tree.new.next ≡ tree.old.next }
     ensures staged { tree.new.staged ≡ None }
 {
-    assert!(rt; finish_absorb(tree, PageId(1)) == Ok(Did::Done));
+    assert!(rt; finish_absorb(tree, PageId(page)) == Ok(Did::Done));
 }
 
 // Two leaves under a root, the right one of which was merged into the left one.
@@ -46,7 +46,7 @@ fn a_batch_is_posted_to_a_merged_leaf(rt: HostRuntime) {
     let mut tree = half_merged(&rt, alloc);
     put_on_halves(&rt, alloc, &mut tree, &[PageId(0)]);
     has_put_on_halves(&rt, alloc, &tree);
-    finish(&rt, &mut tree);
+    finish(&rt, &mut tree, 1);
     has_pages(
         &rt,
         &tree,
@@ -76,11 +76,131 @@ fn a_sweep_leaves_a_merge_to_be_finished(rt: HostRuntime) {
         (b"e", b"5"),
     ];
     holds(&rt, alloc, &tree, 0, &wanted);
-    finish(&rt, &mut tree);
+    finish(&rt, &mut tree, 1);
     holds(&rt, alloc, &tree, 0, &wanted);
     has_pages(
         &rt,
         &tree,
         &[(0, 0, b"", None, 5, 0), (2, 1, b"", None, 1, 0)],
+    );
+}
+
+// Where a scan begins and ends, how many pairs it wants, and as of which stamp it is.
+struct Range {
+    from: &'static [u8],
+    to: Option<&'static [u8]>,
+    most: u64,
+    stamp: u64,
+}
+
+// Compares the pairs of a range.
+fn scans<R: Abort>(
+    rt: &R,
+    alloc: Alloc,
+    tree: &Tree,
+    range: &Range,
+    wanted: &[(&'static [u8], &'static [u8])],
+) {
+    let from = key(alloc, range.from).expect(rt, "a key");
+    let to = range.to.map(|bytes| key(alloc, bytes).expect(rt, "a key"));
+    let pairs = tree.scan_at(&from, to.as_ref(), range.most, range.stamp);
+    assert!(rt; are(&pairs.expect(rt, "memory"), wanted));
+}
+
+// Compares the pairs of a range from its end.
+fn scans_back<R: Abort>(
+    rt: &R,
+    alloc: Alloc,
+    tree: &Tree,
+    range: &Range,
+    wanted: &[(&'static [u8], &'static [u8])],
+) {
+    let from = key(alloc, range.from).expect(rt, "a key");
+    let to = range.to.map(|bytes| key(alloc, bytes).expect(rt, "a key"));
+    let pairs = tree.rscan_at(&from, to.as_ref(), range.most, range.stamp);
+    assert!(rt; are(&pairs.expect(rt, "memory"), wanted));
+}
+
+// Page 1, which is removed, began at c.
+const FROM_REMOVED: Range = Range {
+    from: b"c",
+    to: None,
+    most: 9,
+    stamp: 5,
+};
+
+const OVER_BOTH: Range = Range {
+    from: b"b",
+    to: Some(b"d"),
+    most: 9,
+    stamp: 8,
+};
+
+const TWO: Range = Range {
+    from: b"b",
+    to: None,
+    most: 2,
+    stamp: 8,
+};
+
+#[test]
+fn scans_go_on_in_what_was_a_removed_page(rt: HostRuntime) {
+    let alloc = heap(rt.alloc()).expect(&rt, "memory");
+    let mut tree = half_merged(&rt, alloc);
+    put_on_halves(&rt, alloc, &mut tree, &[PageId(0)]);
+    let old: [(&[u8], &[u8]); 3] = [(b"c", b"3"), (b"d", b"4"), (b"e", b"5")];
+    scans(&rt, alloc, &tree, &FROM_REMOVED, &old);
+    let both: [(&[u8], &[u8]); 2] = [(b"b", b"8"), (b"c", b"3")];
+    scans(&rt, alloc, &tree, &OVER_BOTH, &both);
+    scans(&rt, alloc, &tree, &TWO, &both);
+    let back: [(&[u8], &[u8]); 2] = [(b"c", b"3"), (b"b", b"8")];
+    scans_back(&rt, alloc, &tree, &OVER_BOTH, &back);
+    let last: [(&[u8], &[u8]); 2] = [(b"e", b"5"), (b"d", b"9")];
+    scans_back(&rt, alloc, &tree, &TWO, &last);
+    has(&rt, alloc, &tree, 8, &[(b"cc", None), (b"f", None)]);
+}
+
+// A leaf under each of two inner pages, the right one of which was merged into the left one.
+fn half_merged_above<R: Abort + Threads + Sync>(rt: &R, alloc: Alloc) -> Tree
+    ensures next { result.next ≡ 5 }
+    ensures staged { result.staged ≡ None }
+{
+    let mut tree = five_tidied(rt, alloc);
+    assert!(rt; split(&mut tree, PageId(2), 1) == Ok(Did::Done));
+    assert!(rt; grow_root(&mut tree) == Ok(Did::Done));
+    assert!(rt; consolidate(&mut tree, PageId(2)) == Ok(Did::Done));
+    assert!(rt; absorb(&mut tree, PageId(3)) == Ok(Did::Done));
+    tree
+}
+
+#[test]
+fn a_batch_is_posted_below_a_merged_page(rt: HostRuntime) {
+    let alloc = heap(rt.alloc()).expect(&rt, "memory");
+    let mut tree = half_merged_above(&rt, alloc);
+    has_pages(
+        &rt,
+        &tree,
+        &[
+            (0, 0, b"", Some(b"c"), 2, 0),
+            (1, 0, b"c", None, 3, 0),
+            (2, 1, b"", None, 2, 0),
+            (4, 2, b"", None, 2, 0),
+        ],
+    );
+    put_on_halves(&rt, alloc, &mut tree, &[PageId(0), PageId(1)]);
+    has_put_on_halves(&rt, alloc, &tree);
+    finish(&rt, &mut tree, 3);
+    has_put_on_halves(&rt, alloc, &tree);
+    assert!(rt; drop_root(&mut tree) == Ok(Did::Done));
+    put_on_leaves(&rt, alloc, &mut tree, &[PageId(0), PageId(1)]);
+    has_put_on_leaves(&rt, alloc, &tree);
+    has_pages(
+        &rt,
+        &tree,
+        &[
+            (0, 0, b"", Some(b"c"), 2, 1),
+            (1, 0, b"c", None, 2, 3),
+            (2, 1, b"", None, 2, 0),
+        ],
     );
 }

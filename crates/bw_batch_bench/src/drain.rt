@@ -1,0 +1,137 @@
+//! An index and a map that lose all their keys.
+ghost use Rattle.std.specs.Prelude.{◌<◌};
+
+use crate::workload::{Order, Random, deletes, numbers, upserts};
+use crate::{
+    BATCH, Both, Heaps, Load, RECORDS_DEFAULT, Runs, SEED, counting_heap, longest, no_runs,
+    one_heap, print_times, run_batch,
+};
+use anyhow::Result;
+use bw_batch::{Index, Options};
+use bw_memory::Alloc;
+use std::alloc::Global;
+use std::collections::BTreeMap;
+use std::thread::Threads;
+use std::time::Clock;
+
+/// The order in which keys go, by batches of how many, and how many workers the index has.
+#[derive(Clone, Copy)]
+pub struct Drain {
+    pub order: Order,
+    pub load: Load,
+    pub workers: u64,
+}
+
+fn options(workers: u64) -> Result<Options> {
+    Ok(Options::new(workers, 64, 8, 64, 16, BATCH, RECORDS_DEFAULT)?)
+}
+
+// An index and a map that got so many keys, scattered ones.
+fn grown<R: Threads + Clock + Sync>(rt: &R, heaps: Heaps, workers: u64, keys: u64) -> Result<Both> {
+    let mut both = Both {
+        index: Index::new(heaps.index, options(workers)?)?,
+        map: BTreeMap::new(heaps.map),
+    };
+    let mut runs = no_runs(heaps.ops);
+    for place in 0..keys.div_ceil(BATCH) {
+        let from = place.saturating_mul(BATCH);
+        let to = from.saturating_add(BATCH).min(keys);
+        let ops = upserts(heaps.ops, Order::Scattered, from, to)?;
+        run_batch(rt, heaps.ops, &mut both, &ops, &mut runs)?;
+    }
+    Ok(both)
+}
+
+// Deletes all keys of both, and answers what came of that.
+fn drained<R: Threads + Clock + Sync>(
+    rt: &R,
+    heaps: Heaps,
+    both: &mut Both,
+    drain: Drain,
+) -> Result<Runs>
+    requires { 0 < drain.load.operations }
+{
+    let mut random = Random { state: SEED };
+    let numbers = numbers(heaps.ops, &mut random, drain.order, drain.load.keys)?;
+    let mut runs = no_runs(heaps.ops);
+    for some in numbers.chunks(drain.load.operations as usize) {
+        let ops = deletes(heaps.ops, some)?;
+        run_batch(rt, heaps.ops, both, &ops, &mut runs)?;
+    }
+    Ok(runs)
+}
+
+/// Deletes all keys of an index and a map, and prints what came of it.
+pub fn print_drain<R: Threads + Clock + Sync + Print>(
+    rt: &R,
+    alloc: Alloc,
+    drain: Drain,
+    is_timed: bool,
+) -> Result<()>
+    requires { 0 < drain.load.operations }
+{
+    let Load {
+        keys,
+        operations,
+        ..
+    } = drain.load;
+    let words = drain.order.words();
+    println!(rt;
+        "{keys} keys go, {words}, batches of {operations}, workers {}:",
+        drain.workers
+    )?;
+    let mut both = grown(rt, one_heap(alloc), drain.workers, keys)?;
+    let mut runs = drained(rt, one_heap(alloc), &mut both, drain)?;
+    let pages = both.index.shape()?.len();
+    println!(rt;
+        "  {} of {keys} replies are the map's, and pages {pages} are left",
+        runs.same
+    )?;
+    if is_timed {
+        let (index_longest, map_longest) = (longest(&runs.index), longest(&runs.map));
+        print_times(rt, &mut runs, operations)?;
+        println!(rt; "    longest {index_longest:.2} ms / {map_longest:.2} ms")?;
+    }
+    Ok(())
+}
+
+// The bytes that an index without keys has in use at first.
+fn bytes_of_new(global: Global, workers: u64) -> Result<u64> {
+    let heap = counting_heap(global)?;
+    let index = Index::new(heap, options(workers)?)?;
+    let used = heap.used();
+    drop(index);
+    Ok(used)
+}
+
+/// Deletes all keys of an index and a map, each with a heap of its own, and prints how many bytes they have in use before
+/// that and after it.
+pub fn print_left<R: Threads + Clock + Sync + Print>(
+    rt: &R,
+    global: Global,
+    alloc: Alloc,
+    drain: Drain,
+) -> Result<()>
+    requires { 0 < drain.load.operations }
+{
+    let heaps = Heaps {
+        ops: alloc,
+        index: counting_heap(global)?,
+        map: counting_heap(global)?,
+    };
+    let new = bytes_of_new(global, drain.workers)?;
+    let mut both = grown(rt, heaps, drain.workers, drain.load.keys)?;
+    println!(rt;
+        "    bytes before: index {}, map {}",
+        heaps.index.used(),
+        heaps.map.used()
+    )?;
+    drained(rt, heaps, &mut both, drain)?;
+    println!(rt;
+        "    bytes after: index {} with {} records, map {}; a new index has {new}",
+        heaps.index.used(),
+        both.index.tree().records(),
+        heaps.map.used()
+    )?;
+    Ok(())
+}

@@ -1,0 +1,122 @@
+// Indexes that lose all their keys.
+use super::numbers::{count_absent, delete, held, run, upsert};
+use super::trees::working;
+use bw_batch::{Index, Op, OpenGate};
+use bw_fixtures::heap;
+use bw_memory::Alloc;
+use std::process::Abort;
+use std::thread::Threads;
+
+// How many keys there are.
+const KEYS: u32 = 100_000;
+
+// The number of the key at a place: rising, or to and fro.
+fn number_at(place: u32, is_scattered: bool) -> u32 {
+    if is_scattered {
+        place.reverse_bits()
+    } else {
+        place
+    }
+}
+
+// Upserts of the keys from one place up to another.
+fn upserts<R: Abort>(
+    rt: &R,
+    alloc: Alloc,
+    from: u32,
+    to: u32,
+    is_scattered: bool,
+) -> Vec<Op, Alloc> {
+    let mut ops = Vec::new(alloc);
+    for place in from..to {
+        let number = number_at(place, is_scattered);
+        ops.push(upsert(rt, alloc, number, place))
+            .expect(rt, "memory");
+    }
+    ops
+}
+
+// An index of all keys, put by batches of 10,000.
+fn filled<R: Abort + Threads + Sync>(rt: &R, alloc: Alloc, is_scattered: bool) -> Index {
+    let mut index = Index::new(alloc, working(rt, 1, 64)).expect(rt, "an index");
+    for batch in 0..10u32 {
+        let from = batch * 10_000;
+        let ops = upserts(rt, alloc, from, from + 10_000, is_scattered);
+        assert_eq!(rt; run(rt, &mut index, &ops), 10_000);
+    }
+    assert_eq!(rt; held(rt, &index), KEYS as usize);
+    index
+}
+
+// Deletes of the keys from one place up to another.
+fn deletes<R: Abort>(
+    rt: &R,
+    alloc: Alloc,
+    from: u32,
+    to: u32,
+    is_scattered: bool,
+) -> Vec<Op, Alloc> {
+    let mut ops = Vec::new(alloc);
+    for place in from..to {
+        let number = number_at(place, is_scattered);
+        ops.push(delete(rt, alloc, number)).expect(rt, "memory");
+    }
+    ops
+}
+
+// Deletes all keys by batches of so many, and answers how many were absent.
+fn drain<R: Abort + Threads + Sync>(
+    rt: &R,
+    alloc: Alloc,
+    index: &mut Index,
+    operations: u32,
+    is_scattered: bool,
+) -> usize {
+    let mut absent = 0usize;
+    for batch in 0..KEYS.div_ceil(operations.max(1)) {
+        let from = batch.saturating_mul(operations);
+        let to = from.saturating_add(operations).min(KEYS);
+        let ops = deletes(rt, alloc, from, to, is_scattered);
+        let done = index.run(rt, &ops, &OpenGate).expect(rt, "memory");
+        assert!(rt; !done.tidy.stopped);
+        absent = absent.saturating_add(count_absent(done.replies.as_slice()));
+    }
+    absent
+}
+
+// How many pages an index has.
+fn pages<R: Abort>(rt: &R, index: &Index) -> usize {
+    index.shape().expect(rt, "memory").len()
+}
+
+// The index has no pair, on one leaf.
+fn is_one_empty_leaf<R: Abort>(rt: &R, index: &Index) {
+    assert!(rt; index.is_empty());
+    assert_eq!(rt; held(rt, index), 0);
+    let shape = index.shape().expect(rt, "memory");
+    assert_eq!(rt; shape.len(), 1);
+    for leaf in &shape {
+        assert!(rt; leaf.level == 0 && leaf.pairs == 0 && leaf.high.is_none());
+    }
+}
+
+// Each leaf has a left neighbour under the same page when it goes, as pages above are merged while others go.
+#[test]
+fn rising_keys_go_by_small_batches_and_leave_one_leaf(rt: HostRuntime) {
+    let alloc = heap(rt.alloc()).expect(&rt, "a heap");
+    let mut index = filled(&rt, alloc, false);
+    assert_eq!(rt; drain(&rt, alloc, &mut index, 64, false), 0);
+    is_one_empty_leaf(&rt, &index);
+}
+
+// A leaf that was the first one under its page stays, until it is written to again.
+#[test]
+fn scattered_keys_go_and_leave_one_leaf_once_all_are_written_to(rt: HostRuntime) {
+    let alloc = heap(rt.alloc()).expect(&rt, "a heap");
+    let mut index = filled(&rt, alloc, true);
+    assert_eq!(rt; drain(&rt, alloc, &mut index, 10_000, true), 0);
+    assert!(rt; index.is_empty());
+    assert!(rt; pages(&rt, &index) < 100);
+    assert_eq!(rt; drain(&rt, alloc, &mut index, 50_000, true), KEYS as usize);
+    is_one_empty_leaf(&rt, &index);
+}
