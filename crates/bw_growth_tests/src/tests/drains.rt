@@ -95,6 +95,7 @@ fn is_one_empty_leaf<R: Abort>(rt: &R, index: &Index) {
     assert_eq!(rt; held(rt, index), 0);
     let shape = index.shape().expect(rt, "memory");
     assert_eq!(rt; shape.len(), 1);
+    assert_eq!(rt; index.tree().heads().len(), 1);
     for leaf in &shape {
         assert!(rt; leaf.level == 0 && leaf.pairs == 0 && leaf.high.is_none());
     }

@@ -85,3 +85,32 @@ fn a_left_neighbour_is_given_back_last(rt: HostRuntime) {
     release_does(&rt, &mut tree, 1, Did::Done);
     reads_all(&rt, alloc, &tree);
 }
+
+// Forgets the free identifiers behind the last page, and looks at how many are left.
+fn trim_leaves<R: Abort>(rt: &R, tree: &mut Tree, wanted: usize)
+    requires { tree.old.staged ≡ None }
+    ensures { tree.new.staged ≡ None }
+{
+    tree.trim();
+    assert_eq!(rt; tree.heads().len(), wanted);
+}
+
+// Free identifiers behind the last page are forgotten, and given out anew.
+#[test]
+fn free_identifiers_behind_the_last_page_are_forgotten(rt: HostRuntime) {
+    let alloc = heap(rt.alloc()).expect(&rt, "memory");
+    let mut tree = of_two_pairs(&rt, alloc);
+    trim_leaves(&rt, &mut tree, 3);
+    absorb_does(&rt, &mut tree, 1, Did::Done);
+    forget_does(&rt, &mut tree, 1, Did::Done);
+    drop_does(&rt, &mut tree, Did::Done);
+    release_does(&rt, &mut tree, 2, Did::Done);
+    trim_leaves(&rt, &mut tree, 2);
+    release_does(&rt, &mut tree, 1, Did::Done);
+    trim_leaves(&rt, &mut tree, 1);
+    has_two_pairs(&rt, alloc, &tree);
+    consolidate_does(&rt, &mut tree, 0, Did::Done);
+    split_does(&rt, &mut tree, 0, 1, Did::Done);
+    trim_leaves(&rt, &mut tree, 2);
+    has_two_pairs(&rt, alloc, &tree);
+}

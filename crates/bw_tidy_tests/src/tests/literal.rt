@@ -60,7 +60,7 @@ pub struct PlainTree {
     keys: Vec<u8, Alloc>,
     // the leaves from left to right, and behind them the pages of each level above
     pages: Vec<PlainPage, Alloc>,
-    // how many identifiers were given out, and those that were given back, in their order
+    // how many identifiers are given out, and those that were given back, in their order
     identifiers: usize,
     freed: Vec<usize, Alloc>,
     counts: Tidy,
@@ -103,7 +103,7 @@ impl PlainTree {
         &self.pages
     }
 
-    /// How many identifiers were given out.
+    /// How many identifiers are given out, with those that were given back and aren't forgotten.
     pub fn identifiers(&self) -> usize {
         self.identifiers
     }
@@ -231,6 +231,7 @@ impl PlainTree {
         for _ in 0..LOOKS {
             let Some(page) = self.pages.get(place).copied() else {
                 self.lower(rt);
+                self.forget();
                 return self.counts;
             };
             if !self.look(rt, place, &page) {
@@ -249,6 +250,18 @@ impl PlainTree {
             }
             self.pages.pop();
             self.free(rt, root.page);
+        }
+    }
+
+    // Forgets the free identifiers behind the last page.
+    fn forget(&mut self) {
+        for _ in 0..LOOKS {
+            let last = self.identifiers.saturating_sub(1);
+            if self.freed.last().copied() != Some(last) {
+                return;
+            }
+            self.freed.pop();
+            self.identifiers = last;
         }
     }
 
