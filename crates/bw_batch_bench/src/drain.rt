@@ -84,7 +84,7 @@ pub fn print_drain<R: Threads + Clock + Sync + Print>(
     let mut runs = drained(rt, one_heap(alloc), &mut both, drain)?;
     let pages = both.index.shape()?.len();
     println!(rt;
-        "  {} of {keys} replies are the map's, and pages {pages} are left",
+        "  {} of {keys} replies are the map's; pages left: {pages}",
         runs.same
     )?;
     if is_timed {
