@@ -26,7 +26,7 @@ get_set_other (y ∷ xs) (suc i) zero x other = refl
 get_set_other (y ∷ xs) (suc i) (suc j) x other = get_set_other xs i j x (λ e. other (ap suc e))
 
 -- a number of a base page is below those of records
-base_low : (bases : Bases) (records : Records) (word : ℕ) → Ends bases records word → base_under records word < 2 ^ 32
+pub base_low : (bases : Bases) (records : Records) (word : ℕ) → Ends bases records word → base_under records word < 2 ^ 32
 base_low bases records word ends = by ends.0 ends.1.0 ends.1.1
   where
     by : (ws : List ℕ) (e : ℕ) → EndsAt bases records word ws e → base_under records word < 2 ^ 32

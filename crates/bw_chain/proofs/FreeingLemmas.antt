@@ -1,130 +1,19 @@
 -- An identifier that is given back leaves a lawful tree that holds the same.
-use Rattle.std.proofs.Common.{inl, ◌≡◌, ℕ, suc, ◌<◌, List, [], ◌∷◌, ◌++◌, length, Option, Some, None, refl, sym, ap, ◌∙◌, subst, arith}
-use Rattle.std.specs.FinMap.{from_entries}
-use Rattle.std.specs.List.{Contains}
-use Rattle.std.specs.Prelude.{flat_map}
-use Rattle.bw_key.specs.Order.{KeyBytes}
-use Rattle.bw_model.specs.Values.{ValueBytes}
-use Rattle.bw_delta.specs.ContentsAsOf.{contents_as_of}
-use Rattle.bw_delta.specs.Writes.{WriteView}
-use Rattle.bw_chain.specs.Entries.{AreExact}
+use Rattle.std.proofs.Common.{◌≡◌, ℕ, List, [], ◌∷◌, Some, ap, ◌∙◌}
 use Rattle.bw_chain.specs.Freeing.{IsUnreached, IsFreed}
 use Rattle.bw_chain.specs.Laws.{FreedPageIsKept}
-use Rattle.bw_chain.specs.Levels.{AreLevels, BeginsWith, LeadsBelow, SideBySide, Stands, row}
-use Rattle.bw_chain.specs.Reading.{contents_in, pairs_under, row_pairs, row_writes, writes_over}
-use Rattle.bw_chain.specs.Searches.{IsInLevels}
-use Rattle.bw_chain.specs.Slots.{Slot, left_of, left_of_slot, slot_at}
-use Rattle.bw_chain.specs.Steps.{IsTerm, KeepsLevels}
+use Rattle.bw_chain.specs.Slots.{Slot, left_of, left_of_slot}
 use Rattle.bw_chain.specs.Walk.{Leads}
-use Rattle.bw_chain.proofs.StepLemmas.{levels_kept}
+use Rattle.bw_chain.proofs.AsideLemmas.{kept_aside}
 
--- pages of a row are the same in both
-abbrev pub AreSame : List Slot → List Slot → List ℕ → Type 0
-AreSame old new ps = (x : ℕ) → Contains ps x → slot_at new x ≡ slot_at old x
-
-same_behind : (old new : List Slot) (p : ℕ) (ps : List ℕ) → AreSame old new (p ∷ ps) → AreSame old new ps
-same_behind old new p ps same x has = same x (suc has.0, omega (arith, has.1), has.2)
-
-same_first : (old new : List Slot) (p : ℕ) (ps : List ℕ) → AreSame old new (p ∷ ps) → slot_at new p ≡ slot_at old p
-same_first old new p ps same = same p (0, omega arith, refl)
-
-still : (old new : List Slot) (level : ℕ) (low : KeyBytes) (high : Option KeyBytes) (side : Option ℕ) (p : ℕ) → slot_at new p ≡ slot_at old p → Stands old level low high side p → Stands new level low high side p
-still old new level low high side p same s =
-    record { state = s.state; is = same ∙ s.is; sound = s.sound; at_level = s.at_level; from_low = s.from_low; to_high = s.to_high; linked = s.linked }
-
-row_same : (old new : List Slot) (level : ℕ) (low : KeyBytes) (ps : List ℕ) → AreSame old new ps → SideBySide old level low ps → SideBySide new level low ps
-row_same old new level low [] same h = h
-row_same old new level low (p ∷ []) same h = still old new level low None None p (same_first old new p [] same) h
-row_same old new level low (p ∷ q ∷ ps) same h = (
-  h.0,
-  still old new level low (Some h.0) (Some q) p (same_first old new p (q ∷ ps) same) h.1,
-  row_same old new level h.0 (q ∷ ps) (same_behind old new p (q ∷ ps) same) h.2,
-)
-
--- so they have the same
-all_same : {X : Type 0} (f : Slot → List X) (old new : List Slot) (ps : List ℕ) → AreSame old new ps → flat_map (λ p. f (slot_at new p)) ps ≡ flat_map (λ p. f (slot_at old p)) ps
-all_same f old new [] same = refl
-all_same f old new (p ∷ ps) same =
-    ap (λ s. f s ++ flat_map (λ p. f (slot_at new p)) ps) (same_first old new p ps same)
-    ∙ ap (λ l. f (slot_at old p) ++ l) (all_same f old new ps (same_behind old new p ps same))
-
--- over leaves that are the same there are the same writes
-pub writes_of_same : (old new : List Slot) (levels : List (List ℕ)) → AreSame old new (row levels 0) → row_writes new (row levels 0) ≡ row_writes old (row levels 0)
-writes_of_same old new levels leaves = all_same writes_over old new (row levels 0) leaves
-
--- so their levels hold the same
-pub contents_of_same : (old new : List Slot) (levels : List (List ℕ)) → AreSame old new (row levels 0) → (stamp : ℕ) → contents_in new levels stamp ≡ contents_in old levels stamp
-contents_of_same old new levels leaves stamp =
-    ap (λ (es : List (KeyBytes × ValueBytes)). contents_as_of (from_entries es) (row_writes new (row levels 0)) stamp) (all_same pairs_under old new (row levels 0) leaves)
-    ∙ ap (λ (ws : List WriteView). contents_as_of (from_entries (row_pairs old (row levels 0))) ws stamp) (writes_of_same old new levels leaves)
-
--- a row has the page that it begins with
-has_first : (ps : List ℕ) (p : ℕ) → BeginsWith ps p → Contains ps p
-has_first [] p begins = absurd begins
-has_first (x ∷ xs) p begins = (0, omega arith, begins)
-
-module _ (old new : List Slot) (root : ℕ) (levels : List (List ℕ)) (p : ℕ) (lawful : AreLevels old root levels) (gone : IsUnreached old levels p) (freed : IsFreed old new p) where
-  -- the pages of a level are as before
-  same_row : (n : ℕ) → n < length levels → AreSame old new (row levels n)
-  same_row n lt x has = freed.others x (λ same. gone.stands (subst (IsInLevels levels) same (record { level = n; within = lt; in_level = has })))
-
-  -- and have the children that they had
-  term_was : (n : ℕ) (k : KeyBytes) (c : ℕ) → suc n < length levels → IsTerm new levels n k c → IsTerm old levels n k c
-  term_was n k c lt term =
-      record { page = term.page; in_level = term.in_level; state = term.state; is = sym (same_row (suc n) lt term.page term.in_level) ∙ term.is; named = term.named }
-
-  -- a child is another page
-  child_same : (n : ℕ) (k : KeyBytes) (c : ℕ) → suc n < length levels → IsTerm old levels n k c → c ≡ p → ⊥
-  child_same n k c lt term same = gone.named n k lt (subst (IsTerm old levels n k) same term)
-
-  -- left links lead where they led
-  way_same : (c : ℕ) (xs : List ℕ) (e : ℕ) → (c ≡ p → ⊥) → Leads (left_of old) c xs e → Leads (left_of new) c xs e
-  way_same c [] e other way = (way.0, ap left_of_slot (freed.others c other) ∙ way.1)
-  way_same c (x ∷ xs) e other way =
-      let next = way.1.0 in
-      (way.0, (next, ap left_of_slot (freed.others c other) ∙ way.1.1, way_same next xs e (λ same. gone.left c (way.1.1 ∙ ap (λ n. Some n) same)) way.1.2))
-
-  leads_still : (n : ℕ) (k : KeyBytes) (c : ℕ) → n < length levels → (c ≡ p → ⊥) → LeadsBelow old (row levels n) k c → LeadsBelow new (row levels n) k c
-  leads_still n k c lt other h = record {
-    removed = h.removed;
-    page = h.page;
-    way = way_same c h.removed h.page other h.way;
-    in_level = h.in_level;
-    state = h.state;
-    is = same_row n lt h.page h.in_level ∙ h.is;
-    from_low = h.from_low;
-  }
-
-  keeps : KeepsLevels old new levels levels
-  keeps = record {
-    count = refl;
-    rows = λ n lt. row_same old new n [] (row levels n) (same_row n lt) (lawful.rows n lt);
-    first = λ n q lt begins. begins;
-    first_child = λ n q c lt begins child. (child.0, sym (same_row (suc n) lt q (has_first (row levels (suc n)) q begins)) ∙ child.1, child.2);
-    terms = λ n k c lt term.
-        let was = term_was n k c lt term in
-        inl (record { was = was; leads = leads_still n k c (omega (arith, lt)) (child_same n k c lt was) });
-  }
-
-  exact_still : AreExact old levels → AreExact new levels
-  unfolding term_was
-  exact_still exact = record {
-    begins = λ n k c s lt term is.
-        let was = term_was n k c lt term in exact.begins n k c s lt was (sym (freed.others c (child_same n k c lt was)) ∙ is);
-    began = λ n k c g lt term is.
-        let was = term_was n k c lt term in exact.began n k c g lt was (sym (freed.others c (child_same n k c lt was)) ∙ is);
-    behind = λ n k c g lt term is.
-        let was = term_was n k c lt term in exact.behind n k c g lt was (sym (freed.others c (child_same n k c lt was)) ∙ is);
-    once = λ n k h c lt one other. exact.once n k h c lt (term_was n k c lt one) (term_was n h c lt other);
-  }
-
-  leaves : AreSame old new (row levels 0)
-  leaves = same_row 0 lawful.some
+-- left links lead where they led, as none leads to the page
+way_same : (old new : List Slot) (levels : List (List ℕ)) (p : ℕ) → IsUnreached old levels p → IsFreed old new p → (c : ℕ) (xs : List ℕ) (e : ℕ) → (c ≡ p → ⊥) → Leads (left_of old) c xs e → Leads (left_of new) c xs e
+way_same old new levels p gone freed c [] e other way = (way.0, ap left_of_slot (freed.others c other) ∙ way.1)
+way_same old new levels p gone freed c (x ∷ xs) e other way =
+    let next = way.1.0 in
+    (way.0, (next, ap left_of_slot (freed.others c other) ∙ way.1.1, way_same old new levels p gone freed next xs e (λ same. gone.left c (way.1.1 ∙ ap (λ n. Some n) same)) way.1.2))
 
 pub page_freed : FreedPageIsKept
-page_freed old new root levels p lawful gone freed = record {
-  lawful = levels_kept old new root levels levels lawful (keeps old new root levels p lawful gone freed);
-  exact = exact_still old new root levels p lawful gone freed;
-  writes = writes_of_same old new levels (leaves old new root levels p lawful gone freed);
-  contents = λ distinct. contents_of_same old new levels (leaves old new root levels p lawful gone freed);
-}
+page_freed old new root levels p lawful gone freed =
+    kept_aside old new root levels p lawful (record { stands = gone.stands; named = gone.named }) freed.others
+    (λ c xs e other on way. way_same old new levels p gone freed c xs e other way)

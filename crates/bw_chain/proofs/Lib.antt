@@ -36,6 +36,7 @@ pub mod RootLemmas
 pub mod CountLemmas
 pub mod MergeLemmas
 pub mod DropLemmas
+pub mod AsideLemmas
 pub mod LoweringLemmas
 pub mod FreeingLemmas
 pub mod VacancyLemmas

@@ -6,14 +6,20 @@ use Rattle.std.specs.FinMap.{from_entries}
 use Rattle.std.specs.List.{Contains}
 use Rattle.bw_key.specs.Order.{KeyBytes}
 use Rattle.bw_delta.specs.ContentsAsOf.{contents_as_of}
+use Rattle.bw_delta.specs.History.{HasDistinctStamps}
+use Rattle.bw_chain.specs.Before.{low_at}
 use Rattle.bw_chain.specs.Entries.{AreExact}
-use Rattle.bw_chain.specs.Laws.{LevelsAreLowered}
-use Rattle.bw_chain.specs.Levels.{AreLevels, BeginsWith, FirstChild, LeadsBelow, SideBySide, StartsWith, row}
+use Rattle.bw_chain.specs.Freeing.{IsAside}
+use Rattle.bw_chain.specs.Laws.{KeepsAll, LevelsAreLowered}
+use Rattle.bw_chain.specs.Levels.{AreLevels, BeginsWith, FirstChild, IsHomeAt, LeadsBelow, SideBySide, StartsWith, row}
 use Rattle.bw_chain.specs.Reading.{contents_in, row_pairs, row_writes}
-use Rattle.bw_chain.specs.Roots.{HasOneChild, levels_lowered}
+use Rattle.bw_chain.specs.Roots.{HasOneChild, IsRootRemoved, levels_lowered}
 use Rattle.bw_chain.specs.Searches.{IsInLevels}
-use Rattle.bw_chain.specs.Slots.{Slot, PageState, Body, Pairs, Children, Live, IsSoundBody, IsSoundPage, children_of, level_of, slot_at}
+use Rattle.bw_chain.specs.Slots.{Slot, PageState, Body, Pairs, Children, Live, IsSoundBody, IsSoundPage, children_of, left_of, left_of_slot, level_of, slot_at, slot_level}
 use Rattle.bw_chain.specs.Steps.{IsTerm}
+use Rattle.bw_chain.specs.Walk.{Leads}
+use Rattle.bw_chain.proofs.AboveLemmas.{own_level, own_page}
+use Rattle.bw_chain.proofs.AsideLemmas.{KeepsWays, has_first, kept_aside, still_aside}
 use Rattle.bw_chain.proofs.RouteLemmas.{row_first}
 
 -- a slot has one page
@@ -47,7 +53,7 @@ module _ (slots : List Slot) (root : ℕ) (levels : List (List ℕ)) (child : �
       (subst (λ (s : PageState). level_of s.body ≡ n) same st.at_level, subst IsSoundPage same st.sound)
 
   -- which is above the leaves
-  two : 1 < length levels
+  pub two : 1 < length levels
   two =
       let over : 1 ≤ level_of given.state.body = raised_over given.state.low given.state.high given.state.side given.state.body (given.key, child) given.only top_level.1 in
       let at : level_of given.state.body ≡ length levels - 1 = top_level.0 in
@@ -81,6 +87,15 @@ module _ (slots : List Slot) (root : ℕ) (levels : List (List ℕ)) (child : �
       let begins : BeginsWith (row levels (suc m)) root = subst (λ l. BeginsWith (row levels l) root) (sym last) lawful.top in
       subst (λ (ps : List ℕ). BeginsWith ps child) (sym (row_same m (omega (arith, one_less, two))))
       (lawful.firsts m root child (omega (arith, last, two)) begins first_child)
+
+  -- and is at home there at the least key
+  pub least_below : (m x : ℕ) → suc (suc m) ≡ length levels → IsHomeAt slots levels [] m x → x ≡ child
+  least_below m x last home =
+      let begins : BeginsWith (row levels (suc m)) root = subst (λ l. BeginsWith (row levels l) root) (omega (arith, last)) lawful.top in
+      let first : BeginsWith (row levels m) child = lawful.firsts m root child (omega (arith, last)) begins first_child in
+      let within : m < length levels = omega (arith, last) in
+      let st = (row_first slots m [] (row levels m) child (lawful.rows m within) first).1.1 in
+      own_page slots root levels lawful child m within (has_first (row levels m) child first) [] x (ap low_at st.is ∙ ap (λ (k : KeyBytes). Some k) st.from_low) home
 
   -- rows are side by side
   rows_new : (m : ℕ) → m < length after → SideBySide slots m [] (row after m)
@@ -148,11 +163,65 @@ module _ (slots : List Slot) (root : ℕ) (levels : List (List ℕ)) (child : �
   contents_new : (stamp : ℕ) → contents_in slots after stamp ≡ contents_in slots levels stamp
   contents_new stamp = ap (λ (ps : List ℕ). contents_as_of (from_entries (row_pairs slots ps)) (row_writes slots ps) stamp) leaves_same
 
+-- the root, which goes, is a removed page
+module _ (old new : List Slot) (root : ℕ) (levels : List (List ℕ)) (child : ℕ) (lawful : AreLevels old root levels) (given : IsRootRemoved old new root child) where
+  abbrev rest : List (List ℕ)
+  rest = levels_lowered levels
+
+  lawful_lower : AreLevels old child rest
+  lawful_lower = lawful_new old root levels child lawful given.one
+
+  -- it has no left link before
+  no_left : left_of old root ≡ None
+  no_left = ap left_of_slot given.one.is
+
+  -- so a way from it ends there
+  ends_there : (xs : List ℕ) (e : ℕ) → Leads (left_of old) root xs e → root ≡ e
+  ends_there [] e way = way.0
+  ends_there (x ∷ xs) e way = absurd (no_side (sym no_left ∙ way.1.1))
+
+  -- and it stands above all levels
+  off : IsInLevels rest root → ⊥
+  off on =
+      let high = top_level old root levels child lawful given.one in
+      let own = own_level old child rest lawful_lower root on.level on.within on.in_level in
+      omega (arith, on.within, one_less old root levels child lawful given.one, own, ap slot_level given.one.is, high.0)
+
+  aside : IsAside old rest root
+  aside = record {
+    stands = off;
+    named = λ m k lt term.
+        let h = lawful_lower.terms m term.page term.state k root lt term.in_level term.is term.named in
+        off (record { level = m; within = omega (arith, lt); in_level = subst (Contains (row rest m)) (sym (ends_there h.removed h.page h.way)) h.in_level });
+  }
+
+  -- so no way to a page of a level passes it
+  ways : KeepsWays old new rest root
+  ways c [] e other on way = (way.0, ap left_of_slot (given.others c other) ∙ way.1)
+  ways c (x ∷ xs) e other on way =
+      let next = way.1.0 in
+      let passes : next ≡ root → ⊥ = λ same. off (subst (IsInLevels rest) (sym (ends_there xs e (subst (λ y. Leads (left_of old) y xs e) same way.1.2))) on) in
+      (way.0, (next, ap left_of_slot (given.others c other) ∙ way.1.1, ways next xs e passes on way.1.2))
+
+  kept_below : KeepsAll old new child rest rest
+  kept_below = kept_aside old new child rest root lawful_lower aside given.others ways
+
+  pub lowered_aside : IsAside new rest root
+  lowered_aside = still_aside old new child rest root lawful_lower aside given.others ways
+
+  writes_lower : row_writes old (row rest 0) ≡ row_writes old (row levels 0)
+  writes_lower = writes_new old root levels child lawful given.one
+
+  pub kept_lower : KeepsAll old new child levels rest
+  kept_lower = record {
+    lawful = kept_below.lawful;
+    exact = λ exact. kept_below.exact (exact_new old root levels child lawful given.one exact);
+    writes = kept_below.writes ∙ writes_lower;
+    contents = λ distinct stamp.
+        kept_below.contents (subst HasDistinctStamps (sym writes_lower) distinct) stamp ∙ contents_new old root levels child lawful given.one stamp;
+  }
+
 -- where the only child takes the root's place, the levels are lawful without the highest one
 pub levels_lower : LevelsAreLowered
-levels_lower slots root levels child lawful given = record {
-  lawful = lawful_new slots root levels child lawful given;
-  exact = exact_new slots root levels child lawful given;
-  writes = writes_new slots root levels child lawful given;
-  contents = λ distinct stamp. contents_new slots root levels child lawful given stamp;
-}
+levels_lower old new root levels child lawful given =
+    (kept_lower old new root levels child lawful given, lowered_aside old new root levels child lawful given)

@@ -5,7 +5,7 @@ use Rattle.bw_chain.specs.Levels.{AreLevels}
 use Rattle.bw_chain.specs.Slots.{Slot, Free, Gone, Live, slot_at}
 use Rattle.bw_chain.specs.Steps.{AreAlike}
 use Rattle.bw_chain.proofs.AlikeLemmas.{exact_alike, levels_alike}
-use Rattle.bw_chain.proofs.FreeingLemmas.{contents_of_same, writes_of_same}
+use Rattle.bw_chain.proofs.AsideLemmas.{contents_of_same, writes_of_same}
 
 alike_itself : (slot : Slot) → AreAlike slot slot
 alike_itself Free = refl

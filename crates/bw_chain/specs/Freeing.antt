@@ -5,6 +5,11 @@ use Rattle.bw_chain.specs.Searches.{IsInLevels}
 use Rattle.bw_chain.specs.Slots.{Slot, Free, left_of, slot_at}
 use Rattle.bw_chain.specs.Steps.{IsTerm}
 
+-- The page stands on no level, and no page of a level has an index entry for it.
+pub record IsAside (slots : List Slot) (levels : List (List ℕ)) (p : ℕ) : Type 0 where
+  pub stands : IsInLevels levels p → ⊥
+  pub named : (n : ℕ) (separator : KeyBytes) → suc n < length levels → IsTerm slots levels n separator p → ⊥
+
 -- The page stands on no level, no page of a level has an index entry for it, and it is no removed page's left neighbour.
 pub record IsUnreached (slots : List Slot) (levels : List (List ℕ)) (p : ℕ) : Type 0 where
   pub stands : IsInLevels levels p → ⊥

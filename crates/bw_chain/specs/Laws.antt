@@ -10,9 +10,9 @@ use Rattle.bw_chain.specs.Reading.{contents_in, row_writes, value_in}
 use Rattle.bw_chain.specs.Chains.{Bases, Records, slot_of_word}
 use Rattle.bw_chain.specs.Children.{FitsChild, HasChild, HasDroppedChild, MayDropChild}
 use Rattle.bw_chain.specs.Entries.{AreExact}
-use Rattle.bw_chain.specs.Freeing.{IsUnreached, IsFreed}
+use Rattle.bw_chain.specs.Freeing.{IsAside, IsUnreached, IsFreed}
 use Rattle.bw_chain.specs.Merges.{IsMerged, IsNoFirstChild, level_merged}
-use Rattle.bw_chain.specs.Roots.{HasOneChild, IsGrown, levels_grown, levels_lowered}
+use Rattle.bw_chain.specs.Roots.{IsGrown, IsRootRemoved, levels_grown, levels_lowered}
 use Rattle.bw_chain.specs.Splits.{HasNoRemovedAt, IsParted, level_parted}
 use Rattle.bw_chain.specs.Steps.{AreAlike, KeepsLevels}
 use Rattle.bw_chain.specs.Supports.{base_under}
@@ -112,11 +112,13 @@ DroppedChildIsKept =
     AreLevels old root levels → MayDropChild old levels parent sep → HasDroppedChild old new parent sep →
     KeepsAll old new root levels levels
 
--- where the only child takes the root's place, the levels are lawful without the highest one, and hold the same
+-- where the only child takes the place of the root, which is removed, the levels are lawful without the highest one, and
+-- hold the same; the old root stands on none of them, and no page of a level names it
 abbrev pub LevelsAreLowered : Type 0
 LevelsAreLowered =
-    (slots : List Slot) (root : ℕ) (levels : List (List ℕ)) (child : ℕ) → AreLevels slots root levels →
-    HasOneChild slots root child → KeepsAll slots slots child levels (levels_lowered levels)
+    (old new : List Slot) (root : ℕ) (levels : List (List ℕ)) (child : ℕ) → AreLevels old root levels →
+    IsRootRemoved old new root child →
+    KeepsAll old new child levels (levels_lowered levels) × IsAside new (levels_lowered levels) root
 
 -- where the identifier of a page to which nothing leads is given back, the levels stay
 abbrev pub FreedPageIsKept : Type 0

@@ -1,8 +1,9 @@
 -- The root grows: a new page one level above it has the root and its right neighbour as its children. Or its only child
--- takes its place.
+-- takes its place, and the root is a removed page.
 use Rattle.std.specs.Prelude.{◌≡◌, ℕ, suc, ◌-◌, List, [], ◌∷◌, ◌++◌, length, take, Some, None}
 use Rattle.bw_key.specs.Order.{KeyBytes}
-use Rattle.bw_chain.specs.Slots.{Slot, PageState, Children, Free, Live, children_of, level_of, side_of_slot, slot_at, slot_level}
+use Rattle.bw_page.specs.declared.pages.RemovedPage.{RemovedPage}
+use Rattle.bw_chain.specs.Slots.{Slot, PageState, Children, Free, Gone, Live, children_of, level_of, side_of_slot, slot_at, slot_level}
 use Rattle.bw_chain.specs.Scans.{high_of}
 
 -- two children: one for the keys below this one, and one for those from there on
@@ -37,6 +38,16 @@ pub record HasOneChild (slots : List Slot) (root child : ℕ) : Type 0 where
   pub alone : state.side ≡ None
   pub key : KeyBytes
   pub only : children_of state.body ≡ (key, child) ∷ []
+
+-- what is left of a root of this level that was removed into its only child
+abbrev pub removed_root : ℕ → ℕ → RemovedPage
+removed_root level child = record { left = child; level = level; low = [] }
+
+-- The root has this child alone, into which it was removed. All other pages are as before.
+pub record IsRootRemoved (old new : List Slot) (root child : ℕ) : Type 0 where
+  pub one : HasOneChild old root child
+  pub gone : slot_at new root ≡ Gone (removed_root (slot_level (slot_at old root)) child)
+  pub others : (r : ℕ) → (r ≡ root → ⊥) → slot_at new r ≡ slot_at old r
 
 -- the levels without the highest one
 abbrev pub levels_lowered : List (List ℕ) → List (List ℕ)

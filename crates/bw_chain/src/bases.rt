@@ -1,7 +1,8 @@
 // Base pages that take the place of others, new ones, and some that go.
-ghost use Rattle.std.specs.Prelude.{◌≡◌, ℕ, ◌<◌, ◌≤◌, length, take, Decides, Some, None, slice_get, slice_set};
+ghost use Rattle.std.specs.Prelude.{◌≡◌, ℕ, ◌<◌, ◌≤◌, length, take, Decides, Some, None, slice_get, slice_set, IfOk, OnErr};
 ghost use Rattle.bw_chain.specs.Chains.{IsChain, based};
 ghost use Rattle.bw_chain.specs.Placing.{put_at};
+ghost use Rattle.bw_page.specs.declared.pages.Page.TheVariants.{Gone as GonePage};
 ghost use Rattle.bw_page.specs.declared.pages.RemovedPage.{RemovedPage};
 ghost use Rattle.bw_chain.specs.Removed.{HasAllRemoved, IsNotRemoved, IsRemovedAt, IsRemovedInto};
 ghost use Rattle.bw_chain.specs.Slots.{Free};
@@ -9,8 +10,9 @@ ghost use Rattle.bw_chain.specs.Supports.{base_under};
 ghost use Rattle.bw_chain.specs.Vacancy.{AreVacantFrom, IsTakenBefore};
 
 use crate::chains::Chains;
+use bw_key::Memory;
 use bw_memory::Alloc;
-use bw_page::{Page, PageId};
+use bw_page::{Page, PageId, RemovedPage};
 use bw_segment::Segmented;
 
 impl Chains {
@@ -26,6 +28,24 @@ impl Chains {
         let number = self.base_number(head);
         self.bases.set(number as usize, Some(page));
         number
+    }
+
+    /// Puts a removed page in the place of the base page under a chain, and answers its number, which as a mapping word names
+    /// the page without a record. It costs a walk along the chain's links. `Memory` is answered where the list of removed
+    /// pages can't grow; all is as before.
+    pub fn remove_base(&mut self, head: u64, removed: RemovedPage) -> Result<u64, Memory>
+        requires { IsChain self.old head }
+        ensures number { IfOk result (λ number. number ≡ base_under self.old.records head) }
+        ensures bases { let gone = Some (GonePage removed) in
+            IfOk result (λ number. self.new.bases ≡ slice_set self.old.bases number gone) }
+        ensures records { self.new.records ≡ self.old.records }
+        ensures err { OnErr result (self.new ≡ self.old) }
+    {
+        let number = self.base_number(head);
+        self.removed.reserve(1)?;
+        self.bases.set(number as usize, Some(Page::Gone(removed)));
+        self.removed.push(PageId(number as u32)).unwrap();
+        Ok(number)
     }
 
     /// Lets the base page of a number go, which is vacant from then on. It costs a look at the last ones of the base pages that

@@ -82,8 +82,9 @@ pub fn dropped_child_is_kept()
     ensures { DroppedChildIsKept }
 {}
 
-/// The law of a root that goes: where the root's only child takes its place, the levels are lawful without the root's, index
-/// entries stay exact, and the levels hold what they held. It does nothing: its contract is the law.
+/// The law of a root that goes: where the root's only child takes its place, and the root is a removed page that leads to it,
+/// the levels are lawful without the root's, index entries stay exact, and the levels hold what they held. The old root
+/// stands on no level, and no page of a level names it. It does nothing: its contract is the law.
 pub fn levels_are_lowered()
     ensures { LevelsAreLowered }
 {}

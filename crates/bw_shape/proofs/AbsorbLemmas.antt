@@ -15,7 +15,7 @@ use Rattle.bw_chain.specs.Splits.{slot_entries}
 use Rattle.bw_chain.proofs.AboveLemmas.{own_level}
 use Rattle.bw_tree.specs.Consolidation.{IsConsolidated, IsRebased, consolidated_leaf}
 use Rattle.bw_tree.specs.Freeing.{HasFreed, IsTrimmed, MayBeFreed}
-use Rattle.bw_tree.specs.Merges.{HasLostChild, HasMerged, MayMerge}
+use Rattle.bw_tree.specs.Merges.{HasLostChild, HasMerged, IsLowered, MayMerge}
 use Rattle.bw_tree.specs.Pages.{IsLeft}
 use Rattle.bw_tree.specs.Routing.{IsInLevel}
 use Rattle.bw_tree.specs.Shapes.{pairs_on}
@@ -24,7 +24,7 @@ use Rattle.bw_tree.proofs.NeighbourLemmas.{one_left}
 use Rattle.bw_tree.proofs.PageLemmas.{lowest_leaf}
 use Rattle.bw_shape.specs.Limits.{LimitsView, AreWithinBut, IsWithin}
 use Rattle.bw_shape.specs.Releasing.{IsReleaseStep}
-use Rattle.bw_shape.specs.Merges.{HasLoweredRoot, IsAbsorptionFinishStep, IsAbsorptionStep, IsLoweringStep}
+use Rattle.bw_shape.specs.Merges.{IsAbsorptionFinishStep, IsAbsorptionStep, IsLoweringStep}
 use Rattle.bw_shape.specs.Steps.{IsConsolidationStep}
 use Rattle.bw_shape.specs.Tidying.{HoldsAll, KeepsWithin}
 use Rattle.bw_shape.specs.Visits.{AreFewTogether, HasRoomOn, KeepsWithinAt}
@@ -171,19 +171,28 @@ row_lowered levels zero r has = absurd (omega (arith, has.1))
 row_lowered [] (suc n) r has = has
 row_lowered (ps ∷ levels) (suc n) r has = has
 
+-- the old root is no leaf, and all others are as before
+within_lowered : (old new : TreeView) (due : List ℕ) (child : ℕ) → IsLowered old new child → KeepsWithin old new due due
+within_lowered old new due child h limits but r leaf = by (but r (row_lowered old.levels (length old.levels - 1) r (subst (λ (l : List (List ℕ)). Contains (row l 0) r) h.levels leaf)))
+  where
+    other : r ≡ old.root → ⊥
+    other same = h.aside.stands (record { level = 0; within = some_level new.levels r leaf; in_level = subst (Contains (row new.levels 0)) same leaf })
+
+    by : Contains due r ⊎ IsWithin limits (slot_at old.slots r) → Contains due r ⊎ IsWithin limits (slot_at new.slots r)
+    by (inl has) = inl has
+    by (inr within) = inr (subst (IsWithin limits) (sym (h.removed.others r other)) within)
+
 pub tidy_lowered : (old new : TreeView) (did : Did) → old.staged ≡ None → IsLoweringStep old new did → KeepsTidy old new
 tidy_lowered old new Done none h =
     let low = h.1 in
     record {
       holds = record { contents = held_at old new low.next low.contents; next = low.next; records = omega (arith, low.records); staged = low.staged };
-      within = λ due limits but r leaf.
-          subst (λ (s : List Slot). Contains due r ⊎ IsWithin limits (slot_at s r)) (sym low.slots)
-          (but r (row_lowered old.levels (length old.levels - 1) r (subst (λ (l : List (List ℕ)). Contains (row l 0) r) low.levels leaf)));
+      within = λ due. within_lowered old new due h.0 low;
     }
 tidy_lowered old new NotNeeded none h = tidy_still old new none h.0
 
 -- by one level
-pub fewer_levels : (old new : TreeView) (child : ℕ) → 0 < length old.levels → HasLoweredRoot old new child → length new.levels < length old.levels
+pub fewer_levels : (old new : TreeView) (child : ℕ) → 0 < length old.levels → IsLowered old new child → length new.levels < length old.levels
 fewer_levels old new child some h = omega (arith, some, ap length h.levels, length-take (length old.levels - 1) old.levels)
 
 -- a leaf that was consolidated and has room for what it holds is within the limits

@@ -13,14 +13,12 @@ use Rattle.bw_chain.specs.Searches.{IsInLevels}
 use Rattle.bw_chain.specs.Slots.{Slot, PageState, Body, Pairs, Children, Gone, Live, IsSoundBody, children_of, level_of, side_of, side_of_slot, slot_at}
 use Rattle.bw_chain.specs.Splits.{entry_count, slot_entries}
 use Rattle.bw_tree.specs.Consolidation.{IsRebased}
-use Rattle.bw_tree.specs.Merges.{HasLostChild, IsLowered, IsNamerOfRemoved, MayBeLowered, MayMerge}
+use Rattle.bw_tree.specs.Merges.{HasLostChild, IsNamerOfRemoved, MayMerge}
 use Rattle.bw_tree.specs.Pages.{IsLeft, IsNamer, IsPlain}
-use Rattle.bw_tree.specs.Routing.{IsInnerPage}
 use Rattle.bw_tree.specs.View.{TreeView}
 use Rattle.bw_tree.proofs.NeighbourLemmas.{left_beside, one_left}
 use Rattle.bw_tree.proofs.PageLemmas.{entry_home, one_namer}
 use Rattle.bw_tree.proofs.RootLemmas.{IsTop, top_of}
-use Rattle.bw_shape.specs.Merges.{HasLoweredRoot}
 use Rattle.bw_shape.proofs.PlainLemmas.{has_record}
 
 different : false ≡ true → ⊥
@@ -139,10 +137,6 @@ module _ (tree : TreeView) (root : ℕ) (lawful : AreLevels tree.slots root tree
       let over : 1 ≤ level_of st.state.body = raised_over st.state.low st.state.high st.state.side st.state.body (h.key, child) (ap (λ (s : PageState). children_of s.body) (sym (its_state child h)) ∙ h.only) st.sound in
       omega (arith, over, st.at_level)
 
-  pub root_inner : (child : ℕ) → HasOneChild tree.slots root child → IsInnerPage tree root
-  unfolding root_on
-  root_inner child h = record { in_levels = root_on; raised = root_raised child h }
-
   -- the root has one child alone exactly where it has one entry
   module _ (raised : 0 < length tree.levels - 1) (alone : side_of tree.slots root ≡ None) where
     none_beside : top.stands.state.side ≡ None
@@ -162,29 +156,6 @@ module _ (tree : TreeView) (root : ℕ) (lawful : AreLevels tree.slots root tree
       λ e. by_one top.stands.state.body refl (sym counted ∙ sym counts ∙ eqb-true n 1 e) top.stands.at_level,
       λ w. eq-eqb n 1 (counts ∙ ap slot_entries w.1.is ∙ count_of w.1.state.body (w.1.key, w.0) w.1.only),
     )
-
--- the root that goes, after it was left as a base page by itself
-pub lowered_over : (old mid new : TreeView) (child : ℕ) → HasOneChild old.slots old.root child → IsRebased old mid old.root → ((child : ℕ) → MayBeLowered mid child → IsLowered mid new child) → HasLoweredRoot old new child
-lowered_over old mid new child one rebased lowers =
-    let on : IsLowered (record old { heads = slice_set old.heads old.root (slice_index mid.heads old.root) }) new child =
-    subst (λ (v : TreeView). IsLowered v new child) rebased.view (lowers child (record {
-      one = subst (λ (v : TreeView). HasOneChild v.slots v.root child) (sym rebased.view) one;
-      plain = subst (λ r. slice_index mid.heads r < 2 ^ 32) (sym (ap (λ (v : TreeView). v.root) rebased.view)) rebased.plain;
-    })) in
-    let word : slice_index new.heads old.root ≡ slice_index mid.heads old.root =
-    ap (λ (h : List ℕ). slice_index h old.root) (on.heads ∙ sym (ap (λ (v : TreeView). v.heads) rebased.view)) in
-    record {
-      one = one;
-      slots = on.slots;
-      levels = on.levels;
-      contents = on.contents;
-      heads = on.heads ∙ ap (slice_set old.heads old.root) (sym word);
-      plain = omega (arith, word, rebased.plain);
-      root = on.root;
-      records = on.records;
-      next = on.next;
-      staged = on.staged;
-    }
 
 -- the page that loses a child, after it was left as a base page by itself
 pub lost_over : (old mid new : TreeView) (p : ℕ) (sep : KeyBytes) → IsRebased old mid p → HasLostChild mid new p sep → HasLostChild old new p sep

@@ -284,7 +284,7 @@ impl Due {
 
     /// Finishes the merge of a page, if it is a removed one: the page above no longer names it, and its identifier is given
     /// back, if nothing else leads to it. The page above is looked at behind the pages of the levels below it, and so is its
-    /// right neighbour. After `Memory` the merge isn't finished.
+    /// right neighbour. After `Memory` the merge isn't finished, or the identifier isn't given back.
     pub(crate) fn finish_merge(&mut self, tree: &mut Tree, page: PageId) -> Result<(), Memory>
         requires { tree.old.staged ≡ None }
         ensures holds { HoldsAll tree.old tree.new }
@@ -293,12 +293,12 @@ impl Due {
     {
         self.above.reserve(2)?;
         let Some(parent) = tree.namer_of_removed(page) else {
-            release(tree, page);
+            release(tree, page)?;
             return Ok(());
         };
         finish_absorb(tree, page)?;
-        release(tree, page);
         mark(&mut self.above, tree, parent);
+        release(tree, page)?;
         Ok(())
     }
 }

@@ -101,11 +101,11 @@ fn drop_child(tree: &mut Tree, parent: PageId, sep: Key) -> Result<(), Memory>
     tree.unset_child(parent, sep)
 }
 
-/// Makes the root's only child the root: the tree has one level fewer. It isn't needed where the root is a leaf, and where
-/// it has another child or a right neighbour. No batch is staged.
+/// Makes the root's only child the root: the tree has one level fewer. The old root is a removed page from then on, with that
+/// child as its left neighbour, until its identifier is given back. It isn't needed where the root is a leaf, and where it
+/// has another child or a right neighbour. No batch is staged.
 ///
-/// It costs some walks along the root's chain; where the root has a record, it is consolidated first, which copies its
-/// child. After `Memory` the tree is as before.
+/// It costs a search and some walks along the root's chain. After `Memory` the tree is as before.
 pub fn drop_root(tree: &mut Tree) -> Result<Did, Memory>
     requires { tree.old.staged ≡ None }
     ensures ok { IfOk result (IsLoweringStep tree.old tree.new) }
@@ -115,9 +115,7 @@ pub fn drop_root(tree: &mut Tree) -> Result<Did, Memory>
     if !has_one_child(tree) {
         return Ok(Did::NotNeeded);
     }
-    let root = tree.root();
-    rebase(tree, root)?;
-    tree.lower_root();
+    tree.lower_root()?;
     Ok(Did::Done)
 }
 

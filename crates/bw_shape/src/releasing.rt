@@ -1,8 +1,9 @@
 // Identifiers that are given back.
-ghost use Rattle.std.specs.Prelude.{◌≡◌, None};
+ghost use Rattle.std.specs.Prelude.{◌≡◌, None, IfOk, OnErr};
 ghost use Rattle.bw_shape.specs.Releasing.{IsReleaseStep};
 
 use crate::steps::Did;
+use bw_key::Memory;
 use bw_page::PageId;
 use bw_tree::Tree;
 
@@ -10,17 +11,19 @@ use bw_tree::Tree;
 /// where the identifier is free already, and where something leads to the page: it stands on a level, an index entry of a
 /// page of a level names it, or a page was removed into it whose identifier isn't free. No batch is staged.
 ///
-/// It costs some searches, and a look at each removed page whose identifier isn't given back.
-pub fn release(tree: &mut Tree, page: PageId) -> Did
+/// It costs some searches, and a look at each removed page whose identifier isn't given back. After `Memory` the tree is as
+/// before.
+pub fn release(tree: &mut Tree, page: PageId) -> Result<Did, Memory>
     requires { tree.old.staged ≡ None }
-    ensures { IsReleaseStep tree.old tree.new page result }
+    ensures ok { IfOk result (IsReleaseStep tree.old tree.new page) }
+    ensures err { OnErr result (tree.new ≡ tree.old) }
 {
     if tree.is_free(page) {
-        return Did::NotNeeded;
+        return Ok(Did::NotNeeded);
     }
     if !tree.is_unreached(page) {
-        return Did::NotNeeded;
+        return Ok(Did::NotNeeded);
     }
-    tree.free(page);
-    Did::Done
+    tree.free(page)?;
+    Ok(Did::Done)
 }

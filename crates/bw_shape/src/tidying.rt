@@ -150,7 +150,7 @@ fn lower_once(tree: &mut Tree) -> Result<Did, Memory>
     let root = tree.root();
     let did = drop_root(tree)?;
     if did == Did::Done {
-        release(tree, root);
+        release(tree, root)?;
     }
     Ok(did)
 }

@@ -89,7 +89,7 @@ fn finish_merge(tree: &mut Tree, place: usize) -> Result<(), Memory>
     };
     let page = PageId(number);
     finish_absorb(tree, page)?;
-    release(tree, page);
+    release(tree, page)?;
     Ok(())
 }
 

@@ -4,9 +4,10 @@ use Rattle.std.specs.List.{Contains}
 use Rattle.bw_key.specs.Order.{KeyBytes}
 use Rattle.bw_page.specs.declared.pages.RemovedPage.{RemovedPage}
 use Rattle.bw_chain.specs.Children.{HasChildAt, HasDroppedChild, MayDropChild}
+use Rattle.bw_chain.specs.Freeing.{IsAside}
 use Rattle.bw_chain.specs.Levels.{row}
 use Rattle.bw_chain.specs.Merges.{IsMerged, level_merged}
-use Rattle.bw_chain.specs.Roots.{HasOneChild, levels_lowered}
+use Rattle.bw_chain.specs.Roots.{IsRootRemoved, levels_lowered}
 use Rattle.bw_chain.specs.Slots.{Gone, side_of, slot_at}
 use Rattle.bw_tree.specs.Pages.{IsNamer}
 use Rattle.bw_tree.specs.Routing.{IsInLevel}
@@ -56,18 +57,15 @@ pub record HasLostChild (old new : TreeView) (parent : ℕ) (sep : KeyBytes) : T
   pub next : new.next ≡ old.next
   pub staged : new.staged ≡ None
 
--- a root that is a base page by itself, with one child alone
-pub record MayBeLowered (tree : TreeView) (child : ℕ) : Type 0 where
-  pub one : HasOneChild tree.slots tree.root child
-  pub plain : slice_index tree.heads tree.root < 2 ^ 32
-
--- The root's only child is the root, and the old root stands on no level. All pages are as before, and so is what the tree
--- holds.
+-- The root's only child, into which it was removed, is the root. The old root, which has no record, stands on no level, and
+-- no page of a level names it. All other pages are as before, and so is what the tree holds.
 pub record IsLowered (old new : TreeView) (child : ℕ) : Type 0 where
-  pub slots : new.slots ≡ old.slots
+  pub removed : IsRootRemoved old.slots new.slots old.root child
+  pub aside : IsAside new.slots new.levels old.root
   pub levels : new.levels ≡ levels_lowered old.levels
   pub contents : (stamp : ℕ) → contents_at new stamp ≡ contents_at old stamp
-  pub heads : new.heads ≡ old.heads
+  pub heads : new.heads ≡ slice_set old.heads old.root (slice_index new.heads old.root)
+  pub plain : slice_index new.heads old.root < 2 ^ 32
   pub root : new.root ≡ child
   pub records : new.records ≡ old.records
   pub next : new.next ≡ old.next

@@ -1,5 +1,6 @@
 // Identifiers that were given back.
-ghost use Rattle.std.specs.Prelude.{◌≡◌, ◌<◌, ◌≤◌, ◌^◌, length, slice_get, IfOk, IfSome};
+ghost use Rattle.std.specs.Prelude.{◌≡◌, ◌<◌, ◌≤◌, ◌^◌, length, slice_get, IfOk, IfSome, OnOk};
+ghost use Rattle.std.specs.BinaryHeap.{heap_capacity, heap_len};
 ghost use Rattle.bw_chain.specs.Chains.{based};
 ghost use Rattle.bw_chain.specs.Slots.{Free};
 
@@ -25,9 +26,19 @@ impl Freed {
         }
     }
 
-    /// One more. Where there is no memory for it, no page takes it again.
-    pub(crate) fn add(&mut self, page: PageId) {
-        let _ = self.heap.push(Reverse(page.0));
+    /// Makes room for one more.
+    pub(crate) fn reserve(&mut self) -> Result<(), Memory>
+        ensures { OnOk result (heap_len self.new.heap < heap_capacity self.new.heap) }
+    {
+        self.heap.reserve(1)?;
+        Ok(())
+    }
+
+    /// One more, for which there is room.
+    pub(crate) fn add(&mut self, page: PageId)
+        requires { heap_len self.old.heap < heap_capacity self.old.heap }
+    {
+        self.heap.push(Reverse(page.0)).unwrap();
     }
 
     /// A page has taken this one, which was the answer of the last search for one.

@@ -303,3 +303,23 @@ fn what_is_left_of_a_page_says_where_it_began(rt: HostRuntime) {
     assert!(rt; tree.removed(PageId(1)).is_some());
     assert!(rt; tree.namer_of_removed(PageId(1)) == None);
 }
+
+// A root that goes is a removed page, which leads to the page that takes its place.
+#[test]
+fn what_is_left_of_a_root_leads_to_its_child(rt: HostRuntime) {
+    let alloc = heap(rt.alloc()).expect(&rt, "memory");
+    let mut tree = of_two_pairs(&rt, alloc);
+    absorb_does(&rt, &mut tree, 1, Did::Done);
+    forget_does(&rt, &mut tree, 1, Did::Done);
+    assert!(rt; tree.removed(PageId(2)).is_none());
+    drop_does(&rt, &mut tree, Did::Done);
+    let removed = tree.removed(PageId(2)).expect(&rt, "a removed page");
+    assert!(rt; removed.left == PageId(0));
+    assert!(rt; removed.level == 1);
+    assert!(rt; removed.low.bytes() == b"".as_slice());
+    assert!(rt; tree.in_level(PageId(2)) == None);
+    assert!(rt; tree.low_key(PageId(2)).is_none());
+    assert!(rt; tree.namer_of_removed(PageId(2)) == None);
+    forget_does(&rt, &mut tree, 2, Did::NotNeeded);
+    has_two_pairs(&rt, alloc, &tree);
+}

@@ -1,9 +1,11 @@
 // Each growth of a merge refused in turn.
-use super::making::{FLOOR, stands};
+ghost use Rattle.std.specs.Prelude.{◌≡◌, None};
+
+use super::making::{FLOOR, consolidate_does, finish_does, split_does, stands};
 use super::merging::{absorb_does, forget_does, merged_under_a_record, two_leaves};
 use bw_fixtures::{heap, was_refused};
 use bw_memory::Alloc;
-use bw_shape::{Did, Memory, PageId, absorb, drop_root, finish_absorb};
+use bw_shape::{Did, Memory, PageId, Tree, absorb, drop_root, finish_absorb};
 use std::process::Abort;
 
 // Merges the leaves where this growth is refused, and compares the tree after that. Whether it was.
@@ -62,21 +64,45 @@ fn rebase_refused<R: Abort>(rt: &R, alloc: Alloc, growth: u64) -> bool {
     false
 }
 
+// Merges a leaf into leaf 0, which parts again, under the root 2.
+fn merge_and_part<R: Abort>(rt: &R, tree: &mut Tree, page: u32)
+    requires { tree.old.staged ≡ None }
+    ensures { tree.new.staged ≡ None }
+{
+    absorb_does(rt, tree, page, Did::Done);
+    forget_does(rt, tree, page, Did::Done);
+    consolidate_does(rt, tree, 0, Did::Done);
+    split_does(rt, tree, 0, 2, Did::Done);
+    finish_does(rt, tree, 0, Did::Done);
+    consolidate_does(rt, tree, 0, Did::Done);
+}
+
+// Leaf 0 alone under the root 2, which has a record, and as many removed pages as their list has room for.
+fn four_removed<R: Abort>(rt: &R, alloc: Alloc) -> Tree
+    ensures { result.staged ≡ None }
+{
+    let mut tree = two_leaves(rt, alloc);
+    merge_and_part(rt, &mut tree, 1);
+    merge_and_part(rt, &mut tree, 3);
+    merge_and_part(rt, &mut tree, 4);
+    absorb_does(rt, &mut tree, 5, Did::Done);
+    forget_does(rt, &mut tree, 5, Did::Done);
+    tree
+}
+
 // Drops a root that has a record where this growth is refused, and compares the tree after that. Whether it was.
 fn drop_refused<R: Abort>(rt: &R, alloc: Alloc, growth: u64) -> bool {
-    let mut tree = two_leaves(rt, alloc);
-    absorb_does(rt, &mut tree, 1, Did::Done);
-    forget_does(rt, &mut tree, 1, Did::Done);
+    let mut tree = four_removed(rt, alloc);
     alloc.refuse(growth);
     let dropped = drop_root(&mut tree);
     let refused = was_refused(alloc, growth);
     if refused {
         assert!(rt; dropped == Err(Memory));
-        stands(rt, alloc, &tree, 2, &[FLOOR + 2, 1, FLOOR + 3]);
+        stands(rt, alloc, &tree, 2, &[FLOOR + 17, 1, FLOOR + 18, 3, 4, 5]);
         return true;
     }
     assert!(rt; dropped == Ok(Did::Done));
-    stands(rt, alloc, &tree, 0, &[FLOOR + 2, 1, 2]);
+    stands(rt, alloc, &tree, 0, &[FLOOR + 17, 1, 2, 3, 4, 5]);
     false
 }
 

@@ -2,10 +2,13 @@
 ghost use Rattle.std.specs.Prelude.{◌≡◌, None};
 
 use super::making::{consolidate_does, finish_does, five, grow_does, reads_all, split_does};
-use super::merging::{absorb_does, drop_does, forget_does, has_two_pairs, of_two_pairs};
+use super::merging::{
+    absorb_does, drop_does, forget_does, has_two_pairs, of_two_pairs, two_leaves,
+};
 use super::shapes::has_pages;
-use bw_fixtures::heap;
-use bw_shape::{Did, PageId, Tree, release};
+use bw_fixtures::{heap, was_refused};
+use bw_memory::Alloc;
+use bw_shape::{Did, Memory, PageId, Tree, release};
 use std::process::Abort;
 
 // Gives an identifier back, and compares what that did.
@@ -13,7 +16,7 @@ fn release_does<R: Abort>(rt: &R, tree: &mut Tree, page: u32, wanted: Did)
     requires { tree.old.staged ≡ None }
     ensures { tree.new.staged ≡ None }
 {
-    assert!(rt; release(tree, PageId(page)) == wanted);
+    assert!(rt; release(tree, PageId(page)) == Ok(wanted));
 }
 
 // A leaf that was removed gives its identifier back once no index entry names it, and so does the root that went. The
@@ -113,4 +116,78 @@ fn free_identifiers_behind_the_last_page_are_forgotten(rt: HostRuntime) {
     split_does(&rt, &mut tree, 0, 1, Did::Done);
     trim_leaves(&rt, &mut tree, 2);
     has_two_pairs(&rt, alloc, &tree);
+}
+
+// Two leaves under the inner pages 2 and 3 and the root 4, of which 3 goes and then 4, behind it leaf 1, and then the root 2.
+fn without_two_roots<R: Abort>(rt: &R, alloc: Alloc) -> Tree
+    ensures { result.staged ≡ None }
+{
+    let mut tree = two_leaves(rt, alloc);
+    split_does(rt, &mut tree, 2, 1, Did::Done);
+    grow_does(rt, &mut tree, Did::Done);
+    consolidate_does(rt, &mut tree, 2, Did::Done);
+    absorb_does(rt, &mut tree, 3, Did::Done);
+    forget_does(rt, &mut tree, 3, Did::Done);
+    drop_does(rt, &mut tree, Did::Done);
+    consolidate_does(rt, &mut tree, 2, Did::Done);
+    absorb_does(rt, &mut tree, 1, Did::Done);
+    forget_does(rt, &mut tree, 1, Did::Done);
+    drop_does(rt, &mut tree, Did::Done);
+    tree
+}
+
+// Of two roots that went, the one that took the other's place is given back after that one.
+#[test]
+fn an_old_root_is_given_back_before_its_child(rt: HostRuntime) {
+    let alloc = heap(rt.alloc()).expect(&rt, "memory");
+    let mut tree = without_two_roots(&rt, alloc);
+    assert!(rt; tree.root() == PageId(0));
+    release_does(&rt, &mut tree, 0, Did::NotNeeded);
+    release_does(&rt, &mut tree, 3, Did::Done);
+    release_does(&rt, &mut tree, 2, Did::NotNeeded);
+    release_does(&rt, &mut tree, 4, Did::Done);
+    release_does(&rt, &mut tree, 2, Did::Done);
+    release_does(&rt, &mut tree, 1, Did::Done);
+    release_does(&rt, &mut tree, 2, Did::NotNeeded);
+    reads_all(&rt, alloc, &tree);
+}
+
+// Gives the root's identifier back where this growth is refused, and then once more. Whether it was refused.
+fn release_refused<R: Abort>(rt: &R, alloc: Alloc, growth: u64) -> bool {
+    let mut tree = of_two_pairs(rt, alloc);
+    absorb_does(rt, &mut tree, 1, Did::Done);
+    forget_does(rt, &mut tree, 1, Did::Done);
+    drop_does(rt, &mut tree, Did::Done);
+    alloc.refuse(growth);
+    let released = release(&mut tree, PageId(2));
+    let refused = was_refused(alloc, growth);
+    if refused {
+        assert!(rt; released == Err(Memory));
+        assert!(rt; !tree.is_free(PageId(2)));
+        release_does(rt, &mut tree, 2, Did::Done);
+    } else {
+        assert!(rt; released == Ok(Did::Done));
+    }
+    assert!(rt; tree.is_free(PageId(2)));
+    consolidate_does(rt, &mut tree, 0, Did::Done);
+    split_does(rt, &mut tree, 0, 1, Did::Done);
+    has_pages(
+        rt,
+        &tree,
+        &[(0, 0, b"", Some(b"c"), 1, 0), (2, 0, b"c", None, 1, 0)],
+    );
+    refused
+}
+
+// Where memory is refused, the identifier isn't given back, and isn't lost.
+#[test]
+fn each_growth_of_an_identifier_given_back_is_refused(rt: HostRuntime) {
+    let alloc = heap(rt.alloc()).expect(&rt, "memory");
+    for growth in 1..100 {
+        if !release_refused(&rt, alloc, growth) {
+            assert!(rt; growth > 1);
+            return;
+        }
+    }
+    panic!(rt; "no run met no refusal")
 }

@@ -3,7 +3,8 @@ ghost use Rattle.std.specs.Prelude.{◌≡◌, ℕ, None, Decides, MatchOption, 
 ghost use Rattle.std.specs.Option.{option_copied};
 ghost use Rattle.bw_chain.specs.Before.{removed_at};
 ghost use Rattle.bw_chain.specs.Children.{HasChildAt};
-ghost use Rattle.bw_chain.specs.Slots.{slot_at};
+ghost use Rattle.bw_chain.specs.Roots.{HasOneChild, removed_root};
+ghost use Rattle.bw_chain.specs.Slots.{slot_at, slot_level};
 ghost use Rattle.bw_chain.specs.Turns.{StartsUpto};
 
 use super::Tree;
@@ -11,7 +12,7 @@ use bw_key::{Key, Memory};
 use bw_page::{PageId, RemovedPage};
 
 impl Tree {
-    ghost use Rattle.bw_tree.specs.Merges.{HasLostChild, HasMerged, IsLowered, HasNoNamerOfRemoved, MayBeLowered, MayLoseChild, MayMerge, IsNamerOfRemoved};
+    ghost use Rattle.bw_tree.specs.Merges.{HasLostChild, HasMerged, IsLowered, HasNoNamerOfRemoved, MayLoseChild, MayMerge, IsNamerOfRemoved};
     ghost use Rattle.bw_tree.specs.Routing.{IsInnerPage};
 
     /// Merges a page into its left neighbour, which gets its entries and goes on to its end. The page is a removed one from
@@ -51,14 +52,28 @@ impl Tree {
         Ok(())
     }
 
-    /// Makes the root's only child the root: the tree has one level fewer, and the old root stands on none. The root is a base
-    /// page by itself without a right neighbour, and no batch is staged. It takes no memory.
-    pub fn lower_root(&mut self)
+    /// Makes the root's only child the root: the tree has one level fewer. The old root is a removed page from then on, with
+    /// that child as its left neighbour, so that the child isn't free to be given back before it. It stands on no level, and
+    /// no page of a level names it. The root has no right neighbour, and no batch is staged.
+    ///
+    /// It costs a search, and some walks along the root's chain. `Memory` is answered where the list of removed pages can't
+    /// grow; the tree is as before.
+    pub fn lower_root(&mut self) -> Result<(), Memory>
         requires none { self.old.staged ≡ None }
-        requires root { (child : ℕ) × MayBeLowered self.old child }
-        ensures { (child : ℕ) → MayBeLowered self.old child → IsLowered self.old self.new child }
+        requires root { (child : ℕ) × HasOneChild self.old.slots self.old.root child }
+        ensures ok { OnOk result ((child : ℕ) → HasOneChild self.old.slots self.old.root child
+            → IsLowered self.old self.new child) }
+        ensures err { OnErr result (self.new ≡ self.old) }
     {
-        self.root = self.only_child();
+        let root = self.root;
+        let child = self.only_child();
+        let removed = self.removed_root(child);
+        let number = self
+            .chains
+            .remove_base(self.heads[root.0 as usize], removed)?;
+        self.heads[root.0 as usize] = number;
+        self.root = child;
+        Ok(())
     }
 
     /// What is left of a page that was removed, or none for another page, a free identifier and one that was never given out.
@@ -94,15 +109,23 @@ impl Tree {
         None
     }
 
-    // The child of a root that has one alone.
+    // The child of a root that has one alone: the page of the level below that has the least key.
     fn only_child(&self) -> PageId
-        requires { (child : ℕ) × MayBeLowered self.now child }
-        ensures { MayBeLowered self.now result }
+        requires { (child : ℕ) × HasOneChild self.now.slots self.now.root child }
+        ensures { HasOneChild self.now.slots self.now.root result }
     {
-        let root = self.root;
-        let Some(inner) = self.chains.inner(self.heads[root.0 as usize]) else {
-            unreachable!();
-        };
-        inner.children()[0].1
+        self.know_levels();
+        self.first_page(self.root_level() - 1)
+    }
+
+    // What is left of the root where it is removed into this child.
+    fn removed_root(&self, child: PageId) -> RemovedPage
+        ensures { result ≡ removed_root (slot_level (slot_at self.now.slots self.now.root)) child }
+    {
+        RemovedPage {
+            left: child,
+            level: self.level(self.root),
+            low: Key::new(*self.heads.allocator(), &[]).unwrap(),
+        }
     }
 }

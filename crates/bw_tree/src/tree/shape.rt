@@ -99,8 +99,8 @@ impl Tree {
         }
     }
 
-    // The page of a level that has the least key.
-    fn first_page(&self, level: u32) -> PageId
+    /// The page of a level that has the least key.
+    pub(super) fn first_page(&self, level: u32) -> PageId
         requires { level < length self.now.levels }
         ensures { IsHomeAt self.now.slots self.now.levels [] level result }
     {
