@@ -112,8 +112,7 @@ pub lowered_on : (heads : List ℕ) (bases : Bases) (records : Records) (root ne
     (heads' : List ℕ) (bases' : Bases) (records' : Records) (base : ℕ) → base ≡ base_under records (slice_index heads root) → heads' ≡ set heads root base → bases' ≡ set bases base (Some (GonePage (removed_root (slot_level (slot_at tree.slots tree.root)) child))) → records' ≡ records →
     IsTree heads' bases' records' child next staged × IsLowered tree (view_of heads' bases' records' child next staged) child
 lowered_on heads bases records root next None tree is none t child one heads' bases' records' base based set_there put same =
-    put_on IsMade heads bases records root (base_under records (slice_index heads root)) page
-    (
+    put_on IsMade heads bases records root (base_under records (slice_index heads root)) page (
       record { now = standing heads bases records root next t.now child one_here; stage = tt },
       subst (λ (v : TreeView). IsLowered v (view_of (set heads root (base_under records (slice_index heads root))) (set bases (base_under records (slice_index heads root)) (Some page)) records child next None) child) is (lowered heads bases records root next t.now child one_here),
     )
