@@ -1,5 +1,6 @@
 pub mod FinishLemmas
 pub mod TakenLemmas
+pub mod FreedLemmas
 pub mod SweepLemmas
 pub mod NamingLemmas
 pub mod PartLemmas

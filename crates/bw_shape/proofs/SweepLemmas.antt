@@ -4,21 +4,24 @@ use Rattle.std.proofs.lemmas.Bool.{cases_eq, cases_lt}
 use Rattle.std.proofs.lemmas.List.{get_or-set_other, length-set}
 use Rattle.std.specs.List.{AllByRecursion, Contains}
 use Rattle.std.specs.Prelude.{slice_index}
+use Rattle.bw_chain.specs.Freeing.{IsUnreached}
 use Rattle.bw_chain.specs.Levels.{row}
 use Rattle.bw_chain.specs.Before.{low_of}
 use Rattle.bw_chain.specs.Reading.{writes_over}
 use Rattle.bw_chain.specs.Scans.{high_of}
 use Rattle.bw_chain.specs.Searches.{IsInLevels}
-use Rattle.bw_chain.specs.Slots.{Slot, side_of_slot, slot_at}
+use Rattle.bw_chain.specs.Slots.{Slot, Free, side_of_slot, slot_at}
 use Rattle.bw_tree.specs.Consolidation.{IsConsolidated, IsRebased}
 use Rattle.bw_tree.specs.View.{TreeView, contents_at}
 use Rattle.bw_shape.specs.Steps.{HasLostChain, IsConsolidationStep}
-use Rattle.bw_shape.specs.Limits.{IsWithin}
-use Rattle.bw_shape.specs.Sweeps.{ArePlainBelow, HasAllRecorded, HasSameBounds, HaveSameBounds, HoldsSame, IsPlainAt, IsSwept, KeepsPlain}
+use Rattle.bw_shape.specs.Limits.{LimitsView, IsWithin}
+use Rattle.bw_shape.specs.Releasing.{AreFreed, FreesUnreached, HasNoneToFree}
+use Rattle.bw_shape.specs.Sweeps.{ArePlainBelow, HasAllRecorded, HasSameBounds, HaveSameBounds, HaveSameBoundsTaken, HoldsButFreed, HoldsSame, IsPlainAt, IsSwept, KeepsPlain, KeepsPlainTaken}
 use Rattle.bw_shape.specs.Tidying.{HasBoth, KeepsWithin}
 use Rattle.bw_shape.specs.declared.steps.Did.{Did}
 use Rattle.bw_shape.specs.declared.steps.Did.TheVariants.{Done, NotNeeded}
-use Rattle.bw_shape.proofs.TakenLemmas.{taken_but}
+use Rattle.bw_shape.proofs.FreedLemmas.{freed_itself}
+use Rattle.bw_shape.proofs.TakenLemmas.{cases_free, taken_but}
 
 bounds_same : (old new : Slot) → new ≡ old → HasSameBounds old new
 bounds_same old new is = record { low = ap low_of is; high = ap high_of is; side = ap side_of_slot is }
@@ -134,14 +137,44 @@ pub all_plain : (ws : List ℕ) → ((p : ℕ) → p < length ws → slice_index
 all_plain [] each = tt
 all_plain (w ∷ ws) each = (each 0 (omega arith), all_plain ws (λ p lt. each (suc p) (omega (arith, lt))))
 
+-- identifiers that are given back, once chains were consolidated
+pub but_freed : (first old new : TreeView) → HoldsSame first old → AreFreed old new → HoldsButFreed first new
+but_freed first old new held freed = record {
+  contents = ap (contents_at new) freed.next ∙ freed.contents old.next ∙ held.contents;
+  levels = freed.levels ∙ held.levels;
+  bounds = λ p taken. subst (HasSameBounds (slot_at first.slots p)) (sym (freed.others p taken)) (held.bounds p);
+  freed = λ p free. by p (freed.freed p free);
+  root = freed.root ∙ held.root;
+  next = freed.next ∙ held.next;
+  records = freed.records ∙ held.records;
+  staged = freed.staged;
+  pages = ap length freed.heads ∙ held.pages;
+}
+  where
+    by : (p : ℕ) → (slot_at old.slots p ≡ Free) ⊎ IsUnreached new.slots new.levels p → (slot_at first.slots p ≡ Free) ⊎ IsUnreached new.slots new.levels p
+    by p (inl free) = inl (held.taken p free)
+    by p (inr now) = inr now
+
+pub but_none : (old new : TreeView) → HoldsSame old new → HoldsButFreed old new
+but_none old new held = but_freed old new new held (freed_itself new held.staged)
+
+pub plain_taken : (first old new : TreeView) → KeepsPlain first old → AreFreed old new → KeepsPlainTaken first new
+plain_taken first old new kept freed p low taken = freed.others p taken ∙ kept p low
+
+-- where records and stamps start over, too
+pub plain_over : (old tree new : TreeView) → KeepsPlainTaken old tree → new ≡ record tree { records = 0; next = 0 } → KeepsPlainTaken old new
+plain_over old tree new kept view = subst (KeepsPlainTaken old) (sym view) (λ p low taken. kept p low taken)
+
 -- the tree that was started over, once no page has a record
-pub swept_all : (old tree new : TreeView) → HoldsSame old tree → AllByRecursion (λ w. w < 2 ^ 32) tree.heads → new ≡ record tree { records = 0; next = 0 } → ((stamp : ℕ) → contents_at new stamp ≡ contents_at tree tree.next) → ((p : ℕ) → writes_over (slot_at new.slots p) ≡ []) → IsSwept old new
-swept_all old tree new held plain view contents bare = record {
+pub swept_all : (old tree new : TreeView) → HoldsButFreed old tree → AllByRecursion (λ w. w < 2 ^ 32) tree.heads → HasNoneToFree tree → new ≡ record tree { records = 0; next = 0 } → ((stamp : ℕ) → contents_at new stamp ≡ contents_at tree tree.next) → ((p : ℕ) → writes_over (slot_at new.slots p) ≡ []) → IsSwept old new
+swept_all old tree new held plain none view contents bare = record {
   contents = λ stamp. contents stamp ∙ held.contents;
   plain = subst (λ (v : TreeView). AllByRecursion (λ w. w < 2 ^ 32) v.heads) (sym view) plain;
   bare = bare;
   levels = ap (λ (v : TreeView). v.levels) view ∙ held.levels;
-  bounds = λ p. bounds_on (slot_at old.slots p) (slot_at tree.slots p) (slot_at new.slots p) (held.bounds p) (bounds_same (slot_at tree.slots p) (slot_at new.slots p) (ap (λ (v : TreeView). slot_at v.slots p) view));
+  bounds = subst (HaveSameBoundsTaken old) (sym view) (λ p taken. held.bounds p taken);
+  freed = subst (FreesUnreached old) (sym view) (λ p free. held.freed p free);
+  all = subst HasNoneToFree (sym view) (λ p may. none p (record { taken = may.taken; unreached = may.unreached }));
   root = ap (λ (v : TreeView). v.root) view ∙ held.root;
   pages = ap (λ (v : TreeView). length v.heads) view ∙ held.pages;
   records = ap (λ (v : TreeView). v.records) view;
@@ -153,8 +186,12 @@ some_levels : (levels : List (List ℕ)) (p : ℕ) → Contains (row levels 0) p
 some_levels [] p has = absurd (omega (arith, has.1))
 some_levels (ps ∷ levels) p has = omega arith
 
+-- a free identifier has no writes and no pairs
+pub free_within : (limits : LimitsView) (slot : Slot) → slot ≡ Free → IsWithin limits slot
+free_within limits slot free = subst (IsWithin limits) (sym free) (omega arith, omega arith)
+
 -- Each leaf is within the limits or due behind a sweep, where the pages that had records are due, too.
-pub within_swept : (old new : TreeView) (due due' pages : List ℕ) → new.levels ≡ old.levels → KeepsPlain old new → HasAllRecorded old pages → ((p : ℕ) → IsInLevels old.levels p → p < length old.heads) → HasBoth pages due due' → KeepsWithin old new due due'
+pub within_swept : (old new : TreeView) (due due' pages : List ℕ) → new.levels ≡ old.levels → KeepsPlainTaken old new → HasAllRecorded old pages → ((p : ℕ) → IsInLevels old.levels p → p < length old.heads) → HasBoth pages due due' → KeepsWithin old new due due'
 within_swept old new due due' pages levels kept all there both limits but p leaf = by (cases_lt (slice_index old.heads p) (2 ^ 32)) (but p was)
   where
     was : Contains (row old.levels 0) p
@@ -162,5 +199,9 @@ within_swept old new due due' pages levels kept all there both limits but p leaf
 
     by : (slice_index old.heads p < 2 ^ 32) ⊎ (2 ^ 32 ≤ slice_index old.heads p) → Contains due p ⊎ IsWithin limits (slot_at old.slots p) → Contains due' p ⊎ IsWithin limits (slot_at new.slots p)
     by low (inl has) = inl (both.right p has)
-    by (inl low) (inr within) = inr (subst (IsWithin limits) (sym (kept p low)) within)
+    by (inl low) (inr within) = or_free (cases_free (slot_at new.slots p))
+      where
+        or_free : (slot_at new.slots p ≡ Free) ⊎ (slot_at new.slots p ≡ Free → ⊥) → Contains due' p ⊎ IsWithin limits (slot_at new.slots p)
+        or_free (inl free) = inr (free_within limits (slot_at new.slots p) free)
+        or_free (inr taken) = inr (subst (IsWithin limits) (sym (kept p low taken)) within)
     by (inr high) (inr within) = inl (both.left p (all p (there p (record { level = 0; within = some_levels old.levels p was; in_level = was })) high))

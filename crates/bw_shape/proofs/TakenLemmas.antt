@@ -1,12 +1,22 @@
 -- How many identifiers aren't free.
 use Rattle.std.proofs.Common.{inl, inr, ◌⊎◌, ◌≡◌, ℕ, zero, suc, ◌+◌, ◌≤◌, List, [], ◌∷◌, length, refl, sym, ap, ◌∙◌, arith}
 use Rattle.std.proofs.lemmas.Bool.{cases_eq}
+use Rattle.bw_page.specs.declared.pages.RemovedPage.{RemovedPage}
 use Rattle.bw_chain.specs.Slots.{Slot, PageState, Free, Gone, Live, slot_at}
 use Rattle.bw_chain.specs.Splits.{IsParted}
 use Rattle.bw_shape.specs.Visits.{one_if_taken, taken_count}
 
 pub not_free : {s : PageState} → Live s ≡ Free → ⊥
 not_free e = cc
+
+gone_free : {g : RemovedPage} → Gone g ≡ Free → ⊥
+gone_free e = cc
+
+-- an identifier is free or it isn't
+pub cases_free : (slot : Slot) → (slot ≡ Free) ⊎ (slot ≡ Free → ⊥)
+cases_free Free = inl refl
+cases_free (Gone l) = inr gone_free
+cases_free (Live s) = inr not_free
 
 at_most : (slot : Slot) → one_if_taken slot ≤ 1
 at_most Free = omega arith

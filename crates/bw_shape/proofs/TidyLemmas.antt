@@ -21,6 +21,7 @@ use Rattle.bw_tree.specs.Splits.{IsSplit, IsSplittable}
 use Rattle.bw_tree.specs.View.{TreeView, contents_at}
 use Rattle.bw_shape.specs.Limits.{LimitsView, AreWithinBut, IsWithin}
 use Rattle.bw_shape.specs.Naming.{AreFinished}
+use Rattle.bw_shape.specs.Releasing.{AreFreed}
 use Rattle.bw_shape.specs.Sweeps.{HoldsSame}
 use Rattle.bw_shape.specs.Tidying.{HoldsAll, KeepsWithin}
 use Rattle.bw_shape.specs.Visits.{IsBare, IsNext, IsSplitNext}
@@ -28,7 +29,8 @@ use Rattle.bw_shape.specs.Steps.{HasLostChain, IsFinishStep, IsFinished, IsRootS
 use Rattle.bw_tree.specs.Consolidation.{IsRebased}
 use Rattle.bw_shape.specs.declared.steps.Did.{Did}
 use Rattle.bw_shape.specs.declared.steps.Did.TheVariants.{Done, NotNeeded}
-use Rattle.bw_shape.proofs.SweepLemmas.{chain_plain, still_plain}
+use Rattle.bw_shape.proofs.SweepLemmas.{chain_plain, free_within, still_plain}
+use Rattle.bw_shape.proofs.TakenLemmas.{cases_free}
 
 -- what the tree holds
 pub holds_itself : (tree : TreeView) → tree.staged ≡ None → HoldsAll tree tree
@@ -232,6 +234,18 @@ tidy_rebased old new p none h = subst (KeepsTidy old) (sym h.view) (record {
 pub tidy_same : (IsOne : ℕ → Type 0) (old new : TreeView) → old.staged ≡ None → IsSameOver IsOne old new → KeepsTidy old new
 tidy_same IsOne old new none (inl is) = tidy_still old new none is
 tidy_same IsOne old new none (inr page) = tidy_rebased old new page.0 none page.1.1
+
+-- identifiers that are given back are of no leaf
+pub tidy_freed : (old new : TreeView) → AreFreed old new → KeepsTidy old new
+tidy_freed old new h = record {
+  holds = record { contents = held_at old new h.next h.contents; next = h.next; records = omega (arith, h.records); staged = h.staged };
+  within = λ due limits but r leaf. by due limits r (cases_free (slot_at new.slots r)) (but r (subst (λ (l : List (List ℕ)). Contains (row l 0) r) h.levels leaf));
+}
+  where
+    by : (due : List ℕ) (limits : LimitsView) (r : ℕ) → (slot_at new.slots r ≡ Free) ⊎ (slot_at new.slots r ≡ Free → ⊥) → Contains due r ⊎ IsWithin limits (slot_at old.slots r) → Contains due r ⊎ IsWithin limits (slot_at new.slots r)
+    by due limits r which (inl has) = inl has
+    by due limits r (inl free) (inr within) = inr (free_within limits (slot_at new.slots r) free)
+    by due limits r (inr taken) (inr within) = inr (subst (IsWithin limits) (sym (h.others r taken)) within)
 
 pub tidy_named : (old new : TreeView) (p parent : ℕ) → IsFinished old new p parent → KeepsTidy old new
 tidy_named old new p parent h = record {

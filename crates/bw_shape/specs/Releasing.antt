@@ -1,10 +1,33 @@
--- What giving an identifier back does, and where it isn't needed.
-use Rattle.std.specs.Prelude.{◌≡◌, ℕ}
+-- What giving identifiers back does, and where it isn't needed.
+use Rattle.std.specs.Prelude.{◌≡◌, ℕ, ◌⊎◌, None}
+use Rattle.bw_chain.specs.Freeing.{IsUnreached}
+use Rattle.bw_chain.specs.Slots.{Free, slot_at}
 use Rattle.bw_tree.specs.Freeing.{HasFreed, MayBeFreed}
-use Rattle.bw_tree.specs.View.{TreeView}
+use Rattle.bw_tree.specs.View.{TreeView, contents_at}
 use Rattle.bw_shape.specs.declared.steps.Did.{Did}
 use Rattle.bw_shape.specs.declared.steps.Did.TheVariants.{Done, NotNeeded}
 
 abbrev pub IsReleaseStep : TreeView → TreeView → ℕ → Did → Type 0
 IsReleaseStep old new p Done = MayBeFreed old p × HasFreed old new p
 IsReleaseStep old new p NotNeeded = (new ≡ old) × (MayBeFreed old p → ⊥)
+
+-- no identifier is free that wasn't, but of pages that stand on no level and to which nothing leads
+abbrev pub FreesUnreached : TreeView → TreeView → Type 0
+FreesUnreached old new =
+    (p : ℕ) → slot_at new.slots p ≡ Free → (slot_at old.slots p ≡ Free) ⊎ IsUnreached new.slots new.levels p
+
+-- each page that stands on no level, and whose identifier isn't free, is one to which something leads
+abbrev pub HasNoneToFree : TreeView → Type 0
+HasNoneToFree tree = (p : ℕ) → MayBeFreed tree p → ⊥
+
+-- Identifiers were given back of pages to which nothing leads. All other pages are as before, and so is all else.
+pub record AreFreed (old new : TreeView) : Type 0 where
+  pub freed : FreesUnreached old new
+  pub others : (p : ℕ) → (slot_at new.slots p ≡ Free → ⊥) → slot_at new.slots p ≡ slot_at old.slots p
+  pub levels : new.levels ≡ old.levels
+  pub contents : (stamp : ℕ) → contents_at new stamp ≡ contents_at old stamp
+  pub heads : new.heads ≡ old.heads
+  pub root : new.root ≡ old.root
+  pub records : new.records ≡ old.records
+  pub next : new.next ≡ old.next
+  pub staged : new.staged ≡ None

@@ -6,12 +6,18 @@ use Rattle.bw_chain.specs.Reading.{writes_over}
 use Rattle.bw_chain.specs.Scans.{high_of}
 use Rattle.bw_chain.specs.Slots.{Slot, Free, side_of_slot, slot_at}
 use Rattle.bw_tree.specs.View.{TreeView, contents_at}
+use Rattle.bw_shape.specs.Releasing.{FreesUnreached, HasNoneToFree}
 
 -- a page begins and ends where it did, and has the same right neighbour
 pub record HasSameBounds (old new : Slot) : Type 0 where
   pub low : low_of new ≡ low_of old
   pub high : high_of new ≡ high_of old
   pub side : side_of_slot new ≡ side_of_slot old
+
+-- each page begins and ends where it did, but for those whose identifiers were given back
+abbrev pub HaveSameBoundsTaken : TreeView → TreeView → Type 0
+HaveSameBoundsTaken old new =
+    (p : ℕ) → (slot_at new.slots p ≡ Free → ⊥) → HasSameBounds (slot_at old.slots p) (slot_at new.slots p)
 
 -- each page begins and ends where it did
 abbrev pub HaveSameBounds : TreeView → TreeView → Type 0
@@ -34,6 +40,24 @@ pub record HoldsSame (old new : TreeView) : Type 0 where
   pub pages : length new.heads ≡ length old.heads
   pub taken : KeepsTaken old new
 
+-- The tree holds what it held as of its next stamp, which is the same, on the same levels; no identifier was given back but of
+-- pages to which nothing leads, and all other pages have the same bounds. Nothing is staged.
+pub record HoldsButFreed (old new : TreeView) : Type 0 where
+  pub contents : contents_at new new.next ≡ contents_at old old.next
+  pub levels : new.levels ≡ old.levels
+  pub bounds : HaveSameBoundsTaken old new
+  pub freed : FreesUnreached old new
+  pub root : new.root ≡ old.root
+  pub next : new.next ≡ old.next
+  pub records : new.records ≡ old.records
+  pub staged : new.staged ≡ None
+  pub pages : length new.heads ≡ length old.heads
+
+-- pages that have no record are as they were, but for those whose identifiers were given back
+abbrev pub KeepsPlainTaken : TreeView → TreeView → Type 0
+KeepsPlainTaken old new = (p : ℕ) → slice_index old.heads p < 2 ^ 32 → (slot_at new.slots p ≡ Free → ⊥) →
+    slot_at new.slots p ≡ slot_at old.slots p
+
 -- pages that have no record are as they were
 abbrev pub KeepsPlain : TreeView → TreeView → Type 0
 KeepsPlain old new = (p : ℕ) → slice_index old.heads p < 2 ^ 32 → slot_at new.slots p ≡ slot_at old.slots p
@@ -55,13 +79,16 @@ HasAllRecorded tree pages =
     (p : ℕ) → p < length tree.heads → 2 ^ 32 ≤ slice_index tree.heads p → Contains pages p
 
 -- As of every stamp the tree holds what it held as of its next one, on the same levels of pages with the same bounds. There
--- is no record, so no page has one, nor a write over it, and the next stamp is 0.
+-- is no record, so no page has one, nor a write over it, and the next stamp is 0. Identifiers were given back of pages to
+-- which nothing leads, and no such page is left.
 pub record IsSwept (old new : TreeView) : Type 0 where
   pub contents : (stamp : ℕ) → contents_at new stamp ≡ contents_at old old.next
   pub plain : AllByRecursion (λ w. w < 2 ^ 32) new.heads
   pub bare : (p : ℕ) → writes_over (slot_at new.slots p) ≡ []
   pub levels : new.levels ≡ old.levels
-  pub bounds : HaveSameBounds old new
+  pub bounds : HaveSameBoundsTaken old new
+  pub freed : FreesUnreached old new
+  pub all : HasNoneToFree new
   pub root : new.root ≡ old.root
   pub pages : length new.heads ≡ length old.heads
   pub records : new.records ≡ 0

@@ -8,7 +8,7 @@ ghost use Rattle.bw_shape.specs.Visits.{IsNext, IsNextBefore, IsSplitNext};
 
 use crate::merges::finish_absorb;
 use crate::page_lists::{first_below, least_level, mark, pages_on, pages_over, sort_by_low_key};
-use crate::releasing::release;
+use crate::release_runs::release_run;
 use crate::right_neighbours::name_rights;
 use crate::steps::grow_root;
 use bw_key::Memory;
@@ -26,8 +26,9 @@ pub struct Due {
     above: Vec<PageId, Alloc>,
     // inner pages to look at the next time
     later: Vec<PageId, Alloc>,
-    // the leaf that was consolidated where tidying stopped before it was split or merged, if need be
-    begun: Option<PageId>,
+    // leaves that were consolidated where tidying stopped before they were split or merged, if need be: they are due still,
+    // and the first one in the order of keys stands last, since no leaf is looked at before those that are left of it
+    begun: Vec<PageId, Alloc>,
     // where tidying stopped: the page whose new right neighbours may not be named yet, or the removed one that may be still
     unfinished: Option<PageId>,
 }
@@ -49,7 +50,7 @@ impl Due {
             pages: Vec::new(alloc),
             above: Vec::new(alloc),
             later: Vec::new(alloc),
-            begun: None,
+            begun: Vec::new(alloc),
             unfinished: None,
         }
     }
@@ -136,13 +137,16 @@ impl Due {
         Ok(Some(next))
     }
 
-    /// The inner pages that were left for the next time are looked at this time.
-    pub(crate) fn begin(&mut self) -> Result<(), Memory>
+    /// The inner pages that were left for the next time are looked at this time, with those that a stop left, each once. It
+    /// costs the sorting of these pages.
+    pub(crate) fn begin(&mut self, tree: &Tree) -> Result<(), Memory>
         ensures pages { self.new.pages ≡ self.old.pages }
         ensures unfinished { self.new.unfinished ≡ self.old.unfinished }
     {
         self.above.extend_from_slice(&self.later)?;
         self.later.clear();
+        sort_by_low_key(tree, &mut self.above);
+        self.above.dedup();
         Ok(())
     }
 
@@ -199,17 +203,32 @@ impl Due {
         self.pages.last().copied()
     }
 
-    /// The leaf that was consolidated before tidying stopped, if there is one: it is due still.
-    pub(crate) fn begun(&self) -> Option<PageId> {
-        self.begun
+    /// Whether the next page is a leaf that was consolidated before tidying stopped: then it is due still.
+    pub(crate) fn has_begun(&self, page: PageId) -> bool {
+        self.begun.last().copied() == Some(page)
     }
 
-    /// This leaf is to be consolidated, or none.
-    pub(crate) fn set_begun(&mut self, begun: Option<PageId>)
+    /// The next page, a leaf, is to be consolidated.
+    pub(crate) fn begin_leaf(&mut self, page: PageId) -> Result<(), Memory>
         ensures pages { self.new.pages ≡ self.old.pages }
         ensures unfinished { self.new.unfinished ≡ self.old.unfinished }
     {
-        self.begun = begun;
+        if !self.has_begun(page) {
+            self.begun.push(page)?;
+        }
+        Ok(())
+    }
+
+    /// The page, if it is a leaf that was consolidated, need not be merged any more, and where it is to be split it is over a
+    /// limit.
+    pub(crate) fn end_leaf(&mut self, page: PageId)
+        ensures pages { self.new.pages ≡ self.old.pages }
+        ensures above { self.new.above ≡ self.old.above }
+        ensures unfinished { self.new.unfinished ≡ self.old.unfinished }
+    {
+        if self.has_begun(page) {
+            self.begun.pop();
+        }
     }
 
     /// The page whose splits or whose merge may not be finished yet.
@@ -257,7 +276,7 @@ impl Due {
         ensures unfinished { self.new.unfinished ≡ Some page }
     {
         self.pages.pop();
-        self.begun = None;
+        self.end_leaf(page);
         self.unfinished = Some(page);
     }
 
@@ -283,8 +302,9 @@ impl Due {
     }
 
     /// Finishes the merge of a page, if it is a removed one: the page above no longer names it, and its identifier is given
-    /// back, if nothing else leads to it. The page above is looked at behind the pages of the levels below it, and so is its
-    /// right neighbour. After `Memory` the merge isn't finished, or the identifier isn't given back.
+    /// back, if nothing else leads to it, and then that of a removed page to which it alone still led. The page above is looked
+    /// at behind the pages of the levels below it, and so is its right neighbour. After `Memory` the merge may be unfinished,
+    /// or identifiers are left that may be given back.
     pub(crate) fn finish_merge(&mut self, tree: &mut Tree, page: PageId) -> Result<(), Memory>
         requires { tree.old.staged ≡ None }
         ensures holds { HoldsAll tree.old tree.new }
@@ -293,12 +313,12 @@ impl Due {
     {
         self.above.reserve(2)?;
         let Some(parent) = tree.namer_of_removed(page) else {
-            release(tree, page)?;
+            release_run(tree, page)?;
             return Ok(());
         };
         finish_absorb(tree, page)?;
         mark(&mut self.above, tree, parent);
-        release(tree, page)?;
+        release_run(tree, page)?;
         Ok(())
     }
 }

@@ -11,6 +11,7 @@ mod limits;
 mod merges;
 mod outcome;
 mod page_lists;
+mod release_runs;
 mod releasing;
 mod right_neighbours;
 mod steps;

@@ -1,29 +1,33 @@
-// A sweep: every chain is consolidated, and records and stamps start over.
+// A sweep: every chain is consolidated, identifiers to which nothing leads are given back, and records and stamps start over.
 ghost use Rattle.std.specs.Prelude.{◌≡◌, ℕ, ◌<◌, None, OnOk, OnErr, length};
 ghost use Rattle.std.specs.List.{Contains};
 ghost use Rattle.bw_shape.specs.Tidying.{KeepsWithin};
-ghost use Rattle.bw_shape.specs.Sweeps.{ArePlainBelow, HoldsSame, IsPlainAt, IsSwept, KeepsPlain};
+ghost use Rattle.bw_shape.specs.Sweeps.{ArePlainBelow, HoldsButFreed, HoldsSame, IsPlainAt, IsSwept, KeepsPlain, KeepsPlainTaken};
 
 use crate::due::Due;
 use crate::page_lists::recorded_pages;
+use crate::release_runs::release_all;
 use crate::steps::consolidate;
 use bw_key::Memory;
 use bw_page::PageId;
 use bw_tree::Tree;
 
 /// Starts records and stamps over: every chain is consolidated, there is no record any more, and the next stamp is 0. What
-/// the tree holds is the same, as of every stamp. No batch is staged.
+/// the tree holds is the same, as of every stamp. Identifiers of pages that stand on no level and to which nothing leads, as
+/// `release` has it, are given back: none is left that might be. No batch is staged.
 ///
-/// It costs a look at each mapping word, what `consolidate` does for each page that has records, and a step for each
-/// record. After `Memory` the tree holds the same as of the same next stamp, and some pages may have been consolidated.
+/// It costs a search for each page, two for a removed one, and as often a look at each removed page whose identifier isn't
+/// given back; what `consolidate` does for each page that has records, and a step for each record. After `Memory` the tree
+/// holds the same as of the same next stamp, and some pages may have been consolidated, and some identifiers given back.
 pub fn sweep(tree: &mut Tree) -> Result<(), Memory>
     requires { tree.old.staged ≡ None }
     ensures ok { OnOk result (IsSwept tree.old tree.new) }
-    ensures err { OnErr result (HoldsSame tree.old tree.new) }
-    ensures kept { KeepsPlain tree.old tree.new }
+    ensures err { OnErr result (HoldsButFreed tree.old tree.new) }
+    ensures kept { KeepsPlainTaken tree.old tree.new }
     ensures levels { tree.new.levels ≡ tree.old.levels }
 {
     consolidate_all(tree)?;
+    release_all(tree)?;
     tree.restart();
     Ok(())
 }
@@ -34,7 +38,7 @@ pub fn sweep(tree: &mut Tree) -> Result<(), Memory>
 pub fn sweep_due(tree: &mut Tree, due: &mut Due) -> Result<(), Memory>
     requires { tree.old.staged ≡ None }
     ensures ok { OnOk result (IsSwept tree.old tree.new) }
-    ensures err { OnErr result (HoldsSame tree.old tree.new) }
+    ensures err { OnErr result (HoldsButFreed tree.old tree.new) }
     ensures within { KeepsWithin tree.old tree.new due.old.pages due.new.pages }
     ensures kept { (p : ℕ) → Contains due.old.pages p → Contains due.new.pages p }
     ensures rest { (due.new.above ≡ due.old.above) × (due.new.unfinished ≡ due.old.unfinished) }

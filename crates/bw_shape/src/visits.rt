@@ -1,5 +1,5 @@
 // What tidying does where it comes to a page: it leaves the page alone, splits it, or merges it into its left neighbour.
-ghost use Rattle.std.specs.Prelude.{◌≡◌, ◌<◌, ◌≤◌, ◌⊎◌, false, true, Some, None, length, OnOk};
+ghost use Rattle.std.specs.Prelude.{◌≡◌, ◌<◌, ◌≤◌, ◌⊎◌, false, true, None, length, OnOk};
 ghost use Rattle.std.specs.List.{Contains};
 ghost use Rattle.bw_chain.specs.Levels.{row};
 ghost use Rattle.bw_chain.specs.Slots.{slot_at};
@@ -38,7 +38,7 @@ pub(crate) fn visit(
     ensures finished { OnOk result (due.new.unfinished ≡ None) }
 {
     tree.know_levels();
-    if is_calm(tree, limits, page) && due.begun() != Some(page) {
+    if is_calm(tree, limits, page) && !due.has_begun(page) {
         due.pass();
         return Ok(());
     }
@@ -84,28 +84,25 @@ fn visit_leaf(
     ensures less { OnOk result (length due.new.pages < length due.old.pages) }
     ensures finished { OnOk result (due.new.unfinished ≡ None) }
 {
-    if !is_due(tree, limits, page, due.begun()) {
+    if !is_due(tree, limits, page, due.has_begun(page)) {
         due.pass();
         return Ok(());
     }
-    due.set_begun(Some(page));
+    due.begin_leaf(page)?;
     bare(tree, counts, page, 0)?;
     tree.know_records();
     look(tree, limits, due, counts, page, 0)?;
-    due.set_begun(None);
+    due.end_leaf(page);
     Ok(())
 }
 
 // Whether a leaf is over a limit, or was consolidated before tidying stopped.
-fn is_due(tree: &Tree, limits: &Limits, page: PageId, begun: Option<PageId>) -> bool
-    ensures yes { result ≡ true → IsOver limits.now (slot_at tree.now.slots page) ⊎ (begun ≡ Some page) }
+fn is_due(tree: &Tree, limits: &Limits, page: PageId, begun: bool) -> bool
+    ensures yes { result ≡ true → IsOver limits.now (slot_at tree.now.slots page) ⊎ (begun ≡ true) }
     ensures no { result ≡ false → Contains (row tree.now.levels 0) page →
         IsWithin limits.now (slot_at tree.now.slots page) }
 {
-    if begun == Some(page) {
-        return true;
-    }
-    is_over(tree, limits, page)
+    begun || is_over(tree, limits, page)
 }
 
 // Looks at the next page, by how many entries it has: with too few it's merged into its left neighbour, and with too many
@@ -133,7 +130,7 @@ fn look(
     if is_small(tree, limits, page) {
         return merge(tree, limits, due, counts, page, level);
     }
-    due.set_begun(None);
+    due.end_leaf(page);
     if tree.entries(page) as u64 <= limits.page_max() {
         due.pass();
         return Ok(());

@@ -10,7 +10,7 @@ use crate::limits::Limits;
 use crate::merges::finish_absorb;
 use crate::outcome::Tidy;
 use crate::page_lists::{inner_pages, leaf_pages};
-use crate::releasing::release;
+use crate::release_runs::release_run;
 use crate::steps::{finish_split, grow_root};
 use crate::tidying::tidy_due;
 use bw_key::Memory;
@@ -79,7 +79,7 @@ fn finish_merges(tree: &mut Tree) -> Result<(), Memory>
 }
 
 // Finishes the merge of the page of this mapping word, if it is a removed one, and gives its identifier back where nothing leads
-// to the page.
+// to the page, and then that of a removed page to which it alone still led.
 fn finish_merge(tree: &mut Tree, place: usize) -> Result<(), Memory>
     requires { tree.old.staged ≡ None }
     ensures { HoldsAll tree.old tree.new }
@@ -89,7 +89,7 @@ fn finish_merge(tree: &mut Tree, place: usize) -> Result<(), Memory>
     };
     let page = PageId(number);
     finish_absorb(tree, page)?;
-    release(tree, page)?;
+    release_run(tree, page)?;
     Ok(())
 }
 

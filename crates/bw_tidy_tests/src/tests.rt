@@ -1,5 +1,6 @@
 // What no contract says: which pages are split and where, in which order, how often, and that they are so again after a
 // refusal.
+mod drains;
 mod fresh;
 mod levels;
 mod literal;

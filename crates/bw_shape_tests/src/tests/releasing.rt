@@ -57,8 +57,8 @@ fn pages_on_levels_are_not_given_back(rt: HostRuntime) {
     has_two_pairs(&rt, alloc, &tree);
 }
 
-// The leaves 0, 1 and 3 under the root 2, which names all three; 1 and 0 have no record.
-fn three_leaves<R: Abort>(rt: &R, tree: &mut Tree)
+/// The leaves 0, 1 and 3 under the root 2, which names all three; 1 and 0 have no record.
+pub fn three_leaves<R: Abort>(rt: &R, tree: &mut Tree)
     requires { tree.old.staged ≡ None }
     ensures { tree.new.staged ≡ None }
 {

@@ -2,11 +2,14 @@
 ghost use Rattle.std.specs.Prelude.{◌≡◌, None};
 
 use super::making::{
-    FLOOR, five, grow_does, named_once, reads_all, split_does, stands, sweep_does,
+    FLOOR, consolidate_does, five, grow_does, named_once, reads_all, split_does, stands, sweep_does,
 };
+use super::merging::{absorb_does, drop_does, forget_does, has_two_pairs, of_two_pairs};
+use super::releasing::three_leaves;
+use super::shapes::has_pages;
 use bw_fixtures::{heap, was_refused};
 use bw_memory::Alloc;
-use bw_shape::{Did, Memory, Tree, sweep};
+use bw_shape::{Did, Limits, Memory, PageId, Tree, sweep, tidy};
 use std::process::Abort;
 
 // The tree of two leaves and two pages above them, the left ones with a record each.
@@ -67,4 +70,74 @@ fn each_growth_of_a_sweep_is_refused(rt: HostRuntime) {
         }
     }
     panic!(rt; "no run met no refusal")
+}
+
+// Compares which of the first identifiers are free.
+fn are_free<R: Abort>(rt: &R, tree: &Tree, wanted: &[bool]) {
+    let mut page = 0u32;
+    for free in wanted {
+        assert!(rt; tree.is_free(PageId(page)) == *free);
+        page = page.saturating_add(1);
+    }
+}
+
+// A sweep gives back the identifiers of a leaf that was removed and of a root that went, and the next page takes the least one.
+#[test]
+fn a_sweep_gives_back_what_nothing_leads_to(rt: HostRuntime) {
+    let alloc = heap(rt.alloc()).expect(&rt, "memory");
+    let mut tree = of_two_pairs(&rt, alloc);
+    absorb_does(&rt, &mut tree, 1, Did::Done);
+    forget_does(&rt, &mut tree, 1, Did::Done);
+    drop_does(&rt, &mut tree, Did::Done);
+    are_free(&rt, &tree, &[false, false, false, true]);
+    sweep_does(&rt, &mut tree);
+    are_free(&rt, &tree, &[false, true, true, true]);
+    has_two_pairs(&rt, alloc, &tree);
+    split_does(&rt, &mut tree, 0, 1, Did::Done);
+    has_pages(
+        &rt,
+        &tree,
+        &[(0, 0, b"", Some(b"c"), 1, 0), (1, 0, b"c", None, 1, 0)],
+    );
+}
+
+// The leaf 3 is removed into the leaf 1, and that one into the leaf 0. The root still names both.
+fn removed_twice<R: Abort>(rt: &R, tree: &mut Tree)
+    requires { tree.old.staged ≡ None }
+    ensures { tree.new.staged ≡ None }
+{
+    three_leaves(rt, tree);
+    absorb_does(rt, tree, 3, Did::Done);
+    consolidate_does(rt, tree, 1, Did::Done);
+    absorb_does(rt, tree, 1, Did::Done);
+}
+
+// A page into which another one was removed is given back by the same sweep as that one, and none as long as an index entry
+// leads to it.
+#[test]
+fn a_sweep_gives_back_a_left_neighbour_behind_the_page_removed_into_it(rt: HostRuntime) {
+    let alloc = heap(rt.alloc()).expect(&rt, "memory");
+    let mut tree = five(&rt, alloc);
+    removed_twice(&rt, &mut tree);
+    sweep_does(&rt, &mut tree);
+    are_free(&rt, &tree, &[false, false, false, false]);
+    forget_does(&rt, &mut tree, 1, Did::Done);
+    sweep_does(&rt, &mut tree);
+    are_free(&rt, &tree, &[false, false, false, false]);
+    forget_does(&rt, &mut tree, 3, Did::Done);
+    sweep_does(&rt, &mut tree);
+    are_free(&rt, &tree, &[false, true, false, true]);
+    reads_all(&rt, alloc, &tree);
+}
+
+// So it is by the tidying of all pages, which finishes both merges.
+#[test]
+fn tidying_gives_back_a_left_neighbour_behind_the_page_removed_into_it(rt: HostRuntime) {
+    let alloc = heap(rt.alloc()).expect(&rt, "memory");
+    let mut tree = five(&rt, alloc);
+    removed_twice(&rt, &mut tree);
+    let limits = Limits::new(1, 8, 0);
+    assert!(rt; !tidy(&mut tree, &limits).stopped);
+    are_free(&rt, &tree, &[false, true, true, true]);
+    reads_all(&rt, alloc, &tree);
 }

@@ -20,14 +20,14 @@ returns-then-entries-page_max-clause-within c =
     let slot = slot_at c.args.tree.now.slots c.args.page in
     let few : slot_entries slot ≤ c.args.limits.now.page_max = omega (arith, c.entries.ensures, c.page_max.ensures.value, c.if-entries-page_max.true) in
     within_pass c.args.limits.now c.args.tree.now c.args.due.now.pages c.pass.new.self.pages c.args.page
-    (sym c.set_begun.ensures.pages ∙ c.pass.ensures.pages c.args.page (c.requires.next.0, c.set_begun.ensures.pages ∙ c.requires.next.1))
+    (sym c.end_leaf.ensures.pages ∙ c.pass.ensures.pages c.args.page (c.requires.next.0, c.end_leaf.ensures.pages ∙ c.requires.next.1))
     (λ leaf. few_within c.args.limits.now slot (c.requires.short leaf) few) c.requires.within
 
 pub returns-then-entries-page_max-clause-less : goal.returns-then-entries-page_max-clause-less
 returns-then-entries-page_max-clause-less c =
-    omega (arith, ap length (sym c.set_begun.ensures.pages ∙ c.pass.ensures.pages c.args.page (c.requires.next.0, c.set_begun.ensures.pages ∙ c.requires.next.1)), length-append c.pass.new.self.pages (c.args.page ∷ []))
+    omega (arith, ap length (sym c.end_leaf.ensures.pages ∙ c.pass.ensures.pages c.args.page (c.requires.next.0, c.end_leaf.ensures.pages ∙ c.requires.next.1)), length-append c.pass.new.self.pages (c.args.page ∷ []))
 
 pub part_all-requires-clause-within : goal.part_all-requires-clause-within
 part_all-requires-clause-within c =
-    subst (AreWithinBut c.args.limits.now c.bare.new.tree) (sym c.set_begun.ensures.pages)
+    subst (AreWithinBut c.args.limits.now c.bare.new.tree) (sym c.end_leaf.ensures.pages)
     (within_bare c.args.tree.now c.bare.new.tree c.args.due.now.pages c.args.page c.in_ok-bare.ensures.ok c.requires.next c.args.limits.now c.requires.within)

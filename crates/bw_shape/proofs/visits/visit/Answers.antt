@@ -4,12 +4,12 @@ use Rattle.bw_shape.proofs.AbsorbLemmas.{no_leaf}
 use Rattle.bw_shape.proofs.TidyLemmas.{leaf_level, within_pass}
 use Rattle.bw_shape.proofs.visits.visit.Goals as goal
 
-pub returns-then-ne-clause-within : goal.returns-then-ne-clause-within
-returns-then-ne-clause-within c =
+pub returns-then-not-has_begun-clause-within : goal.returns-then-not-has_begun-clause-within
+returns-then-not-has_begun-clause-within c =
     within_pass c.args.limits.now c.args.tree.now c.args.due.now.pages c.pass.new.self.pages c.args.page (c.pass.ensures.pages c.args.page c.requires.next) (c.is_calm.ensures c.if-is_calm.true) c.requires.within
 
-pub returns-then-ne-clause-less : goal.returns-then-ne-clause-less
-returns-then-ne-clause-less c = omega (arith, ap length (c.pass.ensures.pages c.args.page c.requires.next), length-append c.pass.new.self.pages (c.args.page ∷ []))
+pub returns-then-not-has_begun-clause-less : goal.returns-then-not-has_begun-clause-less
+returns-then-not-has_begun-clause-less c = omega (arith, ap length (c.pass.ensures.pages c.args.page c.requires.next), length-append c.pass.new.self.pages (c.args.page ∷ []))
 
 pub returns-in_default-clause-within : goal.returns-in_default-clause-within
 returns-in_default-clause-within c =

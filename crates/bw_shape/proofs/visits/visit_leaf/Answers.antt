@@ -13,7 +13,7 @@ returns-then-not-is_due-clause-less c = omega (arith, ap length (c.pass.ensures.
 
 pub look-requires-clause-within : goal.look-requires-clause-within
 look-requires-clause-within c =
-    subst (AreWithinBut c.args.limits.now c.bare.new.tree) (sym c.set_begun.ensures.pages)
+    subst (AreWithinBut c.args.limits.now c.bare.new.tree) (sym c.in_ok-begin_leaf.ensures.pages)
     (within_bare c.args.tree.now c.bare.new.tree c.args.due.now.pages c.args.page c.in_ok-bare.ensures.ok c.requires.next c.args.limits.now c.requires.within)
 
 pub look-requires-clause-short : goal.look-requires-clause-short
