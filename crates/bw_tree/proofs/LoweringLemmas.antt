@@ -12,7 +12,7 @@ use Rattle.bw_chain.specs.Freeing.{IsAside}
 use Rattle.bw_chain.specs.Laws.{KeepsAll}
 use Rattle.bw_chain.specs.Roots.{HasOneChild, IsRootRemoved, levels_lowered, removed_root}
 use Rattle.bw_chain.specs.Searches.{IsInLevels}
-use Rattle.bw_chain.specs.Slots.{PageState, Free, Gone, Live, children_of, slot_at, slot_level}
+use Rattle.bw_chain.specs.Slots.{PageState, Free, Live, children_of, slot_at, slot_level}
 use Rattle.bw_chain.specs.Supports.{base_under}
 use Rattle.bw_chain.proofs.AdditionLemmas.{same_slot, slot_here}
 use Rattle.bw_chain.proofs.BaseLemmas.{all_end, get_set_other, get_set_same, low, others_kept, own_after, put_there}

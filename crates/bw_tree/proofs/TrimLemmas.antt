@@ -1,13 +1,12 @@
 -- Identifiers at the end that are forgotten leave a tree that holds the same.
-use Rattle.std.proofs.Common.{inl, inr, ◌⊎◌, ◌≡◌, ℕ, zero, suc, ◌<◌, ◌≤◌, ◌^◌, List, [], ◌∷◌, length, take, Option, Some, None, refl, sym, ap, ◌∙◌, subst, arith}
+use Rattle.std.proofs.Common.{inl, inr, ◌⊎◌, ◌≡◌, ℕ, zero, suc, ◌<◌, ◌≤◌, ◌^◌, List, length, take, Option, Some, None, refl, sym, ap, ◌∙◌, subst, arith}
 use Rattle.std.proofs.lemmas.Bool.{cases_lt}
 use Rattle.std.proofs.lemmas.List.{get_or-take}
 use Rattle.std.proofs.lemmas.Option.{slice_get_past, slice_get-get_or}
 use Rattle.std.specs.Prelude.{slice_get, slice_index}
-use Rattle.bw_page.specs.declared.pages.Page.{Page}
-use Rattle.bw_chain.specs.Chains.{Bases, Records, based, deltas_at, link_of, slot_of_word, slots_of}
+use Rattle.bw_chain.specs.Chains.{Bases, Records, based, deltas_at, link_of, slot_of_word}
 use Rattle.bw_chain.specs.Laws.{KeepsAll}
-use Rattle.bw_chain.specs.Slots.{Free, slot_at}
+use Rattle.bw_chain.specs.Slots.{Free}
 use Rattle.bw_chain.specs.Supports.{base_under}
 use Rattle.bw_chain.specs.Vacancy.{AreVacantFrom, IsTakenBefore}
 use Rattle.bw_chain.specs.Walk.{walked}

@@ -1,5 +1,5 @@
 -- Identifiers that are given back.
-use Rattle.std.specs.Prelude.{◌≡◌, ℕ, suc, List, length, take, None}
+use Rattle.std.specs.Prelude.{◌≡◌, ℕ, suc, length, take, None}
 use Rattle.bw_chain.specs.Freeing.{IsUnreached, IsFreed}
 use Rattle.bw_chain.specs.Slots.{Free, slot_at}
 use Rattle.bw_tree.specs.View.{TreeView, contents_at}
