@@ -2,16 +2,17 @@
 use Rattle.std.proofs.Common.{inl, inr, ◌⊎◌, ◌≡◌, ℕ, zero, suc, ◌+◌, ◌<◌, ◌≤◌, List, [], ◌∷◌, length, Option, Some, None, refl, sym, ap, ◌∙◌, subst, arith}
 use Rattle.std.proofs.lemmas.Bool.{cases_eq, cases_lt}
 use Rattle.std.specs.List.{Contains}
+use Rattle.std.specs.Prelude.{IfSome}
 use Rattle.bw_key.specs.Order.{KeyBytes}
 use Rattle.bw_page.specs.declared.pages.RemovedPage.{RemovedPage}
 use Rattle.bw_chain.specs.Before.{removed_at}
 use Rattle.bw_chain.specs.Freeing.{IsUnreached}
 use Rattle.bw_chain.specs.Levels.{row}
 use Rattle.bw_chain.specs.Searches.{IsInLevels}
-use Rattle.bw_chain.specs.Slots.{Slot, PageState, Free, Gone, Live, left_of, left_of_slot, slot_at}
+use Rattle.bw_chain.specs.Slots.{Slot, Free, Gone, Live, left_of, left_of_slot, slot_at}
 use Rattle.bw_chain.specs.Steps.{IsTerm}
 use Rattle.bw_tree.specs.Freeing.{HasFreed, MayBeFreed}
-use Rattle.bw_tree.specs.View.{TreeView, contents_at}
+use Rattle.bw_tree.specs.View.{TreeView}
 use Rattle.bw_shape.specs.Releasing.{AreFreed, HasNoneToFree, IsReleaseStep}
 use Rattle.bw_shape.specs.Visits.{taken_count}
 use Rattle.bw_shape.specs.declared.steps.Did.{Did}
@@ -172,6 +173,10 @@ step_freed old new p NotNeeded none h = subst (AreFreed old) (sym h.0) (freed_it
 
 pub left_done : (old new : TreeView) (p : ℕ) (left : Option ℕ) → left ≡ left_of old.slots p → IsReleaseStep old new p Done → (q : ℕ) → MayBeFreed new q → (left ≡ Some q) ⊎ ((q ≡ p → ⊥) × MayBeFreed old q)
 left_done old new p left is h q now = subst (λ (o : Option ℕ). (o ≡ Some q) ⊎ ((q ≡ p → ⊥) × MayBeFreed old q)) (sym is) (left_to_free old new p h.0 h.1 q now)
+
+pub fewer_left : (old new : TreeView) (p : ℕ) (left : Option ℕ) → IsReleaseStep old new p Done → IfSome left (λ l. taken_count new.slots < taken_count old.slots)
+fewer_left old new p None h = tt
+fewer_left old new p (Some l) h = taken_fewer old new p h.0 h.1
 
 pub left_still : (old new : TreeView) (p : ℕ) → IsReleaseStep old new p NotNeeded → (q : ℕ) → MayBeFreed new q → (q ≡ p → ⊥) × MayBeFreed old q
 left_still old new p h q now = (λ same. h.1 (subst (MayBeFreed old) same was), was)

@@ -1,5 +1,5 @@
 -- What the steps do by which pages are merged and the tree loses a level, and where they aren't needed.
-use Rattle.std.specs.Prelude.{◌≡◌, ℕ, ◌<◌, ◌^◌, None, slice_index, slice_set}
+use Rattle.std.specs.Prelude.{◌≡◌, ℕ}
 use Rattle.bw_chain.specs.Roots.{HasOneChild}
 use Rattle.bw_tree.specs.Merges.{HasLostChild, HasMerged, HasNoNamerOfRemoved, IsLowered, IsNamerOfRemoved, MayMerge}
 use Rattle.bw_tree.specs.View.{TreeView}

@@ -1,5 +1,5 @@
-use Rattle.std.proofs.Common.{ap, arith, length}
-use Rattle.bw_shape.proofs.FreedLemmas.{freed_itself, freed_on, none_at_all, none_more}
+use Rattle.std.proofs.Common.{arith}
+use Rattle.bw_shape.proofs.FreedLemmas.{freed_itself, freed_on, none_more}
 use Rattle.bw_shape.proofs.release_runs.release_all.Goals as goal
 
 pub loop-place-init : goal.loop-place-init

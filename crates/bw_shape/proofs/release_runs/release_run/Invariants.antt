@@ -6,7 +6,7 @@ use Rattle.bw_shape.proofs.release_runs.release_run.Given as goal
 abbrev pub invariant-loop-left : goal.invariant-loop-left
 invariant-loop-left l = record {
   freed : AreFreed l.fn.tree l.tree;
-  none : IsLeftToFree l.fn.tree l.tree l.page l.next;
+  none : IsLeftToFree l.fn.tree l.tree l.fn.page l.next;
 }
 
 abbrev pub decreases-loop-left : goal.decreases-loop-left

@@ -17,3 +17,6 @@ pub returns-clause-within : goal.returns-clause-within
 returns-clause-within c =
     c.forget_free.ensures.within c.visit_levels.new.due.pages c.args.limits.now
     (c.in_ok-lower.ensures.within c.visit_levels.new.due.pages c.args.limits.now c.in_ok-visit_levels.ensures.within)
+
+pub returns-in_err-lower-clause-within : goal.returns-in_err-lower-clause-within
+returns-in_err-lower-clause-within c = c.in_err-lower.ensures.within c.visit_levels.new.due.pages c.args.limits.now c.in_ok-visit_levels.ensures.within
