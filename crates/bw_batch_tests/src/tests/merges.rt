@@ -76,7 +76,7 @@ fn five_deletes_leave_an_empty_leaf(rt: HostRuntime) {
     let alloc = heap(rt.alloc()).expect(&rt, "a heap");
     let mut index = five(&rt, alloc);
     empty(&rt, &mut index, &ops_of(&rt, alloc, DELETES), EMPTIED);
-    assert_eq!(rt; index.tree().heads().len(), 3);
+    assert_eq!(rt; index.tree().heads().len(), 1);
 }
 
 #[test]
