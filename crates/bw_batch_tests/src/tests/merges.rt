@@ -107,8 +107,6 @@ const GONE: &[Row] = &[
     (Delete("e"), Was("5")),
 ];
 
-const ONCE: Batches = &[FIRST, GONE];
-
 const TWICE: Batches = &[FIRST, GONE, INSERTS, SCAN];
 
 // Small pages, with so many workers, and pieces of so many records.
@@ -116,10 +114,14 @@ fn small<R: Abort>(rt: &R, workers: u64, piece: u64) -> Options {
     Options::new(workers, piece, 1, 4, 1, 65536, 1048576).expect(rt, "options")
 }
 
-// Five letters come and go once and twice, and all are gone in the end.
+// Five letters come and go twice, and when they have gone once, one leaf is left of two.
 fn come_and_go<R: Abort + Threads + Sync>(rt: &R, alloc: Alloc, workers: u64, piece: u64) {
-    compare_with(rt, alloc, small(rt, workers, piece), ONCE, &[]);
     compare_with(rt, alloc, small(rt, workers, piece), TWICE, &[]);
+    let mut index = Index::new(alloc, small(rt, workers, piece)).expect(rt, "an index");
+    read(rt, alloc, &mut index, FIRST);
+    has_pages(rt, &index, FIVE);
+    read(rt, alloc, &mut index, GONE);
+    has_pages(rt, &index, EMPTY);
 }
 
 #[test]

@@ -118,8 +118,8 @@ fn free_identifiers_behind_the_last_page_are_forgotten(rt: HostRuntime) {
     has_two_pairs(&rt, alloc, &tree);
 }
 
-// Two leaves under the inner pages 2 and 3 and the root 4, of which 3 goes and then 4, behind it leaf 1, and then the root 2.
-fn without_two_roots<R: Abort>(rt: &R, alloc: Alloc) -> Tree
+/// Two leaves under the inner pages 2 and 3 and the root 4, of which 3 goes and then 4, behind it leaf 1, and then the root 2.
+pub fn without_two_roots<R: Abort>(rt: &R, alloc: Alloc) -> Tree
     ensures { result.staged ≡ None }
 {
     let mut tree = two_leaves(rt, alloc);

@@ -5,7 +5,7 @@ use super::making::{
     FLOOR, consolidate_does, five, grow_does, named_once, reads_all, split_does, stands, sweep_does,
 };
 use super::merging::{absorb_does, drop_does, forget_does, has_two_pairs, of_two_pairs};
-use super::releasing::three_leaves;
+use super::releasing::{three_leaves, without_two_roots};
 use super::shapes::has_pages;
 use bw_fixtures::{heap, was_refused};
 use bw_memory::Alloc;
@@ -99,6 +99,36 @@ fn a_sweep_gives_back_what_nothing_leads_to(rt: HostRuntime) {
         &tree,
         &[(0, 0, b"", Some(b"c"), 1, 0), (1, 0, b"c", None, 1, 0)],
     );
+}
+
+// Sweeps a tree of which two roots, an inner page and a leaf went where this growth is refused, and once more. Whether it
+// was.
+fn gone_refused<R: Abort>(rt: &R, alloc: Alloc, growth: u64) -> bool {
+    let mut tree = without_two_roots(rt, alloc);
+    alloc.refuse(growth);
+    let swept = sweep(&mut tree);
+    let refused = was_refused(alloc, growth);
+    if refused {
+        assert!(rt; swept == Err(Memory));
+        reads_all(rt, alloc, &tree);
+        sweep_does(rt, &mut tree);
+    }
+    are_free(rt, &tree, &[false, true, true, true, true]);
+    reads_all(rt, alloc, &tree);
+    refused
+}
+
+// A sweep that is refused as it gives identifiers back loses none: the next one gives back what is left.
+#[test]
+fn each_growth_of_a_sweep_over_pages_that_went_is_refused(rt: HostRuntime) {
+    let alloc = heap(rt.alloc()).expect(&rt, "memory");
+    for growth in 1..100 {
+        if !gone_refused(&rt, alloc, growth) {
+            assert!(rt; growth > 1);
+            return;
+        }
+    }
+    panic!(rt; "no run met no refusal")
 }
 
 // The leaf 3 is removed into the leaf 1, and that one into the leaf 0. The root still names both.
