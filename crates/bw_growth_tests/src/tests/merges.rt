@@ -193,7 +193,7 @@ struct Before {
     len: u64,
 }
 
-fn before<R: Abort>(rt: &R, alloc: Alloc, index: &Index) -> Before {
+fn state_of<R: Abort>(rt: &R, alloc: Alloc, index: &Index) -> Before {
     let tree = index.tree();
     Before {
         next: tree.next_stamp(),
@@ -260,7 +260,7 @@ struct Story {
     workers: u64,
 }
 
-fn story<R: Abort>(rt: &R, alloc: Alloc, workers: u64, len: usize) -> Story {
+fn story_of<R: Abort>(rt: &R, alloc: Alloc, workers: u64, len: usize) -> Story {
     Story {
         turns: turns(rt, alloc, len),
         reads: reads_behind(rt, alloc, len),
@@ -277,7 +277,7 @@ fn run_refused<R: Abort + Threads + Sync>(
     turn: &Turn,
     growth: u64,
 ) -> bool {
-    let before = before(rt, alloc, index);
+    let before = state_of(rt, alloc, index);
     alloc.refuse(growth);
     let outcome = index.run(rt, &turn.ops, &OpenGate);
     let refused = was_refused(alloc, growth);
@@ -327,7 +327,7 @@ fn refuse_in_turn<R: Abort + Threads + Sync>(rt: &R, alloc: Alloc, story: &Story
 
 // The same for each batch by so many workers.
 fn refuse_each<R: Abort + Threads + Sync>(rt: &R, alloc: Alloc, workers: u64, len: usize) {
-    let story = story(rt, alloc, workers, len);
+    let story = story_of(rt, alloc, workers, len);
     for place in 0..4usize {
         refuse_in_turn(rt, alloc, &story, place);
     }
