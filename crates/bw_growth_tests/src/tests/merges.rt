@@ -306,11 +306,16 @@ fn is_refused<R: Abort + Threads + Sync>(
 ) -> bool {
     let mut index = small_pages(rt, alloc, story.workers);
     run_each(rt, &mut index, &story.turns, 0, place);
-    let refused = run_refused(rt, alloc, &mut index, &story.turns[place], growth);
-    run(rt, &mut index, &story.reads[place]);
+    let turn = story.turns.get(place).expect(rt, "a batch");
+    let refused = run_refused(rt, alloc, &mut index, turn, growth);
+    run(
+        rt,
+        &mut index,
+        story.reads.get(place).expect(rt, "what is read"),
+    );
     run(rt, &mut index, &no_operation(alloc));
     has_pages(rt, &index, place);
-    run_each(rt, &mut index, &story.turns, place + 1, 4);
+    run_each(rt, &mut index, &story.turns, place.saturating_add(1), 4);
     refused
 }
 
