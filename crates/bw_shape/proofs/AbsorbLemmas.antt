@@ -14,7 +14,7 @@ use Rattle.bw_chain.specs.Slots.{Slot, Body, Pairs, Children, Free, Gone, Live, 
 use Rattle.bw_chain.specs.Splits.{slot_entries}
 use Rattle.bw_chain.proofs.AboveLemmas.{own_level}
 use Rattle.bw_tree.specs.Consolidation.{IsConsolidated, IsRebased, consolidated_leaf}
-use Rattle.bw_tree.specs.Freeing.{HasFreed, IsTrimmed, MayBeFreed}
+use Rattle.bw_tree.specs.Freeing.{IsTrimmed}
 use Rattle.bw_tree.specs.Merges.{HasLostChild, HasMerged, IsLowered, MayMerge}
 use Rattle.bw_tree.specs.Pages.{IsLeft}
 use Rattle.bw_tree.specs.Routing.{IsInLevel}
@@ -23,7 +23,6 @@ use Rattle.bw_tree.specs.View.{TreeView}
 use Rattle.bw_tree.proofs.NeighbourLemmas.{one_left}
 use Rattle.bw_tree.proofs.PageLemmas.{lowest_leaf}
 use Rattle.bw_shape.specs.Limits.{LimitsView, AreWithinBut, IsWithin}
-use Rattle.bw_shape.specs.Releasing.{IsReleaseStep}
 use Rattle.bw_shape.specs.Merges.{IsAbsorptionFinishStep, IsAbsorptionStep, IsLoweringStep}
 use Rattle.bw_shape.specs.Steps.{IsConsolidationStep}
 use Rattle.bw_shape.specs.Tidying.{HoldsAll, KeepsWithin}
@@ -129,32 +128,10 @@ tidy_dropped old new p Done none h =
     }
 tidy_dropped old new p NotNeeded none h = tidy_still old new none h.0
 
--- an identifier that is given back is of no leaf
+-- there is a level on which a page stands
 some_level : (levels : List (List ℕ)) (r : ℕ) → Contains (row levels 0) r → 0 < length levels
 some_level [] r has = absurd (omega (arith, has.1))
 some_level (ps ∷ levels) r has = omega arith
-
-within_released : (old new : TreeView) (due : List ℕ) (p : ℕ) → MayBeFreed old p → HasFreed old new p → KeepsWithin old new due due
-within_released old new due p may h limits but r leaf = by (but r there)
-  where
-    there : Contains (row old.levels 0) r
-    there = subst (λ (l : List (List ℕ)). Contains (row l 0) r) h.levels leaf
-
-    other : r ≡ p → ⊥
-    other same = may.unreached.stands (record { level = 0; within = some_level old.levels r there; in_level = subst (Contains (row old.levels 0)) same there })
-
-    by : Contains due r ⊎ IsWithin limits (slot_at old.slots r) → Contains due r ⊎ IsWithin limits (slot_at new.slots r)
-    by (inl has) = inl has
-    by (inr within) = inr (subst (IsWithin limits) (sym (h.freed.others r other)) within)
-
-pub tidy_released : (old new : TreeView) (p : ℕ) (did : Did) → old.staged ≡ None → IsReleaseStep old new p did → KeepsTidy old new
-tidy_released old new p Done none h =
-    let freed = h.1 in
-    record {
-      holds = record { contents = held_at old new freed.next freed.contents; next = freed.next; records = omega (arith, freed.records); staged = freed.staged };
-      within = λ due. within_released old new due p h.0 freed;
-    }
-tidy_released old new p NotNeeded none h = tidy_still old new none h.0
 
 -- identifiers that are forgotten are of no leaf
 pub tidy_trimmed : (old new : TreeView) → IsTrimmed old new → KeepsTidy old new

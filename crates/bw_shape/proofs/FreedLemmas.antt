@@ -13,7 +13,7 @@ use Rattle.bw_chain.specs.Slots.{Slot, Free, Gone, Live, left_of, left_of_slot, 
 use Rattle.bw_chain.specs.Steps.{IsTerm}
 use Rattle.bw_tree.specs.Freeing.{HasFreed, MayBeFreed}
 use Rattle.bw_tree.specs.View.{TreeView}
-use Rattle.bw_shape.specs.Releasing.{AreFreed, HasNoneToFree, IsReleaseStep}
+use Rattle.bw_shape.specs.Releasing.{AreFreed, HasNoneToFree, IsLeftOut, IsLeftToFree, IsReleaseStep}
 use Rattle.bw_shape.specs.Visits.{taken_count}
 use Rattle.bw_shape.specs.declared.steps.Did.{Did}
 use Rattle.bw_shape.specs.declared.steps.Did.TheVariants.{Done, NotNeeded}
@@ -184,10 +184,7 @@ left_still old new p h q now = (λ same. h.1 (subst (MayBeFreed old) same was), 
     was : MayBeFreed old q
     was = subst (λ (v : TreeView). MayBeFreed v q) h.0 now
 
--- One after another: of those that may be given back, this is the only one that is looked at still, or they might be before.
-abbrev pub IsLeftToFree : TreeView → TreeView → ℕ → ℕ → Type 0
-IsLeftToFree first tree page next = (p : ℕ) → MayBeFreed tree p → (next ≡ p) ⊎ ((p ≡ page → ⊥) × MayBeFreed first p)
-
+-- One after another.
 pub begins_free : (tree : TreeView) (page : ℕ) → IsLeftToFree tree tree page page
 begins_free tree page p may = by (cases_eq page p)
   where
@@ -210,7 +207,7 @@ module _ (first old new : TreeView) (page next : ℕ) (so_far : IsLeftToFree fir
       by (inl is) = inl (one_left is)
       by (inr was) = inr (or_sooner p was)
 
-  pub ends_free : ((p : ℕ) → MayBeFreed new p → (◌≡◌ {A = Option ℕ} None (Some p)) ⊎ ((p ≡ next → ⊥) × MayBeFreed old p)) → (p : ℕ) → MayBeFreed new p → (p ≡ page → ⊥) × MayBeFreed first p
+  pub ends_free : ((p : ℕ) → MayBeFreed new p → (◌≡◌ {A = Option ℕ} None (Some p)) ⊎ ((p ≡ next → ⊥) × MayBeFreed old p)) → IsLeftOut first new page
   ends_free goes p now = by (goes p now)
     where
       by : (◌≡◌ {A = Option ℕ} None (Some p)) ⊎ ((p ≡ next → ⊥) × MayBeFreed old p) → (p ≡ page → ⊥) × MayBeFreed first p

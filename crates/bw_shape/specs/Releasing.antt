@@ -31,3 +31,11 @@ pub record AreFreed (old new : TreeView) : Type 0 where
   pub records : new.records ≡ old.records
   pub next : new.next ≡ old.next
   pub staged : new.staged ≡ None
+
+-- of the identifiers that may be given back, none is this page's, and each might be before
+abbrev pub IsLeftOut : TreeView → TreeView → ℕ → Type 0
+IsLeftOut old new page = (p : ℕ) → MayBeFreed new p → (p ≡ page → ⊥) × MayBeFreed old p
+
+-- The same, from page to page: of those that may be given back, `next` alone is looked at still.
+abbrev pub IsLeftToFree : TreeView → TreeView → ℕ → ℕ → Type 0
+IsLeftToFree old new page next = (p : ℕ) → MayBeFreed new p → (next ≡ p) ⊎ ((p ≡ page → ⊥) × MayBeFreed old p)

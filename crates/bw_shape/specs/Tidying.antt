@@ -6,8 +6,8 @@ use Rattle.bw_tree.specs.View.{TreeView, contents_at}
 use Rattle.bw_shape.specs.Limits.{LimitsView, AreWithinBut}
 
 -- The pages that are to be looked at, the next one last; the inner pages to look at behind those, the first one first;
--- and the page whose right neighbours the level above may not name yet, or that it may still name though it was removed, if
--- there is one.
+-- and the page whose right neighbours the level above may not name yet, or that it may still name though it was removed, or
+-- whose identifier may be left to be given back, if there is one.
 pub record DueView : Type 0 where
   pub pages : List ℕ
   pub above : List ℕ
@@ -34,7 +34,7 @@ KeepsWithin old new due due' = (limits : LimitsView) → AreWithinBut limits old
 abbrev pub HasNoPage : DueView → Type 0
 HasNoPage due = (due.pages ≡ []) × (due.above ≡ [])
 
--- nor are splits of a page left to be finished
+-- nor are the splits or the merge of a page left to be finished, or its identifier to be given back
 abbrev pub HasNoneDue : DueView → Type 0
 HasNoneDue due = HasNoPage due × (due.unfinished ≡ None)
 

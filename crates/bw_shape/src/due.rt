@@ -3,6 +3,7 @@ ghost use Rattle.std.specs.Prelude.{◌≡◌, ℕ, ◌+◌, ◌<◌, ◌≤◌,
 ghost use Rattle.std.specs.List.{Contains};
 ghost use Rattle.bw_tree.specs.Splits.{IsSplittable};
 ghost use Rattle.bw_shape.specs.Naming.{HasFinished};
+ghost use Rattle.bw_shape.specs.Releasing.{AreFreed, IsLeftOut, IsLeftToFree};
 ghost use Rattle.bw_shape.specs.Tidying.{HasBoth, HasNoPage, HoldsAll, KeepsWithin};
 ghost use Rattle.bw_shape.specs.Visits.{IsNext, IsNextBefore, IsSplitNext};
 
@@ -29,7 +30,8 @@ pub struct Due {
     // leaves that were consolidated where tidying stopped before they were split or merged, if need be: they are due still,
     // and the first one in the order of keys stands last, since no leaf is looked at before those that are left of it
     begun: Vec<PageId, Alloc>,
-    // where tidying stopped: the page whose new right neighbours may not be named yet, or the removed one that may be still
+    // where tidying stopped: the page whose new right neighbours may not be named yet, or the removed one that may be named
+    // still, or whose identifier may not be given back yet
     unfinished: Option<PageId>,
 }
 
@@ -231,14 +233,14 @@ impl Due {
         }
     }
 
-    /// The page whose splits or whose merge may not be finished yet.
+    /// The page whose splits or whose merge may not be finished yet, or whose identifier may be left to be given back.
     pub(crate) fn unfinished(&self) -> Option<PageId>
         ensures { result ≡ self.now.unfinished }
     {
         self.unfinished
     }
 
-    /// The splits or the merge of this page may not be finished yet, or those of none.
+    /// The splits or the merge of this page may not be finished yet, or its identifier is left to be given back, or of none.
     pub(crate) fn set_unfinished(&mut self, unfinished: Option<PageId>)
         ensures pages { self.new.pages ≡ self.old.pages }
         ensures above { self.new.above ≡ self.old.above }
@@ -313,12 +315,28 @@ impl Due {
     {
         self.above.reserve(2)?;
         let Some(parent) = tree.namer_of_removed(page) else {
-            release_run(tree, page)?;
-            return Ok(());
+            return self.release_from(tree, page);
         };
         finish_absorb(tree, page)?;
         mark(&mut self.above, tree, parent);
-        release_run(tree, page)?;
-        Ok(())
+        self.release_from(tree, page)
+    }
+
+    /// Gives the identifier of a page back, if nothing leads to it, and then that of a removed page to which it alone still led,
+    /// and so on. After `Memory` the page at which it stopped is unfinished.
+    pub(crate) fn release_from(&mut self, tree: &mut Tree, page: PageId) -> Result<(), Memory>
+        requires { tree.old.staged ≡ None }
+        ensures freed { AreFreed tree.old tree.new }
+        ensures pages { self.new.pages ≡ self.old.pages }
+        ensures ok { OnOk result (self.new ≡ self.old) }
+        ensures none { OnOk result (IsLeftOut tree.old tree.new page) }
+        ensures err { OnErr result (MatchOption self.new.unfinished ⊥ (IsLeftToFree tree.old tree.new page)) }
+    {
+        let mut next = page;
+        let released = release_run(tree, &mut next);
+        if released.is_err() {
+            self.unfinished = Some(next);
+        }
+        released
     }
 }

@@ -1,8 +1,8 @@
 // Identifiers that are given back one after another: that of a removed page, and then that of the page into which it was removed.
-ghost use Rattle.std.specs.Prelude.{◌≡◌, ℕ, ◌<◌, ◌⊎◌, Some, None, IfOk, IfSome, OnOk};
+ghost use Rattle.std.specs.Prelude.{◌≡◌, ℕ, ◌<◌, ◌⊎◌, Some, None, IfOk, IfSome, OnErr, OnOk};
 ghost use Rattle.bw_chain.specs.Slots.{left_of};
 ghost use Rattle.bw_tree.specs.Freeing.{MayBeFreed};
-ghost use Rattle.bw_shape.specs.Releasing.{AreFreed, HasNoneToFree};
+ghost use Rattle.bw_shape.specs.Releasing.{AreFreed, HasNoneToFree, IsLeftOut, IsLeftToFree};
 ghost use Rattle.bw_shape.specs.Visits.{taken_count};
 
 use crate::releasing::release;
@@ -23,25 +23,25 @@ pub(crate) fn release_all(tree: &mut Tree) -> Result<(), Memory>
 {
     for place in 0..tree.heads().len() {
         tree.know_records();
-        release_run(tree, PageId(place as u32))?;
+        release_run(tree, &mut PageId(place as u32))?;
     }
     tree.know_records();
     Ok(())
 }
 
 /// Gives an identifier back as `release` does. Where that was one of a removed page, nothing may lead any more to the page into
-/// which it was removed: then that one's is given back, too, and so on to the left. After `Memory` some of them may have been
-/// given back.
+/// which it was removed: then that one's is given back, too, and so on to the left. `next` is the page that it has come to: after
+/// `Memory` those before it have been given back, and a run that begins at it goes on.
 ///
 /// It costs what `release` does, once more than identifiers are given back.
-pub(crate) fn release_run(tree: &mut Tree, page: PageId) -> Result<(), Memory>
+pub(crate) fn release_run(tree: &mut Tree, next: &mut PageId) -> Result<(), Memory>
     requires { tree.old.staged ≡ None }
     ensures freed { AreFreed tree.old tree.new }
-    ensures none { OnOk result ((p : ℕ) → MayBeFreed tree.new p → (p ≡ page → ⊥) × MayBeFreed tree.old p) }
+    ensures none { OnOk result (IsLeftOut tree.old tree.new next.old) }
+    ensures left { OnErr result (IsLeftToFree tree.old tree.new next.old next.new) }
 {
-    let mut next = page;
-    while let Some(left) = release_next(tree, next)? {
-        next = left;
+    while let Some(left) = release_next(tree, *next)? {
+        *next = left;
     }
     Ok(())
 }
@@ -54,6 +54,7 @@ fn release_next(tree: &mut Tree, page: PageId) -> Result<Option<PageId>, Memory>
         (next ≡ Some p) ⊎ ((p ≡ page → ⊥) × MayBeFreed tree.old p)) }
     ensures fewer { IfOk result (λ next. IfSome next (λ left.
         taken_count tree.new.slots < taken_count tree.old.slots)) }
+    ensures err { OnErr result (tree.new ≡ tree.old) }
 {
     let left = removed_into(tree, page);
     match release(tree, page)? {

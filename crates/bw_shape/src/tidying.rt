@@ -1,5 +1,5 @@
 // Tidying: the pages that are due are looked at, level by level.
-ghost use Rattle.std.specs.Prelude.{◌≡◌, ℕ, ◌<◌, false, List, [], None, length, IfOk, OnOk};
+ghost use Rattle.std.specs.Prelude.{◌≡◌, ℕ, ◌<◌, false, List, [], None, length, IfOk, OnErr, OnOk};
 ghost use Rattle.bw_shape.specs.Limits.{AreWithinBut};
 ghost use Rattle.bw_shape.specs.Tidying.{HasNoneDue, HoldsAll, KeepsWithin};
 
@@ -7,7 +7,6 @@ use crate::due::Due;
 use crate::limits::Limits;
 use crate::merges::drop_root;
 use crate::outcome::Tidy;
-use crate::releasing::release;
 use crate::steps::Did;
 use crate::visits::visit;
 use bw_key::Memory;
@@ -25,7 +24,8 @@ use bw_tree::Tree;
 /// limit some searches, a copy of its entries and the sorting of its writes. Each split moves the half that goes. The new
 /// pages that came of one get their index entries at once, for a search each and a copy of the children of the page above.
 /// A merge costs some searches, copies the entries of both pages and, where the number of the left one's pairs isn't clear
-/// from its entries and writes, those of that one once more. Each page above that is looked at costs some searches.
+/// from its entries and writes, those of that one once more. Each page above that is looked at costs some searches. An
+/// identifier that is given back costs two, and a look at each removed page whose own isn't given back.
 pub fn tidy_due(tree: &mut Tree, limits: &Limits, due: &mut Due) -> Tidy
     requires none { tree.old.staged ≡ None }
     requires within { AreWithinBut limits.now tree.old due.old.pages }
@@ -54,12 +54,12 @@ fn visit_all(
     go_on(tree, due)?;
     due.begin(tree)?;
     visit_levels(tree, limits, due, counts)?;
-    lower(tree)?;
+    lower(tree, due)?;
     forget_free(tree);
     Ok(())
 }
 
-// Finishes the splits or the merge at which tidying stopped, if it did.
+// Finishes the splits, the merge or the giving back of identifiers at which tidying stopped, if it did.
 fn go_on(tree: &mut Tree, due: &mut Due) -> Result<(), Memory>
     requires { tree.old.staged ≡ None }
     ensures holds { HoldsAll tree.old tree.new }
@@ -121,12 +121,14 @@ fn visit_level(
 }
 
 // Drops the root while it is an inner page with one child alone.
-fn lower(tree: &mut Tree) -> Result<(), Memory>
+fn lower(tree: &mut Tree, due: &mut Due) -> Result<(), Memory>
     requires { tree.old.staged ≡ None }
     ensures holds { HoldsAll tree.old tree.new }
-    ensures within { (due : List ℕ) → KeepsWithin tree.old tree.new due due }
+    ensures within { (pages : List ℕ) → KeepsWithin tree.old tree.new pages pages }
+    ensures ok { OnOk result (due.new ≡ due.old) }
+    ensures pages { due.new.pages ≡ due.old.pages }
 {
-    while lower_once(tree)? == Did::Done {}
+    while lower_once(tree, due)? == Did::Done {}
     Ok(())
 }
 
@@ -139,18 +141,21 @@ fn forget_free(tree: &mut Tree)
     tree.trim();
 }
 
-// Drops such a root, and gives its identifier back, if nothing leads to it.
-fn lower_once(tree: &mut Tree) -> Result<Did, Memory>
+// Drops such a root, and gives its identifier back, if nothing leads to it. Where that is left to do, it is unfinished.
+fn lower_once(tree: &mut Tree, due: &mut Due) -> Result<Did, Memory>
     requires { tree.old.staged ≡ None }
     ensures holds { HoldsAll tree.old tree.new }
-    ensures within { (due : List ℕ) → KeepsWithin tree.old tree.new due due }
+    ensures within { (pages : List ℕ) → KeepsWithin tree.old tree.new pages pages }
+    ensures ok { OnOk result (due.new ≡ due.old) }
+    ensures pages { due.new.pages ≡ due.old.pages }
+    ensures kept { OnErr result (due.new.unfinished ≡ None → tree.new ≡ tree.old) }
     ensures fewer { IfOk result (λ did. did ≡ Did.Done → length tree.new.levels < length tree.old.levels) }
 {
     tree.know_levels();
     let root = tree.root();
     let did = drop_root(tree)?;
     if did == Did::Done {
-        release(tree, root)?;
+        due.release_from(tree, root)?;
     }
     Ok(did)
 }

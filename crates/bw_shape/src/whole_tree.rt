@@ -21,8 +21,9 @@ use bw_tree::Tree;
 /// gets a root above it, and each split is finished, level by level from the leaves up. No batch is staged.
 ///
 /// It costs a look at each mapping word, the list of all pages twice, two searches for each, and for each inner page some
-/// for each level below it; each merge and each split that it finishes copies the children of the page above. At the first
-/// `Memory` it stops, and the tree holds the same. Where it doesn't stop, no leaf is over a limit, and so none has more than
+/// for each level below it; each merge and each split that it finishes copies the children of the page above. An identifier
+/// that is given back costs two searches, and a look at each removed page whose own isn't given back. At the first `Memory`
+/// it stops, and the tree holds the same. Where it doesn't stop, no leaf is over a limit, and so none has more than
 /// `page_max` and `chain_max` pairs together.
 pub fn tidy(tree: &mut Tree, limits: &Limits) -> Tidy
     requires { tree.old.staged ≡ None }
@@ -89,7 +90,7 @@ fn finish_merge(tree: &mut Tree, place: usize) -> Result<(), Memory>
     };
     let page = PageId(number);
     finish_absorb(tree, page)?;
-    release_run(tree, page)?;
+    release_run(tree, &mut PageId(number))?;
     Ok(())
 }
 

@@ -1,12 +1,11 @@
-use Rattle.bw_shape.specs.Releasing.{AreFreed}
+use Rattle.bw_shape.specs.Releasing.{AreFreed, IsLeftToFree}
 use Rattle.bw_shape.specs.Visits.{taken_count}
-use Rattle.bw_shape.proofs.FreedLemmas.{IsLeftToFree}
 use Rattle.bw_shape.proofs.release_runs.release_run.Given as goal
 
 abbrev pub invariant-loop-left : goal.invariant-loop-left
 invariant-loop-left l = record {
   freed : AreFreed l.fn.tree l.tree;
-  none : IsLeftToFree l.fn.tree l.tree l.fn.page l.next;
+  none : IsLeftToFree l.fn.tree l.tree l.fn.next l.next;
 }
 
 abbrev pub decreases-loop-left : goal.decreases-loop-left

@@ -15,8 +15,11 @@ visit_levels-requires-clause-within c =
 
 pub returns-clause-within : goal.returns-clause-within
 returns-clause-within c =
-    c.forget_free.ensures.within c.visit_levels.new.due.pages c.args.limits.now
-    (c.in_ok-lower.ensures.within c.visit_levels.new.due.pages c.args.limits.now c.in_ok-visit_levels.ensures.within)
+    c.forget_free.ensures.within c.lower.new.due.pages c.args.limits.now
+    (subst (AreWithinBut c.args.limits.now c.lower.new.tree) (sym c.in_ok-lower.ensures.pages)
+    (c.in_ok-lower.ensures.within c.visit_levels.new.due.pages c.args.limits.now c.in_ok-visit_levels.ensures.within))
 
 pub returns-in_err-lower-clause-within : goal.returns-in_err-lower-clause-within
-returns-in_err-lower-clause-within c = c.in_err-lower.ensures.within c.visit_levels.new.due.pages c.args.limits.now c.in_ok-visit_levels.ensures.within
+returns-in_err-lower-clause-within c =
+    subst (AreWithinBut c.args.limits.now c.lower.new.tree) (sym c.in_err-lower.ensures.pages)
+    (c.in_err-lower.ensures.within c.visit_levels.new.due.pages c.args.limits.now c.in_ok-visit_levels.ensures.within)
