@@ -1,5 +1,6 @@
 // Worked examples of what the contracts say, and what no contract says: that batches are accepted, the printed
 // texts, and which pages the tree below has.
+mod assertions;
 mod batches;
 mod gates;
 mod merges;

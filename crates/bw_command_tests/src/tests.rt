@@ -1,6 +1,7 @@
 // Worked traces through the whole program, over readers and writers in memory: the bytes that it writes, its messages
 // and its statuses, which the contracts state in part.
 mod asker;
+mod assertions;
 mod commands;
 mod ends;
 mod examples;

@@ -1,9 +1,11 @@
 //! Worked lists of events, each allocation refused in turn, and random lists of events.
 
+mod assertions;
 mod lawful;
 mod random;
 mod seats;
 
+use crate::tests::assertions::{assert_equal, assert_that};
 use bw_core::Event::{Claim, Follow, Join, Link, Look, Replace, Split, Try};
 use bw_core::Played::{Done, Lost, NotAllowed};
 use bw_core::{Book, Event, Played, World};
@@ -209,7 +211,7 @@ const SPLITS: [(Event, Played); 11] = [
 fn play(rt: &impl Abort, world: &mut World, played: &[(Event, Played)]) {
     for (event, answer) in played {
         let found = world.apply(*event).expect(rt, "memory");
-        assert!(rt; found == *answer);
+        assert_equal(rt, found, *answer);
     }
 }
 
@@ -287,9 +289,10 @@ fn a_first_word_is_replaced(rt: HostRuntime) {
     let mut world = World::start(alloc, &[7], FLOOR, 1, 1, &[Some(5)]).expect(&rt, "memory");
     play(&rt, &mut world, &REPLACED);
     let text = shown(alloc, &world).expect(&rt, "memory");
-    assert!(rt;
-        text.as_str()
-            == "heads [4294967296] links [5] next 1\nbook true 512 false tried 0 true saw [] over [5]\nbook true 512 false owns 0..1 posted 0 to 0 lost 1 saw [0] over [5]"
+    assert_equal(
+        &rt,
+        text.as_str(),
+        "heads [4294967296] links [5] next 1\nbook true 512 false tried 0 true saw [] over [5]\nbook true 512 false owns 0..1 posted 0 to 0 lost 1 saw [0] over [5]",
     );
 }
 
@@ -299,9 +302,10 @@ fn a_replacement_is_late(rt: HostRuntime) {
     let mut world = World::start(alloc, &[7], FLOOR, 1, 1, &[Some(5)]).expect(&rt, "memory");
     play(&rt, &mut world, &LATE);
     let text = shown(alloc, &world).expect(&rt, "memory");
-    assert!(rt;
-        text.as_str()
-            == "heads [4294967296] links [7] next 1\nbook true 512 false owns 0..1 posted 0 to 0 lost 0 saw [0] over [7]\nbook true 512 false tried 0 false saw [0] over [7]"
+    assert_equal(
+        &rt,
+        text.as_str(),
+        "heads [4294967296] links [7] next 1\nbook true 512 false owns 0..1 posted 0 to 0 lost 0 saw [0] over [7]\nbook true 512 false tried 0 false saw [0] over [7]",
     );
 }
 
@@ -311,9 +315,10 @@ fn pieces_and_widths(rt: HostRuntime) {
     let mut world = World::start(alloc, &[7], FLOOR, 5, 2, &[None]).expect(&rt, "memory");
     play(&rt, &mut world, &PIECES);
     let text = shown(alloc, &world).expect(&rt, "memory");
-    assert!(rt;
-        text.as_str()
-            == "heads [7] links [0, 0, 0, 0, 0] next 8\nbook true 1024 true owns 0..2 owns 2..4 owns 4..5 saw [] over [7]"
+    assert_equal(
+        &rt,
+        text.as_str(),
+        "heads [7] links [0, 0, 0, 0, 0] next 8\nbook true 1024 true owns 0..2 owns 2..4 owns 4..5 saw [] over [7]",
     );
     play(&rt, &mut world, &SPLITS);
 }
@@ -322,7 +327,7 @@ fn pieces_and_widths(rt: HostRuntime) {
 fn drop_world(rt: &impl Abort, alloc: Alloc) {
     let mut world = World::start(alloc, &[7], FLOOR, 2, 1, &[None]).expect(rt, "memory");
     play(rt, &mut world, &TWO_POSTS);
-    assert!(rt; alloc.used() > 0);
+    assert_that(rt, alloc.used() > 0);
     drop(world);
 }
 
@@ -330,7 +335,7 @@ fn drop_world(rt: &impl Abort, alloc: Alloc) {
 fn what_is_dropped_gives_its_memory_back(rt: HostRuntime) -> Result<(), Fail> {
     let alloc = Heap::within(rt.alloc(), 65536).leak(rt.alloc())?;
     drop_world(&rt, alloc);
-    assert_eq!(rt; alloc.used(), 0);
+    assert_equal(&rt, alloc.used(), 0);
     Ok(())
 }
 
@@ -343,11 +348,11 @@ fn refuse_each(rt: &impl Abort, alloc: Alloc, world: &mut World, event: Event, a
         let was_refused = alloc.left() == 0 || alloc.left() > growth;
         alloc.refuse(0);
         if let Ok(found) = found {
-            assert!(rt; !was_refused && found == answer);
+            assert_that(rt, !was_refused && found == answer);
             return;
         }
         let after = shown(alloc, world).expect(rt, "memory");
-        assert!(rt; was_refused && after.as_str() == before.as_str());
+        assert_that(rt, was_refused && after.as_str() == before.as_str());
     }
     panic!(rt; "no run met no refusal");
 }
@@ -381,9 +386,9 @@ fn a_start_and_a_replay_are_refused(rt: HostRuntime) {
         let found = World::replay(alloc, &[7, 8], FLOOR, 3, 2, &[None, Some(5)], &events);
         let was_refused = alloc.left() == 0 || alloc.left() > growth;
         alloc.refuse(0);
-        assert!(rt; was_refused == found.is_err());
+        assert_equal(&rt, was_refused, found.is_err());
         if let Ok(world) = found {
-            assert_eq!(rt; world.books().len(), 2);
+            assert_equal(&rt, world.books().len(), 2);
             return;
         }
     }
@@ -408,8 +413,9 @@ fn a_list_of_events_is_replayed(rt: HostRuntime) {
     ];
     let world = World::replay(alloc, &[7], FLOOR, 1, 1, &[None], &events).expect(&rt, "memory");
     let text = shown(alloc, &world).expect(&rt, "memory");
-    assert!(rt;
-        text.as_str()
-            == "heads [7] links [7] next 1\nbook true 1024 false owns 0..1 under 0 to 0 lost 0 armed true saw [] over [7]"
+    assert_equal(
+        &rt,
+        text.as_str(),
+        "heads [7] links [7] next 1\nbook true 1024 false owns 0..1 under 0 to 0 lost 0 armed true saw [] over [7]",
     );
 }

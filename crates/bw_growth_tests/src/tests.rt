@@ -1,5 +1,6 @@
 // What no contract says: that batches of all sizes are accepted, over as many leaves, and what they take of a heap; each
 // growth of memory refused in turn.
+mod assertions;
 mod compared;
 mod drains;
 mod drops;

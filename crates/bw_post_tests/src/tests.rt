@@ -1,4 +1,5 @@
 // Batches posted to the pages of a tree, adopted, and then accepted or undone.
+mod assertions;
 mod consolidation;
 mod half_done;
 mod making;

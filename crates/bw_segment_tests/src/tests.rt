@@ -1,4 +1,7 @@
 // Lists over several segments, the memory that they take and give back, and each growth refused in turn.
+mod assertions;
+
+use crate::tests::assertions::{assert_equal, assert_that};
 use bw_key::Key;
 use bw_memory::{Alloc, Heap};
 use bw_segment::{SEGMENT, Segmented};
@@ -35,32 +38,32 @@ fn push_takes_no_memory<R: Abort>(rt: &R, alloc: Alloc, len: u64) {
     list.make_room().expect(rt, "memory");
     alloc.refuse(1);
     list.push(len).expect(rt, "room");
-    assert!(rt; alloc.left() == 1);
+    assert_equal(rt, alloc.left(), 1);
     alloc.refuse(0);
-    assert!(rt; counts_to(&list, len.saturating_add(1)));
+    assert_that(rt, counts_to(&list, len.saturating_add(1)));
 }
 
 // A full list doesn't grow where this growth is refused, and stays as it is.
 fn growth_is_refused<R: Abort>(rt: &R, alloc: Alloc, len: u64, growth: u64) {
     let mut list = list_to(rt, alloc, len);
     alloc.refuse(growth);
-    assert!(rt; list.push(len).is_err());
-    assert!(rt; alloc.left() == 0);
-    assert!(rt; counts_to(&list, len));
+    assert_that(rt, list.push(len).is_err());
+    assert_equal(rt, alloc.left(), 0);
+    assert_that(rt, counts_to(&list, len));
     push_all(rt, &mut list, len, len.saturating_add(1));
-    assert!(rt; counts_to(&list, len.saturating_add(1)));
+    assert_that(rt, counts_to(&list, len.saturating_add(1)));
 }
 
 #[test]
 fn segments_have_1024_entries(rt: HostRuntime) {
-    assert_eq!(rt; SEGMENT, 1024);
+    assert_equal(&rt, SEGMENT, 1024);
 }
 
 #[test]
 fn entries_stand_where_they_were_added(rt: HostRuntime) -> Result<(), Fail> {
     let alloc = Heap::new(rt.alloc()).leak(rt.alloc())?;
     for len in [0, 1, 1023, 1024, 1025, 2048, 3000] {
-        assert!(rt; counts_to(&list_to(&rt, alloc, len), len));
+        assert_that(&rt, counts_to(&list_to(&rt, alloc, len), len));
     }
     Ok(())
 }
@@ -71,9 +74,9 @@ fn a_shorter_list_goes_on(rt: HostRuntime) -> Result<(), Fail> {
     let mut list = list_to(&rt, alloc, 3000);
     for len in [4000, 3000, 2049, 2048, 2047, 1024, 1023, 0] {
         list.truncate(len as usize);
-        assert!(rt; counts_to(&list, len.min(3000)));
+        assert_that(&rt, counts_to(&list, len.min(3000)));
         push_all(&rt, &mut list, len.min(3000), 3000);
-        assert!(rt; counts_to(&list, 3000));
+        assert_that(&rt, counts_to(&list, 3000));
     }
     Ok(())
 }
@@ -113,12 +116,12 @@ fn entries_are_replaced_in_each_segment(rt: HostRuntime) -> Result<(), Fail> {
     let alloc = Heap::new(rt.alloc()).leak(rt.alloc())?;
     let mut list = list_to(&rt, alloc, 3000);
     for place in [0, 1023, 1024, 2047, 2048, 2999] {
-        assert!(rt; replaces(&rt, &mut list, place, 7, place as u64));
+        assert_that(&rt, replaces(&rt, &mut list, place, 7, place as u64));
     }
     for place in [0, 1023, 1024, 2047, 2048, 2999] {
         sets(&rt, &mut list, place, place as u64);
     }
-    assert!(rt; counts_to(&list, 3000));
+    assert_that(&rt, counts_to(&list, 3000));
     Ok(())
 }
 
@@ -135,7 +138,7 @@ fn entries_are_overwritten_across_segments(rt: HostRuntime) -> Result<(), Fail> 
     overwrites(&rt, &mut list, 2047, &[2047, 2048]);
     overwrites(&rt, &mut list, 2046, &[2046, 2047]);
     overwrites(&rt, &mut list, 2999, &[2999]);
-    assert!(rt; counts_to(&list, 3000));
+    assert_that(&rt, counts_to(&list, 3000));
     Ok(())
 }
 
@@ -162,28 +165,34 @@ fn each_growth_is_refused_in_turn(rt: HostRuntime) -> Result<(), Fail> {
 // A short list takes little, a longer one a segment at a time, and a shorter one gives its segments back.
 fn takes_segments<R: Abort>(rt: &R, alloc: Alloc) {
     let mut list = list_to(rt, alloc, 3);
-    assert!(rt; alloc.used() <= 64);
+    assert_that(rt, alloc.used() <= 64);
     push_all(rt, &mut list, 3, 100_000);
-    assert!(rt; alloc.used() >= 800_000 && alloc.used() < 820_000);
+    assert_that(rt, alloc.used() >= 800_000 && alloc.used() < 820_000);
     list.truncate(1);
-    assert!(rt; alloc.used() < 16_384);
+    assert_that(rt, alloc.used() < 16_384);
 }
 
 #[test]
 fn what_is_left_out_gives_its_memory_back(rt: HostRuntime) -> Result<(), Fail> {
     let alloc = Heap::within(rt.alloc(), 1_000_000).leak(rt.alloc())?;
     takes_segments(&rt, alloc);
-    assert!(rt; alloc.used() == 0);
+    assert_equal(&rt, alloc.used(), 0);
     Ok(())
 }
 
 // Cuts a list of 5,000 numbers, which takes five segments of 8,192 bytes and the list of them. At most so many are left.
 fn leaves_segments<R: Abort>(rt: &R, alloc: Alloc, len: u64, segments: u64) {
     let mut list = list_to(rt, alloc, 5000);
-    assert!(rt; alloc.used() >= 5 * 8192 && alloc.used() < 5 * 8192 + 512);
+    assert_that(
+        rt,
+        alloc.used() >= 5 * 8192 && alloc.used() < 5 * 8192 + 512,
+    );
     list.truncate(len as usize);
-    assert!(rt; alloc.used() < segments.saturating_mul(8192).saturating_add(512));
-    assert!(rt; counts_to(&list, len));
+    assert_that(
+        rt,
+        alloc.used() < segments.saturating_mul(8192).saturating_add(512),
+    );
+    assert_that(rt, counts_to(&list, len));
 }
 
 // Of a list that ends with a full segment one more may stay, for what is added next.
@@ -192,7 +201,7 @@ fn a_cut_gives_back_the_segments_behind_it(rt: HostRuntime) -> Result<(), Fail> 
     let alloc = Heap::within(rt.alloc(), 1_000_000).leak(rt.alloc())?;
     for (len, segments) in [(0, 1), (1, 1), (1023, 1), (1024, 2), (2047, 2), (2048, 3)] {
         leaves_segments(&rt, alloc, len, segments);
-        assert!(rt; alloc.used() == 0);
+        assert_equal(&rt, alloc.used(), 0);
     }
     Ok(())
 }
@@ -240,12 +249,12 @@ fn gives_back_keys<R: Abort>(rt: &R, alloc: Alloc) {
     let all = alloc.used();
     put_short(rt, alloc, &mut list, 1023, false);
     put_short(rt, alloc, &mut list, 1024, false);
-    assert!(rt; gave_back(alloc, all, 80));
+    assert_that(rt, gave_back(alloc, all, 80));
     put_short(rt, alloc, &mut list, 0, true);
     put_short(rt, alloc, &mut list, 1029, true);
-    assert!(rt; gave_back(alloc, all, 160));
+    assert_that(rt, gave_back(alloc, all, 160));
     list.truncate(1025);
-    assert!(rt; gave_back(alloc, all, 320));
+    assert_that(rt, gave_back(alloc, all, 320));
 }
 
 // Of long keys in three segments one is left. A key takes 48 bytes in its segment.
@@ -254,17 +263,17 @@ fn gives_back_segments_of_keys<R: Abort>(rt: &R, alloc: Alloc) {
     push_keys(rt, alloc, &mut list, 2050);
     list.truncate(1);
     let one = alloc.used();
-    assert!(rt; one < 1024 * 48 + 40 + 512);
+    assert_that(rt, one < 1024 * 48 + 40 + 512);
     list.truncate(0);
-    assert!(rt; gave_back(alloc, one, 40));
+    assert_that(rt, gave_back(alloc, one, 40));
 }
 
 #[test]
 fn entries_give_their_memory_back(rt: HostRuntime) -> Result<(), Fail> {
     let alloc = Heap::within(rt.alloc(), 1_000_000).leak(rt.alloc())?;
     gives_back_keys(&rt, alloc);
-    assert!(rt; alloc.used() == 0);
+    assert_equal(&rt, alloc.used(), 0);
     gives_back_segments_of_keys(&rt, alloc);
-    assert!(rt; alloc.used() == 0);
+    assert_equal(&rt, alloc.used(), 0);
     Ok(())
 }

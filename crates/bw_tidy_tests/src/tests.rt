@@ -1,5 +1,6 @@
 // What no contract says: which pages are split and where, in which order, how often, and that they are so again after a
 // refusal.
+mod assertions;
 mod drains;
 mod fresh;
 mod levels;
@@ -10,6 +11,7 @@ mod pages;
 mod records;
 mod refused;
 mod refused_sweeps;
+mod releases;
 mod repeated_sweeps;
 mod rows;
 mod stopped_sweeps;

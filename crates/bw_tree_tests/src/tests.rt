@@ -1,5 +1,6 @@
 // Worked examples of what the contracts say, and what no contract says: that calls succeed, and each growth of memory
 // refused in turn.
+mod assertions;
 mod consolidation;
 mod drops;
 mod levels;

@@ -2,6 +2,7 @@
 ghost use Rattle.std.specs.Prelude.{◌≡◌, length};
 
 use super::making::{homes_of, six_reads, three};
+use crate::tests::assertions::{assert_equal, assert_that};
 use bw_fixtures::{heap, was_refused};
 use bw_group::Homes;
 use bw_page::PageId;
@@ -11,11 +12,15 @@ use std::process::Abort;
 fn are_homes<R: Abort>(rt: &R, homes: &Homes)
     requires { length homes.now.numbers ≡ 6 }
 {
-    assert!(rt; homes.pages() == [PageId(0), PageId(1), PageId(2)].as_slice());
-    assert_eq!(rt; homes.number_at(0), 2);
-    assert_eq!(rt; homes.number_at(1), 0);
-    assert_eq!(rt; homes.number_at(3), 1);
-    assert_eq!(rt; homes.number_at(4), 1);
+    assert_equal(
+        rt,
+        homes.pages(),
+        [PageId(0), PageId(1), PageId(2)].as_slice(),
+    );
+    assert_equal(rt, homes.number_at(0), 2);
+    assert_equal(rt, homes.number_at(1), 0);
+    assert_equal(rt, homes.number_at(3), 1);
+    assert_equal(rt, homes.number_at(4), 1);
 }
 
 #[test]
@@ -37,10 +42,10 @@ fn each_growth_of_homes_is_refused(rt: HostRuntime) {
         let homes = homes_of(alloc, &tree, &ops);
         if !was_refused(alloc, growth) {
             are_homes(&rt, &homes.expect(&rt, "memory"));
-            assert!(rt; growth > 2);
+            assert_that(&rt, growth > 2);
             return;
         }
-        assert!(rt; homes.is_err());
+        assert_that(&rt, homes.is_err());
     }
     panic!(rt; "no run met no refusal")
 }

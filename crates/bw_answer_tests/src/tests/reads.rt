@@ -2,6 +2,7 @@
 ghost use Rattle.std.specs.Prelude.{◌<◌};
 
 use super::making::{reads, replies_by_parts, replies_by_workers, six_reads, six_replies, three};
+use crate::tests::assertions::{assert_equal, assert_that};
 use bw_fixtures::{heap, was_refused};
 use bw_memory::Alloc;
 use bw_model::Reply;
@@ -10,9 +11,9 @@ use std::thread::Threads;
 
 // Compares replies.
 fn compare<R: Abort>(rt: &R, replies: &[Reply], wanted: &[Reply]) {
-    assert_eq!(rt; replies.len(), wanted.len());
+    assert_equal(rt, replies.len(), wanted.len());
     for (reply, wanted) in replies.iter().zip(wanted) {
-        assert!(rt; *reply == *wanted);
+        assert_equal(rt, reply, wanted);
     }
 }
 
@@ -59,7 +60,7 @@ fn growths<R: Abort + Threads + Sync>(rt: &R, alloc: Alloc, workers: u64) -> u64
     let replies = replies_by_workers(rt, alloc, &tree, &ops, workers);
     let left = alloc.left();
     alloc.refuse(0);
-    assert!(rt; replies.is_ok());
+    assert_that(rt, replies.is_ok());
     many.saturating_sub(left)
 }
 
@@ -69,7 +70,7 @@ fn more_workers_answer_in_more_parts(rt: HostRuntime) {
     let alloc = heap(rt.alloc()).expect(&rt, "memory");
     let alone = growths(&rt, alloc, 1);
     let four = growths(&rt, alloc, 4);
-    assert!(rt; alone < four);
+    assert_that(&rt, alone < four);
 }
 
 #[test]
@@ -77,7 +78,7 @@ fn a_batch_of_no_operations_has_no_replies(rt: HostRuntime) {
     let alloc = heap(rt.alloc()).expect(&rt, "memory");
     let tree = three(&rt, alloc);
     let replies = replies_by_workers(&rt, alloc, &tree, &[], 16).expect(&rt, "memory");
-    assert_eq!(rt; replies.as_slice().len(), 0);
+    assert_equal(&rt, replies.as_slice().len(), 0);
 }
 
 // Refuses each growth of the replies in so many parts, until none is left to refuse.
@@ -92,10 +93,10 @@ fn refuse_each<R: Abort + Threads + Sync>(rt: &R, alloc: Alloc, count: usize)
         if !was_refused(alloc, growth) {
             let replies = replies.expect(rt, "memory");
             compare(rt, replies.as_slice(), &six_replies(rt, alloc));
-            assert!(rt; growth > 9);
+            assert_that(rt, growth > 9);
             return;
         }
-        assert!(rt; replies.is_err());
+        assert_that(rt, replies.is_err());
     }
     panic!(rt; "no run met no refusal")
 }

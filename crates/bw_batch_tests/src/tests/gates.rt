@@ -1,5 +1,6 @@
 // Workers that wait for one another at a gate.
 use super::running::{Row, answers, ops_of, working};
+use crate::tests::assertions::assert_equal;
 use bw_batch::{Done, Gate, Index};
 use bw_fixtures::TextOp::Upsert;
 use bw_fixtures::TextReply::{New, Was};
@@ -75,8 +76,8 @@ const TWO: &[Row] = &[(Upsert("a", "1"), New), (Upsert("a", "2"), Was("1"))];
 fn run_late<R: Abort + Threads + Sync>(rt: &R, alloc: Alloc, late: u64) {
     let turn = Turn::new(late, TURNS);
     let done = run_gated(rt, alloc, (2, 1), TWO, &turn);
-    assert!(rt; turn.gave_up.load(Ordering::SeqCst) == 0);
-    assert!(rt; turn.calls.load(Ordering::SeqCst) == 4);
+    assert_equal(rt, turn.gave_up.load(Ordering::SeqCst), 0);
+    assert_equal(rt, turn.calls.load(Ordering::SeqCst), 4);
     answers(rt, &done, TWO);
 }
 
@@ -93,7 +94,7 @@ fn a_piece_is_posted_by_one_worker(rt: HostRuntime) {
     let alloc = heap(rt.alloc()).expect(&rt, "a heap");
     let turn = Turn::new(0, TURNS / 10);
     let done = run_gated(&rt, alloc, (2, 2), TWO, &turn);
-    assert!(rt; turn.gave_up.load(Ordering::SeqCst) == 1);
+    assert_equal(&rt, turn.gave_up.load(Ordering::SeqCst), 1);
     answers(&rt, &done, TWO);
 }
 
@@ -135,6 +136,6 @@ fn four_workers_post_at_once(rt: HostRuntime) {
         gave_up: AtomicU64::new(0),
     };
     let done = run_gated(&rt, alloc, (4, 1), FOUR, &meeting);
-    assert!(rt; meeting.gave_up.load(Ordering::SeqCst) == 0);
+    assert_equal(&rt, meeting.gave_up.load(Ordering::SeqCst), 0);
     answers(&rt, &done, FOUR);
 }

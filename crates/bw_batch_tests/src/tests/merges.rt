@@ -2,6 +2,7 @@
 use super::running::{Row, WORKERS, ops_of, run as read};
 use super::trees::{FIVE, Listed, has_pages, insert, run, small_pages};
 use super::turns::{Batches, compare_with};
+use crate::tests::assertions::{assert_equal, assert_that};
 use bw_batch::{Index, Op, OpenGate, Options, Refusal, Tidy};
 use bw_fixtures::TextOp::{Delete, Get, Insert, Scan};
 use bw_fixtures::TextReply::{Absent, Inserted, Pairs, Was};
@@ -66,9 +67,9 @@ fn five<R: Abort + Threads + Sync>(rt: &R, alloc: Alloc) -> Index {
 // Runs deletes, and compares what tidying behind them did, and the empty leaf that it left.
 fn empty<R: Abort + Threads + Sync>(rt: &R, index: &mut Index, deletes: &[Op], tidy: Tidy) {
     let done = index.run(rt, deletes, &OpenGate).expect(rt, "memory");
-    assert!(rt; done.tidy == tidy);
+    assert_equal(rt, done.tidy, tidy);
     has_pages(rt, index, EMPTY);
-    assert!(rt; index.is_empty());
+    assert_that(rt, index.is_empty());
 }
 
 #[test]
@@ -76,7 +77,7 @@ fn five_deletes_leave_an_empty_leaf(rt: HostRuntime) {
     let alloc = heap(rt.alloc()).expect(&rt, "a heap");
     let mut index = five(&rt, alloc);
     empty(&rt, &mut index, &ops_of(&rt, alloc, DELETES), EMPTIED);
-    assert_eq!(rt; index.tree().heads().len(), 1);
+    assert_equal(&rt, index.tree().heads().len(), 1);
 }
 
 #[test]
@@ -170,9 +171,9 @@ fn leaves_under_two_pages_stay_apart(rt: HostRuntime) {
     let mut index = small_pages(&rt, alloc);
     insert(&rt, alloc, &mut index, 17);
     let tidy = run(&rt, alloc, &mut index, &SEVENTEEN);
-    assert!(rt; !tidy.stopped && tidy.merges == 3);
+    assert_that(&rt, !tidy.stopped && tidy.merges == 3);
     has_pages(&rt, &index, TWO_UNDER_TWO);
-    assert!(rt; index.is_empty());
+    assert_that(&rt, index.is_empty());
 }
 
 // Runs the deletes where this growth is refused, and again where the batch was. What tidying did, and whether the growth was
@@ -189,11 +190,11 @@ fn delete<R: Abort + Threads + Sync>(
     let refused = was_refused(alloc, growth);
     match outcome {
         Ok(done) => {
-            assert!(rt; refused || !done.tidy.stopped);
+            assert_that(rt, refused || !done.tidy.stopped);
             (done.tidy, refused)
         }
         Err(refusal) => {
-            assert!(rt; refused && refusal == Refusal::Memory);
+            assert_that(rt, refused && refusal == Refusal::Memory);
             has_pages(rt, index, FIVE);
             let done = index.run(rt, deletes, &OpenGate).expect(rt, "memory");
             (done.tidy, refused)
@@ -218,7 +219,7 @@ fn is_refused<R: Abort + Threads + Sync>(rt: &R, alloc: Alloc, growth: u64) -> b
     let deletes = ops_of(rt, alloc, DELETES);
     let (tidy, refused) = delete(rt, alloc, &mut index, &deletes, growth);
     let behind = run(rt, alloc, &mut index, &[Get("c")]);
-    assert!(rt; both(tidy, behind) == EMPTIED);
+    assert_equal(rt, both(tidy, behind), EMPTIED);
     has_pages(rt, &index, EMPTY);
     read(rt, alloc, &mut index, READS);
     refused
@@ -229,7 +230,7 @@ fn five_deletes_meet_each_refusal(rt: HostRuntime) {
     let alloc = heap(rt.alloc()).expect(&rt, "a heap");
     for growth in 1..1000 {
         if !is_refused(&rt, alloc, growth) {
-            assert!(rt; growth > 20);
+            assert_that(&rt, growth > 20);
             return;
         }
     }

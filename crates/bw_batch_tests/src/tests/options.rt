@@ -1,5 +1,6 @@
 // The ranges of the options, and the texts of their faults.
 use super::running::options_up_to;
+use crate::tests::assertions::{assert_equal, assert_that};
 use bw_batch::{OptionFault, Options};
 use bw_fixtures::heap;
 use bw_memory::Alloc;
@@ -19,7 +20,7 @@ fn fault_of(n: Values) -> Option<OptionFault> {
 // Compares the fault of each row.
 fn have_faults<R: Abort>(rt: &R, rows: &[Faulty]) {
     for (values, fault) in rows {
-        assert!(rt; fault_of(*values) == Some(*fault));
+        assert_equal(rt, fault_of(*values), Some(*fault));
     }
 }
 
@@ -35,7 +36,7 @@ const IN_RANGE: &[Values] = &[
 #[test]
 fn options_at_the_ends_of_their_ranges(rt: HostRuntime) {
     for values in IN_RANGE {
-        assert!(rt; fault_of(*values).is_none());
+        assert_that(&rt, fault_of(*values).is_none());
     }
 }
 
@@ -127,7 +128,7 @@ const TEXTS: &[(OptionFault, &str)] = &[
 // Compares the text of a fault.
 fn has_text<R: Abort>(rt: &R, alloc: Alloc, fault: OptionFault, expected: &str) {
     let text = format!(in alloc; "{fault}").expect(rt, "memory");
-    assert!(rt; text.as_str() == expected);
+    assert_equal(rt, text.as_str(), expected);
 }
 
 #[test]
@@ -142,6 +143,6 @@ fn each_fault_has_a_text(rt: HostRuntime) {
 fn options_are_copied_and_read(rt: HostRuntime) {
     let options = options_up_to(&rt, 3);
     let copy = options;
-    assert_eq!(rt; options.batch_max(), 3);
-    assert_eq!(rt; copy.batch_max(), 3);
+    assert_equal(&rt, options.batch_max(), 3);
+    assert_equal(&rt, copy.batch_max(), 3);
 }

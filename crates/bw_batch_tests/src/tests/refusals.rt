@@ -3,6 +3,7 @@ use super::running::{
     Row, holds, index_up_to, is_accepted, is_too_long, refusal_of, refusal_of_texts, run,
 };
 use super::turns::all_ops;
+use crate::tests::assertions::assert_equal;
 use bw_batch::{Done, Index, Op, OpenGate, Refusal};
 use bw_fixtures::TextOp::{Delete, Get, Upsert};
 use bw_fixtures::TextReply::{Found, New, Was};
@@ -34,7 +35,7 @@ fn a_batch_that_is_too_long_changes_nothing(rt: HostRuntime) {
     let mut index = index_up_to(&rt, alloc, 3);
     run(&rt, alloc, &mut index, THREE);
     let refusal = refusal_of_texts(&rt, alloc, &mut index, FOUR);
-    assert!(rt; refusal == Some(Refusal::TooLong { ops: 4, most: 3 }));
+    assert_equal(&rt, refusal, Some(Refusal::TooLong { ops: 4, most: 3 }));
     holds(&rt, &index, AFTER);
     run(&rt, alloc, &mut index, READS);
     holds(&rt, &index, AFTER);
@@ -74,8 +75,8 @@ fn a_length_is_tested_before_memory_is_asked_for(rt: HostRuntime) {
     let two = ops(alloc, &[Upsert("a", "1"), Get("a")]).expect(&rt, "memory");
     alloc.refuse(1);
     let refusal = refusal_of(&rt, &mut index, &two);
-    assert!(rt; refusal == Some(Refusal::TooLong { ops: 2, most: 1 }));
-    assert_eq!(rt; alloc.left(), 1);
+    assert_equal(&rt, refusal, Some(Refusal::TooLong { ops: 2, most: 1 }));
+    assert_equal(&rt, alloc.left(), 1);
     alloc.refuse(0);
     run(&rt, alloc, &mut index, FIRST);
 }
@@ -100,12 +101,12 @@ fn a_batch_has_at_most_65536_operations(rt: HostRuntime) {
     let mut index = index_up_to(&rt, alloc, 65536);
     let mut ops = Vec::new(alloc);
     add_gets(&rt, alloc, &mut ops, 65536);
-    assert!(rt; count_replies(&rt, &mut index, &ops) == 65536);
+    assert_equal(&rt, count_replies(&rt, &mut index, &ops), 65536);
     add_gets(&rt, alloc, &mut ops, 1);
     let refusal = refusal_of(&rt, &mut index, &ops);
     let expected = Refusal::TooLong {
         ops: 65537,
         most: 65536,
     };
-    assert!(rt; refusal == Some(expected));
+    assert_equal(&rt, refusal, Some(expected));
 }

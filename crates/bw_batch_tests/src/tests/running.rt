@@ -1,4 +1,5 @@
 // Indexes, and batches that they run, whose operations and replies are rows of texts.
+use crate::tests::assertions::{assert_equal, assert_that};
 use bw_batch::{Done, Index, Op, OpenGate, Options, Refusal, Reply};
 use bw_fixtures::{TextOp, TextPair, TextReply, have_texts, is_reply, op, ops};
 use bw_memory::Alloc;
@@ -41,16 +42,16 @@ pub fn ops_of<R: Abort>(rt: &R, alloc: Alloc, batch: &[Row]) -> Vec<Op, Alloc> {
 
 // Compares the replies to a batch.
 fn have_replies<R: Abort>(rt: &R, replies: &[Reply], batch: &[Row]) {
-    assert_eq!(rt; replies.len(), batch.len());
+    assert_equal(rt, replies.len(), batch.len());
     for (reply, (_, text)) in replies.iter().zip(batch) {
-        assert!(rt; is_reply(reply, *text));
+        assert_that(rt, is_reply(reply, *text));
     }
 }
 
 /// Compares what an accepted batch answered, and sees that it was tidied.
 pub fn answers<R: Abort>(rt: &R, done: &Done, batch: &[Row]) {
     have_replies(rt, done.replies.as_slice(), batch);
-    assert!(rt; !done.tidy.stopped);
+    assert_that(rt, !done.tidy.stopped);
 }
 
 /// Sees that a batch was accepted, and compares what it answered.
@@ -99,7 +100,7 @@ pub fn refusal_of_texts<R: Abort + Threads + Sync>(
 /// Compares the pairs of an index, and their number.
 pub fn holds<R: Abort>(rt: &R, index: &Index, pairs: &[TextPair]) {
     let contents = index.contents().expect(rt, "memory");
-    assert!(rt; have_texts(&contents, pairs));
-    assert_eq!(rt; index.len(), pairs.len() as u64);
-    assert!(rt; index.is_empty() == pairs.is_empty());
+    assert_that(rt, have_texts(&contents, pairs));
+    assert_equal(rt, index.len(), pairs.len() as u64);
+    assert_equal(rt, index.is_empty(), pairs.is_empty());
 }

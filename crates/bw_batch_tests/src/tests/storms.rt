@@ -1,5 +1,6 @@
 // Many writes of one key, posted by many workers.
 use super::running::{WORKERS, holds};
+use crate::tests::assertions::{assert_equal, assert_that};
 use bw_batch::{Index, Op, OpenGate, Options, Reply, Value};
 use bw_fixtures::{heap, key, value};
 use bw_memory::Alloc;
@@ -42,11 +43,11 @@ fn is_was<R: Abort>(rt: &R, alloc: Alloc, reply: &Reply, number: u64) -> bool {
 
 // The first write finds nothing, and each other one what the one before it put.
 fn find_one_another<R: Abort>(rt: &R, alloc: Alloc, replies: &[Reply]) {
-    assert_eq!(rt; replies.len(), WRITES as usize);
+    assert_equal(rt, replies.len(), WRITES as usize);
     for (number, reply) in replies.iter().enumerate() {
         match number as u64 {
-            0 => assert!(rt; *reply == Reply::New),
-            number => assert!(rt; is_was(rt, alloc, reply, number - 1)),
+            0 => assert_equal(rt, reply, &Reply::New),
+            number => assert_that(rt, is_was(rt, alloc, reply, number - 1)),
         }
     }
 }
@@ -56,7 +57,7 @@ fn storm<R: Abort + Threads + Sync>(rt: &R, alloc: Alloc, ops: &[Op], workers: u
     let options = Options::new(workers, piece, 1, 64, 16, 65536, 1048576).expect(rt, "options");
     let mut index = Index::new(alloc, options).expect(rt, "an index");
     let done = index.run(rt, ops, &OpenGate).expect(rt, "memory");
-    assert!(rt; workers > 1 || done.lost == 0);
+    assert_that(rt, workers > 1 || done.lost == 0);
     find_one_another(rt, alloc, done.replies.as_slice());
     holds(rt, &index, &[("a", "1999")]);
 }

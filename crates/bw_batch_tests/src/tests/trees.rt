@@ -1,5 +1,6 @@
 // The tree below an index.
 use super::running::{Row, index_up_to, ops_of, refusal_of, refusal_of_texts, run as read};
+use crate::tests::assertions::{assert_equal, assert_that};
 use bw_batch::{Done, Index, Key, Op, OpenGate, Options, PageShape, Refusal, Tidy, Tree};
 use bw_fixtures::TextOp::{Delete, Get, Insert, Scan, Update, Upsert};
 use bw_fixtures::TextReply::{Found, Pairs};
@@ -22,13 +23,13 @@ pub fn run<R: Abort + Threads + Sync>(
 
 // Compares how many records a tree has, and its next stamp.
 fn has_records<R: Abort>(rt: &R, tree: &Tree, records: usize, next: u64) {
-    assert_eq!(rt; tree.records(), records);
-    assert_eq!(rt; tree.next_stamp(), next);
+    assert_equal(rt, tree.records(), records);
+    assert_equal(rt, tree.next_stamp(), next);
 }
 
 // Compares its mapping words too.
 fn stands<R: Abort>(rt: &R, tree: &Tree, heads: &[u64], records: usize, next: u64) {
-    assert!(rt; tree.heads() == heads);
+    assert_equal(rt, tree.heads(), heads);
     has_records(rt, tree, records, next);
 }
 
@@ -87,9 +88,9 @@ fn is_listed(page: &PageShape, (id, level, low, high, pairs, writes): Listed) ->
 /// Compares the pages of an index's tree.
 pub fn has_pages<R: Abort>(rt: &R, index: &Index, expected: &[Listed]) {
     let shape = index.tree().shape().expect(rt, "memory");
-    assert_eq!(rt; shape.len(), expected.len());
+    assert_equal(rt, shape.len(), expected.len());
     for (page, row) in shape.iter().zip(expected) {
-        assert!(rt; is_listed(page, *row));
+        assert_that(rt, is_listed(page, *row));
     }
 }
 
@@ -138,9 +139,9 @@ fn insert_letters<R: Abort + Threads + Sync>(
     expected: &[Listed],
 ) {
     let mut index = small_pages(rt, alloc);
-    assert!(rt; insert(rt, alloc, &mut index, count) == tidied(steps));
+    assert_equal(rt, insert(rt, alloc, &mut index, count), tidied(steps));
     has_pages(rt, &index, expected);
-    assert_eq!(rt; index.tree().heads().len(), expected.len());
+    assert_equal(rt, index.tree().heads().len(), expected.len());
 }
 
 /// What five letters make.
@@ -223,7 +224,7 @@ fn run_untidied<R: Abort + Threads + Sync>(
     texts: &[TextOp],
 ) {
     let tidy = run(rt, alloc, index, texts);
-    assert!(rt; tidy == Tidy::default());
+    assert_equal(rt, tidy, Tidy::default());
 }
 
 // Seven writes are no more than eight, so they stay in the chain.
@@ -315,10 +316,10 @@ fn a_batch_stands_where_tidying_stops(rt: HostRuntime) {
     let mut stopped = 0u64;
     for growth in 1..200u64 {
         match is_tidied(&rt, alloc, growth) {
-            None => assert_eq!(rt; stopped, 0),
+            None => assert_equal(&rt, stopped, 0),
             Some(false) => stopped = stopped.saturating_add(1),
             Some(true) => {
-                assert!(rt; stopped > 3);
+                assert_that(&rt, stopped > 3);
                 return;
             }
         }
@@ -336,14 +337,17 @@ fn a_refused_batch_leaves_the_tree(rt: HostRuntime) {
     let alloc = heap(rt.alloc()).expect(&rt, "a heap");
     let mut index = index_up_to(&rt, alloc, 2);
     run(&rt, alloc, &mut index, TWO);
-    assert!(rt; refusal_of_texts(&rt, alloc, &mut index, THREE).is_some());
+    assert_that(
+        &rt,
+        refusal_of_texts(&rt, alloc, &mut index, THREE).is_some(),
+    );
     stands(&rt, index.tree(), &[SECOND], 2, 2);
     let ops = ops(alloc, TWO).expect(&rt, "memory");
     for growth in 1..6 {
         alloc.refuse(growth);
         let refusal = refusal_of(&rt, &mut index, &ops);
         alloc.refuse(0);
-        assert!(rt; refusal == Some(Refusal::Memory));
+        assert_equal(&rt, refusal, Some(Refusal::Memory));
         stands(&rt, index.tree(), &[SECOND], 2, 2);
     }
 }

@@ -1,5 +1,6 @@
 // Batches one by one and all at once, by each number of workers.
 use super::running::{Row, WORKERS, holds, is_accepted, ops_of, run, working};
+use crate::tests::assertions::assert_equal;
 use bw_batch::{Done, Index, Op, OpenGate, Options, Refusal};
 use bw_fixtures::{TextPair, heap};
 use bw_memory::Alloc;
@@ -40,7 +41,7 @@ fn run_in_turn<R: Abort + Threads + Sync>(
 
 // Each batch was accepted, with its replies.
 fn are_accepted<R: Abort>(rt: &R, outcomes: &[Result<Done, Refusal>], batches: &[&'static [Row]]) {
-    assert_eq!(rt; outcomes.len(), batches.len());
+    assert_equal(rt, outcomes.len(), batches.len());
     for (outcome, batch) in outcomes.iter().zip(batches) {
         is_accepted(rt, outcome, batch);
     }

@@ -2,6 +2,7 @@
 ghost use Rattle.std.specs.Prelude.{◌-◌, ◌^◌, None, true};
 
 use super::ports::{Runner, TURNS};
+use crate::tests::assertions::assert_equal;
 use bw_command::run_words;
 use bw_trace::{Failed, Inlet, Outlet};
 use std::sync::atomic::{AtomicU64, Ordering};
@@ -83,5 +84,5 @@ fn replies_are_taken_before_the_next_batch_is_read(rt: HostRuntime) {
         TURNS,
     );
     runner.expect_message(&errors, "");
-    assert_eq!(rt; status, 0);
+    assert_equal(&rt, status, 0);
 }

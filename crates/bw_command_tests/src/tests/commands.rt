@@ -1,5 +1,6 @@
 // Words of a command line: jobs, other words, and messages.
 use super::ports::{BOTH_TEXTS, Runner, TURNS, TWO_BATCHES};
+use crate::tests::assertions::{assert_equal, assert_that};
 use bw_command::run_words;
 
 const HISTORY: &str =
@@ -115,9 +116,9 @@ fn other_words_are_no_command(rt: HostRuntime) {
             &mut errors,
             TURNS,
         );
-        assert_eq!(rt; status, 2);
+        assert_equal(&rt, status, 2);
         runner.expect_text(&out, "");
-        assert!(rt; errors.taken.starts_with(b"error: ".as_slice()));
+        assert_that(&rt, errors.taken.starts_with(b"error: ".as_slice()));
     }
 }
 
@@ -167,7 +168,7 @@ For more information, try '--help'.
             &mut errors,
             TURNS,
         );
-        assert_eq!(rt; status, 2);
+        assert_equal(&rt, status, 2);
         runner.expect_text(&out, "");
         runner.expect_text(&errors, text);
     }
@@ -195,7 +196,7 @@ fn a_message_that_is_not_taken_leaves_the_status(rt: HostRuntime) {
             &mut errors,
             TURNS,
         );
-        assert_eq!(rt; status, expected);
+        assert_equal(&rt, status, expected);
         runner.expect_text(&errors, "");
     }
 }

@@ -1,5 +1,6 @@
 // Each growth of memory refused in turn, where a job prints at the end alone.
 use super::ports::{Runner, TURNS, TWO_BATCHES};
+use crate::tests::assertions::{assert_equal, assert_that};
 use bw_command::run_words;
 use std::process::Abort;
 use std::rt::Files;
@@ -66,13 +67,13 @@ impl<R: Abort + Files + AllocGlobal + Threads + Clock + Sync> Runner<'_, R> {
         self.alloc.refuse(0);
         let text = out.taken.as_slice();
         match status {
-            0 => assert!(self.rt; text == whole.as_bytes()),
+            0 => assert_equal(self.rt, text, whole.as_bytes()),
             4 => {
                 let of_first = text == other.as_bytes();
                 let of_second = text == whole.as_bytes();
-                assert!(self.rt; of_first || of_second);
+                assert_that(self.rt, of_first || of_second);
             }
-            _ => assert!(self.rt; status == 1 && text.is_empty()),
+            _ => assert_that(self.rt, status == 1 && text.is_empty()),
         }
         (status, left)
     }
@@ -87,7 +88,7 @@ impl<R: Abort + Files + AllocGlobal + Threads + Clock + Sync> Runner<'_, R> {
             }
             if left > 0 && left <= growth {
                 assert_eq!(self.rt; status, 0, "none was refused");
-                assert!(self.rt; faults > 0);
+                assert_that(self.rt, faults > 0);
                 return;
             }
         }

@@ -1,5 +1,6 @@
 // Readers and writers that fail, and a reader that doesn't end.
 use super::ports::{BOTH_TEXTS, FIRST_TEXT, Runner, TURNS, TWO_BATCHES};
+use crate::tests::assertions::assert_equal;
 use bw_command::run_words;
 
 // How many bytes stand before the second batch, its last newline among them.
@@ -9,7 +10,7 @@ const FIRST_BATCH: u64 = 37;
 fn a_failed_read_leaves_the_batches_before_it(rt: HostRuntime) {
     let runner = Runner::new(&rt, rt.alloc());
     let bytes = TWO_BATCHES.len() as u64;
-    assert_eq!(rt; bytes, 42);
+    assert_equal(&rt, bytes, 42);
     // A byte at a call. The call behind the last byte tells the end.
     for call in 1..bytes + 2 {
         let mut input = runner.pieces(TWO_BATCHES);
@@ -53,7 +54,7 @@ fn a_failed_write_ends_the_run(rt: HostRuntime) {
             &mut errors,
             TURNS,
         );
-        assert_eq!(rt; status, 1);
+        assert_equal(&rt, status, 1);
         runner.expect_text(&out, written);
         runner.expect_message(&errors, "cannot write");
     }
@@ -69,7 +70,7 @@ fn a_failed_write_ends_the_run(rt: HostRuntime) {
         &mut errors,
         TURNS,
     );
-    assert_eq!(rt; status, 0);
+    assert_equal(&rt, status, 0);
     runner.expect_text(&out, BOTH_TEXTS);
 }
 
@@ -88,7 +89,7 @@ fn a_failed_write_comes_before_a_later_faulty_line(rt: HostRuntime) {
         &mut errors,
         TURNS,
     );
-    assert_eq!(rt; status, 1);
+    assert_equal(&rt, status, 1);
     runner.expect_message(&errors, "cannot write");
 }
 

@@ -1,5 +1,6 @@
 // Help and the version.
 use super::ports::{Runner, TURNS};
+use crate::tests::assertions::assert_equal;
 use bw_command::run_words;
 
 const HELP: &str = "Runs a trace of operations on an ordered index from keys to values.
@@ -95,6 +96,6 @@ fn help_that_is_not_taken_cannot_be_written(rt: HostRuntime) {
         &mut errors,
         TURNS,
     );
-    assert_eq!(rt; status, 1);
+    assert_equal(&rt, status, 1);
     runner.expect_message(&errors, "cannot write");
 }

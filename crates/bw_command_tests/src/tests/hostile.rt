@@ -1,5 +1,6 @@
 // Traces that are cut off or wrong on purpose, and readers and writers that fail at a call.
 use super::ports::{Runner, TURNS};
+use crate::tests::assertions::{assert_equal, assert_that};
 use bw_command::run_words;
 
 const NUMBER: &str = "line 1: not a whole number up to 18446744073709551615";
@@ -31,8 +32,8 @@ fn written_after(bytes: u64) -> usize {
 #[test]
 fn four_batches_have_their_texts(rt: HostRuntime) {
     let runner = Runner::new(&rt, rt.alloc());
-    assert_eq!(rt; FOUR_BATCHES.len(), 221);
-    assert_eq!(rt; FOUR_TEXTS.len(), 179);
+    assert_equal(&rt, FOUR_BATCHES.len(), 221);
+    assert_equal(&rt, FOUR_TEXTS.len(), 179);
     let commands: [&[&'static str]; 5] = [
         &["run"],
         &["run", "--workers", "1", "--piece", "1"],
@@ -65,12 +66,12 @@ fn each_front_of_a_trace_is_run_or_faulty(rt: HostRuntime) {
             TURNS,
         );
         let taken = out.taken.as_slice();
-        assert!(rt; taken.len() >= written_after(length));
-        assert!(rt; FOUR_TEXTS.as_bytes().starts_with(taken));
+        assert_that(&rt, taken.len() >= written_after(length));
+        assert_that(&rt, FOUR_TEXTS.as_bytes().starts_with(taken));
         if status == 3 {
-            assert_eq!(rt; taken.len(), written_after(length));
+            assert_equal(&rt, taken.len(), written_after(length));
         } else {
-            assert_eq!(rt; status, 0);
+            assert_equal(&rt, status, 0);
             runner.expect_text(&errors, "");
         }
     }
@@ -94,11 +95,11 @@ fn each_read_fails_in_turn(rt: HostRuntime) {
             &mut errors,
             TURNS,
         );
-        assert_eq!(rt; status, 1);
+        assert_equal(&rt, status, 1);
         runner.expect_message(&errors, "cannot read");
         let taken = out.taken.as_slice();
-        assert_eq!(rt; taken.len(), written_after(call.saturating_sub(1)));
-        assert!(rt; FOUR_TEXTS.as_bytes().starts_with(taken));
+        assert_equal(&rt, taken.len(), written_after(call.saturating_sub(1)));
+        assert_that(&rt, FOUR_TEXTS.as_bytes().starts_with(taken));
     }
 }
 
@@ -118,9 +119,9 @@ fn each_write_fails_in_turn(rt: HostRuntime) {
             &mut errors,
             TURNS,
         );
-        assert_eq!(rt; status, 1);
+        assert_equal(&rt, status, 1);
         runner.expect_message(&errors, "cannot write");
-        assert_eq!(rt; out.taken.len(), written);
+        assert_equal(&rt, out.taken.len(), written);
     }
     let mut out = runner.sink_failing_at(1);
     let mut errors = runner.sink();
@@ -134,7 +135,7 @@ fn each_write_fails_in_turn(rt: HostRuntime) {
         &mut errors,
         TURNS,
     );
-    assert_eq!(rt; status, 1);
+    assert_equal(&rt, status, 1);
     runner.expect_message(&errors, "cannot write");
 }
 

@@ -1,5 +1,6 @@
 // Each growth of memory refused in turn.
 use super::ports::{BOTH_TEXTS, FIRST_TEXT, Runner, TURNS, TWO_BATCHES};
+use crate::tests::assertions::{assert_equal, assert_that};
 use bw_command::run_words;
 
 // Where a batch was refused. The second batch finds nothing where the first was.
@@ -39,21 +40,21 @@ fn each_growth_is_refused_in_turn(rt: HostRuntime) {
             4 => {
                 let of_first = text == FIRST_REFUSED.as_bytes();
                 let of_second = text == SECOND_REFUSED.as_bytes();
-                assert!(rt; of_first || of_second);
+                assert_that(&rt, of_first || of_second);
                 runner.expect_message(&errors, "");
                 refusals = refusals.saturating_add(1);
             }
             _ => {
-                assert_eq!(rt; status, 1);
+                assert_equal(&rt, status, 1);
                 let is_front = text.is_empty() || text == FIRST_TEXT.as_bytes();
-                assert!(rt; is_front);
+                assert_that(&rt, is_front);
                 runner.expect_message(&errors, "out of memory");
                 faults = faults.saturating_add(1);
             }
         }
         if left > 0 && left <= growth {
             assert_eq!(rt; status, 0, "none was refused");
-            assert!(rt; faults > 0 && refusals > 0);
+            assert_that(&rt, faults > 0 && refusals > 0);
             return;
         }
     }
@@ -83,17 +84,17 @@ fn a_message_without_memory_is_of_memory(rt: HostRuntime) {
 
         runner.expect_text(&out, "");
         if errors.taken.as_slice() == b"bw_run: line 1: unknown word\n".as_slice() {
-            assert_eq!(rt; status, 3);
+            assert_equal(&rt, status, 3);
         } else {
             runner.expect_message(&errors, "out of memory");
-            assert!(rt; status == 1 || status == 3);
+            assert_that(&rt, status == 1 || status == 3);
             if status == 3 {
                 messages = messages.saturating_add(1);
             }
         }
         if left > 0 && left <= growth {
             runner.expect_message(&errors, "line 1: unknown word");
-            assert!(rt; messages > 0);
+            assert_that(&rt, messages > 0);
             return;
         }
     }

@@ -1,5 +1,6 @@
 // The picture of the pages on which the index holds its pairs at the end.
 use super::ports::{Runner, TURNS};
+use crate::tests::assertions::{assert_equal, assert_that};
 use bw_command::run_words;
 
 const FIVE: &str = "insert a 1\ninsert b 2\ninsert c 3\ninsert d 4\ninsert e 5\n";
@@ -40,10 +41,13 @@ fn five_pairs_are_drawn_on_three_pages(rt: HostRuntime) {
         &mut errors,
         TURNS,
     );
-    assert_eq!(rt; status, 0);
+    assert_equal(&rt, status, 0);
     runner.expect_text(&errors, "");
     let text = out.taken.as_slice();
-    assert!(rt; text.starts_with(b"<svg ".as_slice()) && text.ends_with(b"</svg>\n".as_slice()));
+    assert_that(
+        &rt,
+        text.starts_with(b"<svg ".as_slice()) && text.ends_with(b"</svg>\n".as_slice()),
+    );
     for (part, count) in [
         ("<svg ", 1),
         ("</svg>", 1),
@@ -58,8 +62,8 @@ fn five_pairs_are_drawn_on_three_pages(rt: HostRuntime) {
         ("3 pairs of 4</text>", 1),
         ("2 children of 4</text>", 1),
     ] {
-        assert!(rt; times(text, part) == count);
+        assert_equal(&rt, times(text, part), count);
     }
-    assert!(rt; times(text, "<") == times(text, ">"));
-    assert!(rt; times(text, "<text ") == times(text, "</text>"));
+    assert_equal(&rt, times(text, "<"), times(text, ">"));
+    assert_equal(&rt, times(text, "<text "), times(text, "</text>"));
 }

@@ -1,6 +1,7 @@
 // A reader and a writer in memory, and a run of the program over them.
 ghost use Rattle.std.specs.Prelude.{◌-◌, ◌^◌, ◌<◌, None, true};
 
+use crate::tests::assertions::assert_equal;
 use bw_command::run_words;
 use bw_memory::{Alloc, Heap};
 use bw_trace::{Failed, Inlet, Outlet};
@@ -191,7 +192,7 @@ impl<'a, R: Abort + Files + AllocGlobal + Threads + Clock + Sync> Runner<'a, R> 
         );
         self.expect_text(&out, output);
         self.expect_message(&errors, message);
-        assert_eq!(self.rt; found, status);
+        assert_equal(self.rt, found, status);
     }
 
     /// Other words over a text that is read at once.
@@ -217,7 +218,7 @@ impl<'a, R: Abort + Files + AllocGlobal + Threads + Clock + Sync> Runner<'a, R> 
         );
         self.expect_text(&out, output);
         self.expect_message(&errors, message);
-        assert_eq!(self.rt; found, status);
+        assert_equal(self.rt, found, status);
     }
 
     /// A job whose writer fails at its first call.
@@ -234,7 +235,7 @@ impl<'a, R: Abort + Files + AllocGlobal + Threads + Clock + Sync> Runner<'a, R> 
             &mut errors,
             TURNS,
         );
-        assert_eq!(self.rt; found, 1);
+        assert_equal(self.rt, found, 1);
         self.expect_text(&out, "");
         self.expect_message(&errors, "cannot write");
     }
@@ -245,7 +246,7 @@ impl<'a, R: Abort + Files + AllocGlobal + Threads + Clock + Sync> Runner<'a, R> 
     }
 
     pub fn expect_text(&self, sink: &Sink, text: &str) {
-        assert!(self.rt; sink.taken.as_slice() == text.as_bytes());
+        assert_equal(self.rt, sink.taken.as_slice(), text.as_bytes());
     }
 
     /// One line, or nothing where there is no message.

@@ -1,5 +1,6 @@
 // `--stats`: what it tells, and that all else stays as it is.
 use super::ports::{BOTH_TEXTS, Pieces, Runner, TURNS, TWO_BATCHES};
+use crate::tests::assertions::{assert_equal, assert_that};
 use bw_command::{Stats, run_words};
 use bw_trace::Summary;
 use std::process::Abort;
@@ -36,9 +37,12 @@ impl<R: Abort + Files + AllocGlobal + Threads + Clock + Sync> Runner<'_, R> {
         );
         self.expect_text(&out, output);
         let front = self.joined(&["bw_run: ", counts, ", "]);
-        assert!(self.rt; errors.taken.starts_with(front.as_bytes()));
-        assert!(self.rt; errors.taken.ends_with(b" operations/s\n".as_slice()));
-        assert_eq!(self.rt; found, status);
+        assert_that(self.rt, errors.taken.starts_with(front.as_bytes()));
+        assert_that(
+            self.rt,
+            errors.taken.ends_with(b" operations/s\n".as_slice()),
+        );
+        assert_equal(self.rt, found, status);
     }
 
     fn expect_stats_text(&self, time: Option<Duration>, text: &str) {
@@ -52,7 +56,7 @@ impl<R: Abort + Files + AllocGlobal + Threads + Clock + Sync> Runner<'_, R> {
             time,
         };
         let shown = format!(in self.alloc; "{stats}").expect(self.rt, "memory");
-        assert!(self.rt; shown.as_str() == text);
+        assert_equal(self.rt, shown.as_str(), text);
     }
 }
 
@@ -131,7 +135,7 @@ fn stats_that_are_not_taken_change_nothing(rt: HostRuntime) {
         &mut errors,
         TURNS,
     );
-    assert_eq!(rt; status, 0);
+    assert_equal(&rt, status, 0);
     runner.expect_text(&out, BOTH_TEXTS);
     runner.expect_text(&errors, "");
 }

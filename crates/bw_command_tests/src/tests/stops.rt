@@ -2,6 +2,7 @@
 // batch, or where tidying stops there, behind the next one.
 use super::ports::{Runner, TURNS};
 use super::shapes::{FIVE, FIVE_SPLIT, SMALL_PAGES};
+use crate::tests::assertions::{assert_equal, assert_that};
 use bw_command::run_words;
 use std::process::Abort;
 use std::rt::Files;
@@ -121,7 +122,7 @@ impl<R: Abort + Files + AllocGlobal + Threads + Clock + Sync> Runner<'_, R> {
             };
             count(counts, place);
             if left > 0 && left <= growth {
-                assert_eq!(self.rt; place, 0);
+                assert_equal(self.rt, place, 0);
                 return;
             }
         }
@@ -136,7 +137,7 @@ fn tidying_stops_before_each_of_its_steps(rt: HostRuntime) {
     let mut counts = [0u64; 6];
     runner.count_ends(&SMALL_PAGES, FIVE, &ONE_BATCH, &mut counts);
     for count in counts {
-        assert!(rt; count > 0);
+        assert_that(&rt, count > 0);
     }
 }
 
@@ -147,7 +148,7 @@ fn the_next_batch_goes_on_with_tidying(rt: HostRuntime) {
         let text = runner.joined(&[FIVE, rest]);
         let mut counts = [0u64; 4];
         runner.count_ends(&SMALL_PAGES, text.as_str(), &MORE_BATCHES, &mut counts);
-        assert!(rt; counts[0] > 1 && counts[1] > 0 && counts[2] > 0);
+        assert_that(&rt, counts[0] > 1 && counts[1] > 0 && counts[2] > 0);
     }
 }
 
@@ -157,5 +158,5 @@ fn pairs_are_read_where_tidying_stopped(rt: HostRuntime) {
     let text = runner.joined(&[FIVE, READS]);
     let mut counts = [0u64; 5];
     runner.count_ends(&RUN, text.as_str(), &READ_BATCH, &mut counts);
-    assert!(rt; counts[0] > 1 && counts[1] > 0 && counts[2] > 0);
+    assert_that(&rt, counts[0] > 1 && counts[1] > 0 && counts[2] > 0);
 }

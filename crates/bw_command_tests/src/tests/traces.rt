@@ -1,5 +1,6 @@
 // Whole traces: what is written for them.
 use super::ports::{BOTH_TEXTS, Runner, TURNS, TWO_BATCHES};
+use crate::tests::assertions::assert_equal;
 
 const KEY_64: &str = "kkkkkkkkkkkkkkkkkkkkkkkkkkkkkkkkkkkkkkkkkkkkkkkkkkkkkkkkkkkkkkkk";
 
@@ -49,7 +50,7 @@ fn numbers_have_64_bits(rt: HostRuntime) {
 #[test]
 fn keys_have_64_bytes(rt: HostRuntime) {
     let runner = Runner::new(&rt, rt.alloc());
-    assert_eq!(rt; KEY_64.len(), 64);
+    assert_equal(&rt, KEY_64.len(), 64);
     let text = runner.joined(&["upsert ", KEY_64, " 2\ngo\nget ", KEY_64, "k"]);
     runner.expect(
         text.as_str(),

@@ -1,5 +1,6 @@
 // The words of a command line, as a system hands them over.
 use super::ports::Runner;
+use crate::tests::assertions::assert_equal;
 use bw_command::{arguments, no_memory, no_words};
 use std::env::{Env, FillError};
 use std::io::ErrorKind;
@@ -51,7 +52,7 @@ fn a_word_that_is_not_utf_8_is_told(rt: HostRuntime) {
         Ok(_) => ErrorKind::Other,
         Err(error) => error.kind(),
     };
-    assert!(rt; fault == ErrorKind::InvalidData);
+    assert_equal(&rt, fault, ErrorKind::InvalidData);
 }
 
 #[test]
@@ -63,10 +64,10 @@ fn words_that_cannot_be_read_have_a_message(rt: HostRuntime) {
         (ErrorKind::InvalidData, not_text, 2),
     ] {
         let mut errors = runner.sink();
-        assert!(rt; no_words(kind, &mut errors) == status);
+        assert_equal(&rt, no_words(kind, &mut errors), status);
         runner.expect_message(&errors, message);
     }
     let mut errors = runner.sink();
-    assert_eq!(rt; no_memory(&mut errors), 1);
+    assert_equal(&rt, no_memory(&mut errors), 1);
     runner.expect_message(&errors, "out of memory");
 }

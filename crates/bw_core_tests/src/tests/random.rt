@@ -1,5 +1,6 @@
 //! Random lists of events, with the world checked after each.
 use super::{FLOOR, counted, lawful};
+use crate::tests::assertions::assert_that;
 use bw_core::{Event, Played, World};
 
 // Numbers by a linear congruence, so that a run can be had again.
@@ -90,10 +91,13 @@ fn random_events_keep_the_world_lawful(rt: HostRuntime) {
             let event = event(&mut random, &world);
             let played = world.apply(event).expect(&rt, "memory");
             let is_lawful = lawful::is_lawful(alloc, &world).expect(&rt, "memory");
-            assert!(rt; is_lawful);
+            assert_that(&rt, is_lawful);
             tally.count(event, played);
         }
     }
-    assert!(rt; tally.posts >= 300 && tally.lost >= 30 && tally.joins >= 100);
-    assert!(rt; tally.swaps >= 50 && tally.late >= 50);
+    assert_that(
+        &rt,
+        tally.posts >= 300 && tally.lost >= 30 && tally.joins >= 100,
+    );
+    assert_that(&rt, tally.swaps >= 50 && tally.late >= 50);
 }

@@ -1,5 +1,6 @@
 //! A world with 64 seats, each of which posts a record to the one page, and which are joined again.
 use super::{FLOOR, counted};
+use crate::tests::assertions::{assert_equal, assert_that};
 use bw_core::Event::{Claim, Join, Link, Look, Split, Try};
 use bw_core::Played::{Done, Lost};
 use bw_core::{Event, Played, World};
@@ -9,7 +10,7 @@ const SEATS: u64 = 64;
 
 fn expect(rt: &impl Abort, world: &mut World, event: Event, answer: Played) {
     let found = world.apply(event).expect(rt, "memory");
-    assert!(rt; found == answer);
+    assert_equal(rt, found, answer);
 }
 
 // Splits each of so many seats. The new ones come behind them, in their order.
@@ -73,7 +74,10 @@ fn sixty_four_seats_post_to_one_page(rt: HostRuntime) {
     join_each(&rt, &mut world);
     let book = world.books().first().expect(&rt, "a book");
     let chain = book.seen(0).expect(&rt, "a page");
-    assert!(rt; chain.iter().copied().eq((0..SEATS).rev()));
-    assert!(rt; book.width() == 1024 && book.told());
-    assert!(rt; book.owned().len() == SEATS as usize && book.posted().len() == SEATS as usize);
+    assert_that(&rt, chain.iter().copied().eq((0..SEATS).rev()));
+    assert_that(&rt, book.width() == 1024 && book.told());
+    assert_that(
+        &rt,
+        book.owned().len() == SEATS as usize && book.posted().len() == SEATS as usize,
+    );
 }

@@ -1,5 +1,6 @@
 // An arena, record by record.
 use super::making::delete;
+use crate::tests::assertions::{assert_equal, assert_that};
 use bw_delta::{Arena, Delta, Memory};
 use bw_fixtures::{heap, was_refused};
 use bw_memory::Alloc;
@@ -40,13 +41,16 @@ fn has(arena: &Arena, at: usize, wanted: &Delta, link: u64) -> bool {
 
 // Compares the records, whose stamps are their places, with these links.
 fn same<R: Abort>(rt: &R, alloc: Alloc, arena: &Arena, links: &[u64]) {
-    assert!(rt; arena.len() == links.len());
+    assert_equal(rt, arena.len(), links.len());
     for (at, link) in links.iter().enumerate() {
         let wanted = put(rt, alloc, at as u64);
-        assert!(rt; has(arena, at, &wanted, *link));
-        assert!(rt; arena.link(at) == Some(*link));
+        assert_that(rt, has(arena, at, &wanted, *link));
+        assert_equal(rt, arena.link(at), Some(*link));
     }
-    assert!(rt; arena.get(links.len()).is_none() && arena.link(links.len()).is_none());
+    assert_that(
+        rt,
+        arena.get(links.len()).is_none() && arena.link(links.len()).is_none(),
+    );
 }
 
 #[test]
@@ -89,7 +93,7 @@ fn a_reserved_record_takes_no_memory(rt: HostRuntime) {
     let delta = put(&rt, alloc, 3);
     alloc.refuse(1);
     arena.append(delta, 13);
-    assert_eq!(rt; alloc.left(), 1);
+    assert_equal(&rt, alloc.left(), 1);
     alloc.refuse(0);
     same(&rt, alloc, &arena, &[10, 11, 12, 13]);
 }
@@ -98,8 +102,8 @@ fn a_reserved_record_takes_no_memory(rt: HostRuntime) {
 fn growth_is_refused<R: Abort>(rt: &R, alloc: Alloc, growth: u64) {
     let mut arena = Arena::new(alloc);
     alloc.refuse(growth);
-    assert!(rt; arena.make_room() == Err(Memory));
-    assert_eq!(rt; alloc.left(), 0);
+    assert_equal(rt, arena.make_room(), Err(Memory));
+    assert_equal(rt, alloc.left(), 0);
     alloc.refuse(0);
     same(rt, alloc, &arena, &[]);
 }
@@ -115,15 +119,21 @@ fn refused_room_leaves_the_records(rt: HostRuntime) {
 fn stand<R: Abort>(rt: &R, alloc: Alloc, arena: &Arena, (from, to): (u64, u64), more: u64) {
     for place in from..to {
         let wanted = put(rt, alloc, place);
-        assert!(rt; has(arena, place as usize, &wanted, place.saturating_add(more)));
+        assert_that(
+            rt,
+            has(arena, place as usize, &wanted, place.saturating_add(more)),
+        );
     }
 }
 
 // Compares an arena with the records of the stamps below one.
 fn are_records<R: Abort>(rt: &R, alloc: Alloc, arena: &Arena, count: u64) {
-    assert!(rt; arena.len() as u64 == count);
+    assert_equal(rt, arena.len() as u64, count);
     stand(rt, alloc, arena, (0, count), 10);
-    assert!(rt; arena.get(count as usize).is_none() && arena.link(count as usize).is_none());
+    assert_that(
+        rt,
+        arena.get(count as usize).is_none() && arena.link(count as usize).is_none(),
+    );
 }
 
 // An arena whose lists each have a full segment of 1,024 records, and no room. Whether the next room was refused where
@@ -132,7 +142,7 @@ fn segment_is_refused<R: Abort>(rt: &R, alloc: Alloc, growth: u64) -> bool {
     let mut arena = records(rt, alloc, 1024);
     alloc.refuse(growth);
     let refused = arena.make_room() == Err(Memory);
-    assert!(rt; was_refused(alloc, growth) == refused);
+    assert_equal(rt, was_refused(alloc, growth), refused);
     are_records(rt, alloc, &arena, 1024);
     add(rt, alloc, &mut arena, 1024, 1025);
     are_records(rt, alloc, &arena, 1025);
@@ -145,7 +155,7 @@ fn a_refused_segment_leaves_the_records(rt: HostRuntime) {
     let alloc = heap(rt.alloc()).expect(&rt, "memory");
     for growth in 1..10u64 {
         if !segment_is_refused(&rt, alloc, growth) {
-            assert!(rt; growth > 2);
+            assert_that(&rt, growth > 2);
             return;
         }
     }
@@ -160,7 +170,7 @@ fn links_are_set_across_segments(rt: HostRuntime) {
         panic!(rt; "so many records");
     }
     arena.set_links(1022, &[1122, 1123, 1124, 1125]);
-    assert!(rt; arena.len() == 1030);
+    assert_equal(&rt, arena.len(), 1030);
     stand(&rt, alloc, &arena, (0, 1022), 10);
     stand(&rt, alloc, &arena, (1022, 1026), 100);
     stand(&rt, alloc, &arena, (1026, 1030), 10);

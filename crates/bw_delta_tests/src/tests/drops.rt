@@ -1,5 +1,6 @@
 // Records and replays that are dropped give their memory back.
 use super::making::insert;
+use crate::tests::assertions::{assert_equal, assert_that};
 use bw_delta::{Arena, Delta, Replay};
 use bw_fixtures::{LONG, leaf_of};
 use bw_memory::{Alloc, Heap};
@@ -11,7 +12,7 @@ fn drop_arena<R: Abort>(rt: &R, alloc: Alloc) {
     let mut arena = Arena::new(alloc);
     arena.make_room().expect(rt, "memory");
     arena.append(Delta::Put(insert(rt, alloc, 0, b"a", LONG)), 7);
-    assert!(rt; alloc.used() > 0);
+    assert_that(rt, alloc.used() > 0);
     drop(arena);
 }
 
@@ -22,17 +23,17 @@ fn drop_replay<R: Abort>(rt: &R, alloc: Alloc) {
     let kept = alloc.used();
     let replay = Replay::new(alloc, &[&leaf], None, &[&write]).expect(rt, "memory");
     let replay = replay.advance(1).expect(rt, "memory");
-    assert!(rt; alloc.used() > kept);
+    assert_that(rt, alloc.used() > kept);
     drop(replay);
-    assert_eq!(rt; alloc.used(), kept);
+    assert_equal(rt, alloc.used(), kept);
 }
 
 #[test]
 fn what_is_dropped_gives_its_memory_back(rt: HostRuntime) -> Result<(), Fail> {
     let alloc = Heap::within(rt.alloc(), 65536).leak(rt.alloc())?;
     drop_arena(&rt, alloc);
-    assert_eq!(rt; alloc.used(), 0);
+    assert_equal(&rt, alloc.used(), 0);
     drop_replay(&rt, alloc);
-    assert_eq!(rt; alloc.used(), 0);
+    assert_equal(&rt, alloc.used(), 0);
     Ok(())
 }

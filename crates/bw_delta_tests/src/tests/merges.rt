@@ -6,6 +6,7 @@ ghost use Rattle.bw_key.specs.Order.{key_cmp};
 ghost use Rattle.bw_delta.specs.History.{pointed_to, HasDistinctStamps};
 
 use super::making::write;
+use crate::tests::assertions::{assert_equal, assert_that};
 use bw_delta::{Action, Replay, Write, leaf_as_of};
 use bw_fixtures::{LONG, Random, are, heap, key, leaf_of, value};
 use bw_key::Key;
@@ -156,11 +157,11 @@ fn compare_at<R: Abort>(
 ) {
     let merged = read(rt, alloc, &[leaf], bounds, writes, stamp);
     let (first, last) = replayed(rt, alloc, &[leaf], bounds, writes, stamp);
-    assert!(rt; merged == first);
-    assert!(rt; are_turned(&merged, &last));
+    assert_equal(rt, &merged, &first);
+    assert_that(rt, are_turned(&merged, &last));
     let (first, last) = replayed(rt, alloc, &[leaf, empty], bounds, writes, stamp);
-    assert!(rt; merged == first);
-    assert!(rt; are_turned(&merged, &last));
+    assert_equal(rt, &merged, &first);
+    assert_that(rt, are_turned(&merged, &last));
 }
 
 // Compares them as of each stamp.
@@ -232,6 +233,6 @@ fn a_leaf_without_writes_is_copied_in_two_growths(rt: HostRuntime) {
     let least = key(alloc, b"").expect(&rt, "memory");
     alloc.refuse(3);
     let pairs = read(&rt, alloc, &[&leaf], (&least, None), &[], 9);
-    assert_eq!(rt; alloc.left(), 1);
-    assert!(rt; are(&pairs, &[(b"a", b"1")]));
+    assert_equal(&rt, alloc.left(), 1);
+    assert_that(&rt, are(&pairs, &[(b"a", b"1")]));
 }

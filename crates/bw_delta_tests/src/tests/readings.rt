@@ -1,5 +1,6 @@
 // What stamped writes leave, in each order of the slice.
 use super::making::{delete, insert, is_left, pairs_of, update, value_of, write};
+use crate::tests::assertions::assert_that;
 use bw_delta::{Action, Write, contents_are_history};
 use bw_fixtures::{are, heap, key, leaf_of, pair, two, up_to_c, value};
 use bw_key::Key;
@@ -31,7 +32,7 @@ fn is(value: Option<&Value>, wanted: Option<&'static [u8]>) -> bool {
 fn compare<R: Abort>(rt: &R, alloc: Alloc, order: (&Write, &Write, &Write)) {
     for (stamp, wanted) in LEFT {
         let left = value_of(rt, alloc, Some(b"4"), order, stamp).expect(rt, "memory");
-        assert!(rt; is(left.as_ref(), wanted));
+        assert_that(rt, is(left.as_ref(), wanted));
     }
 }
 
@@ -42,7 +43,7 @@ fn compare_leaf<R: Abort>(rt: &R, alloc: Alloc, order: (&Write, &Write, &Write))
     for (stamp, wanted) in LEFT {
         let pairs = pairs_of(rt, alloc, &[&leaf], (&low, None), order, stamp);
         let pairs = pairs.expect(rt, "memory");
-        assert!(rt; is_left(&pairs, wanted));
+        assert_that(rt, is_left(&pairs, wanted));
     }
 }
 
@@ -103,7 +104,7 @@ fn compare_range<R: Abort>(
     let (c, a, d) = three_writes(rt, alloc);
     let pairs = pairs_of(rt, alloc, &[&first, &second], range, (&c, &a, &d), stamp);
     let pairs = pairs.expect(rt, "memory");
-    assert!(rt; are(&pairs, wanted));
+    assert_that(rt, are(&pairs, wanted));
 }
 
 #[test]

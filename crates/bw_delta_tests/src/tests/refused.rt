@@ -2,6 +2,7 @@
 ghost use Rattle.std.specs.Prelude.{◌≤◌};
 
 use super::making::{delete, insert, pairs_of, update, value_of};
+use crate::tests::assertions::{assert_equal, assert_that};
 use bw_delta::Memory;
 use bw_fixtures::{LONG, heap, key, leaf_of, value, was_refused};
 use bw_memory::Alloc;
@@ -25,11 +26,11 @@ fn each_growth_of_a_value_is_refused(rt: HostRuntime) {
         let left = read_value(&rt, alloc, growth);
         if !was_refused(alloc, growth) {
             let left = left.expect(&rt, "memory");
-            assert!(rt; left == Some(value(alloc, LONG).expect(&rt, "memory")));
-            assert_eq!(rt; growth, 3);
+            assert_equal(&rt, left, Some(value(alloc, LONG).expect(&rt, "memory")));
+            assert_equal(&rt, growth, 3);
             return;
         }
-        assert!(rt; left.is_err());
+        assert_that(&rt, left.is_err());
     }
     panic!(rt; "no run met no refusal")
 }
@@ -61,14 +62,14 @@ fn read_leaf<R: Abort>(rt: &R, alloc: Alloc, growth: u64, parts: usize) -> Resul
 fn each_growth_of_a_leaf_is_refused(rt: HostRuntime) {
     let alloc = heap(rt.alloc()).expect(&rt, "memory");
     for growth in 1..=3 {
-        assert!(rt; read_leaf(&rt, alloc, growth, 1).is_err());
-        assert!(rt; was_refused(alloc, growth));
+        assert_that(&rt, read_leaf(&rt, alloc, growth, 1).is_err());
+        assert_that(&rt, was_refused(alloc, growth));
     }
     // The last two give back room that the pairs don't need. Where one is refused, that stays.
     for growth in 4..=6 {
         let left = read_leaf(&rt, alloc, growth, 1).expect(&rt, "memory");
-        assert_eq!(rt; left.len(), 2);
-        assert_eq!(rt; was_refused(alloc, growth), growth < 6);
+        assert_equal(&rt, left.len(), 2);
+        assert_equal(&rt, was_refused(alloc, growth), growth < 6);
     }
 }
 
@@ -77,12 +78,12 @@ fn each_growth_of_two_parts_is_refused(rt: HostRuntime) {
     let alloc = heap(rt.alloc()).expect(&rt, "memory");
     // A value, a map and two lists for one part, and then what one part takes.
     for growth in 1..=7 {
-        assert!(rt; read_leaf(&rt, alloc, growth, 2).is_err());
-        assert!(rt; was_refused(alloc, growth));
+        assert_that(&rt, read_leaf(&rt, alloc, growth, 2).is_err());
+        assert_that(&rt, was_refused(alloc, growth));
     }
     for growth in 8..=10 {
         let left = read_leaf(&rt, alloc, growth, 2).expect(&rt, "memory");
-        assert_eq!(rt; left.len(), 2);
-        assert_eq!(rt; was_refused(alloc, growth), growth < 10);
+        assert_equal(&rt, left.len(), 2);
+        assert_equal(&rt, was_refused(alloc, growth), growth < 10);
     }
 }

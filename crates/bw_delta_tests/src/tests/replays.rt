@@ -2,6 +2,7 @@
 ghost use Rattle.std.specs.Prelude.{◌≡◌, IfOk};
 
 use super::making::{are_apart, delete, insert, is_left, update, write};
+use crate::tests::assertions::{assert_equal, assert_that};
 use bw_delta::{Action, Memory, Replay, Write};
 use bw_fixtures::{LONG, are, heap, key, leaf_of, pair, two, was_refused};
 use bw_key::Key;
@@ -32,13 +33,13 @@ fn compare_firsts<R: Abort>(rt: &R, alloc: Alloc, replay: &Replay) {
         key(alloc, b"b").expect(rt, "memory"),
     );
     let pairs = first(alloc, replay, &a, 9).expect(rt, "memory");
-    assert!(rt; are(&pairs, &[(b"a", b"1"), (b"b", b"2")]));
+    assert_that(rt, are(&pairs, &[(b"a", b"1"), (b"b", b"2")]));
     let pairs = first(alloc, replay, &a, 1).expect(rt, "memory");
-    assert!(rt; are(&pairs, &[(b"a", b"1")]));
+    assert_that(rt, are(&pairs, &[(b"a", b"1")]));
     let pairs = first(alloc, replay, &b, 9).expect(rt, "memory");
-    assert!(rt; are(&pairs, &[(b"b", b"2")]));
+    assert_that(rt, are(&pairs, &[(b"b", b"2")]));
     let pairs = first(alloc, replay, &b, 0).expect(rt, "memory");
-    assert!(rt; are(&pairs, &[]));
+    assert_that(rt, are(&pairs, &[]));
 }
 
 // Compares the last pairs of that leaf.
@@ -48,11 +49,11 @@ fn compare_lasts<R: Abort>(rt: &R, alloc: Alloc, replay: &Replay) {
         key(alloc, b"c").expect(rt, "memory"),
     );
     let pairs = last(alloc, replay, &c, 9).expect(rt, "memory");
-    assert!(rt; are(&pairs, &[(b"b", b"2"), (b"a", b"1")]));
+    assert_that(rt, are(&pairs, &[(b"b", b"2"), (b"a", b"1")]));
     let pairs = last(alloc, replay, &b, 9).expect(rt, "memory");
-    assert!(rt; are(&pairs, &[(b"a", b"1")]));
+    assert_that(rt, are(&pairs, &[(b"a", b"1")]));
     let pairs = last(alloc, replay, &c, 1).expect(rt, "memory");
-    assert!(rt; are(&pairs, &[(b"b", b"2")]));
+    assert_that(rt, are(&pairs, &[(b"b", b"2")]));
 }
 
 // The leaf of all keys: a 1, b 2.
@@ -92,7 +93,7 @@ fn a_leaf_without_writes_is_read_where_it_stands(rt: HostRuntime) {
     alloc.refuse(1);
     let replay = Replay::new(alloc, &[&leaf], None, &[]).expect(&rt, "memory");
     let _replay = replay.advance(9).expect(&rt, "memory");
-    assert_eq!(rt; alloc.left(), 1);
+    assert_equal(&rt, alloc.left(), 1);
 }
 
 #[test]
@@ -103,7 +104,7 @@ fn a_leaf_takes_no_memory_up_to_its_first_write(rt: HostRuntime) {
     let replay = Replay::new(alloc, &[&leaf], None, &[&delete]).expect(&rt, "memory");
     alloc.refuse(1);
     let _replay = replay.advance(5).expect(&rt, "memory");
-    assert_eq!(rt; alloc.left(), 1);
+    assert_equal(&rt, alloc.left(), 1);
 }
 
 #[test]
@@ -121,13 +122,16 @@ fn changes_lie_among_the_pairs_of_a_leaf(rt: HostRuntime) {
         key(alloc, b"d").expect(&rt, "memory"),
     );
     let pairs = first(alloc, &replay, &least, 9).expect(&rt, "memory");
-    assert!(rt; are(&pairs, &[(b"aa", b"3"), (b"b", b"2"), (b"c", b"4")]));
+    assert_that(
+        &rt,
+        are(&pairs, &[(b"aa", b"3"), (b"b", b"2"), (b"c", b"4")]),
+    );
     let pairs = first(alloc, &replay, &least, 2).expect(&rt, "memory");
-    assert!(rt; are(&pairs, &[(b"aa", b"3"), (b"b", b"2")]));
+    assert_that(&rt, are(&pairs, &[(b"aa", b"3"), (b"b", b"2")]));
     let pairs = last(alloc, &replay, &d, 2).expect(&rt, "memory");
-    assert!(rt; are(&pairs, &[(b"c", b"4"), (b"b", b"2")]));
+    assert_that(&rt, are(&pairs, &[(b"c", b"4"), (b"b", b"2")]));
     let pairs = last(alloc, &replay, &c, 9).expect(&rt, "memory");
-    assert!(rt; are(&pairs, &[(b"b", b"2"), (b"aa", b"3")]));
+    assert_that(&rt, are(&pairs, &[(b"b", b"2"), (b"aa", b"3")]));
 }
 
 #[test]
@@ -138,7 +142,7 @@ fn a_change_takes_no_memory_for_the_pairs_beside_it(rt: HostRuntime) {
     let replay = Replay::new(alloc, &[&leaf], None, &[&insert]).expect(&rt, "memory");
     alloc.refuse(2);
     let _replay = replay.advance(1).expect(&rt, "memory");
-    assert_eq!(rt; alloc.left(), 1);
+    assert_equal(&rt, alloc.left(), 1);
 }
 
 // How many bytes three writes over the leaf of no key leave in use, once they had their effects.
@@ -162,8 +166,8 @@ fn a_key_that_comes_and_goes_is_no_change(rt: HostRuntime) {
     let goes = write(&rt, alloc, 3, LONG, Action::Delete);
     let (absent, late) = (delete(&rt, alloc, 2), delete(&rt, alloc, 3));
     let used = used_by(&rt, alloc, (&stays, &absent, &late));
-    assert!(rt; used > 0);
-    assert_eq!(rt; used_by(&rt, alloc, (&stays, &comes, &goes)), used);
+    assert_that(&rt, used > 0);
+    assert_equal(&rt, used_by(&rt, alloc, (&stays, &comes, &goes)), used);
 }
 
 #[test]
@@ -174,7 +178,7 @@ fn a_write_without_an_effect_is_no_change(rt: HostRuntime) {
     let replay = Replay::new(alloc, &[&leaf], None, &[&insert]).expect(&rt, "memory");
     alloc.refuse(1);
     let _replay = replay.advance(2).expect(&rt, "memory");
-    assert_eq!(rt; alloc.left(), 1);
+    assert_equal(&rt, alloc.left(), 1);
 }
 
 #[test]
@@ -188,7 +192,7 @@ fn of_two_parts_the_first_has_the_value(rt: HostRuntime) {
     let pairs = first(alloc, &replay, &key(alloc, b"").expect(&rt, "memory"), 9).expect(
         &rt, "memory",
     );
-    assert!(rt; are(&pairs, &[(b"a", b"9"), (b"b", b"2")]));
+    assert_that(&rt, are(&pairs, &[(b"a", b"9"), (b"b", b"2")]));
 }
 
 // A leaf may reach past the end of its page.
@@ -200,7 +204,7 @@ fn below_its_end_a_leaf_is_read_with_its_writes(rt: HostRuntime) {
     let replay = Replay::new(alloc, &[&leaf], Some(&end), &[&insert]).expect(&rt, "memory");
     let replay = replay.advance(1).expect(&rt, "memory");
     let pairs = last(alloc, &replay, &end, 9).expect(&rt, "memory");
-    assert!(rt; are(&pairs, &[(b"aa", b"3"), (b"a", b"1")]));
+    assert_that(&rt, are(&pairs, &[(b"aa", b"3"), (b"a", b"1")]));
 }
 
 #[test]
@@ -213,7 +217,7 @@ fn below_their_end_two_parts_are_read(rt: HostRuntime) {
     let end = key(alloc, b"b").expect(&rt, "memory");
     let replay = Replay::new(alloc, &[&above, &below], Some(&end), &[]).expect(&rt, "memory");
     let pairs = last(alloc, &replay, &end, 9).expect(&rt, "memory");
-    assert!(rt; are(&pairs, &[(b"a", b"9")]));
+    assert_that(&rt, are(&pairs, &[(b"a", b"9")]));
 }
 
 // What an update to 3 at 7, a delete at 2 and an insert of 9 at 5 leave of a 4 at `a`, as of stamps that rise.
@@ -259,7 +263,7 @@ fn compare<'a, R: Abort>(
     for (stamp, wanted) in LEFT {
         replay = advanced(rt, replay, stamp);
         let pairs = first(alloc, &replay, &least, 9).expect(rt, "memory");
-        assert!(rt; is_left(&pairs, wanted));
+        assert_that(rt, is_left(&pairs, wanted));
     }
 }
 
@@ -304,11 +308,11 @@ fn each_growth_of_a_replay_is_refused(rt: HostRuntime) {
         let left = read_leaf(&rt, alloc, growth);
         if !was_refused(alloc, growth) {
             let pairs = left.expect(&rt, "memory");
-            assert!(rt; are(&pairs, &[(b"a", LONG), (LONG, LONG)]));
-            assert!(rt; growth > 5);
+            assert_that(&rt, are(&pairs, &[(b"a", LONG), (LONG, LONG)]));
+            assert_that(&rt, growth > 5);
             return;
         }
-        assert!(rt; left.is_err());
+        assert_that(&rt, left.is_err());
     }
     panic!(rt; "no run met no refusal")
 }

@@ -1,4 +1,5 @@
 // Whose memory a write has, and how much.
+use crate::tests::assertions::{assert_equal, assert_that};
 use bw_delta::{Action, Memory, Op, Write};
 use bw_fixtures::{LONG, heap, key, value};
 use bw_memory::{Alloc, Heap};
@@ -31,8 +32,8 @@ fn is_swap(write: &Write) -> bool {
 fn write_in<R: Abort>(rt: &R, alloc: Alloc, op: &Op) {
     match Write::from_op(alloc, op, 7).expect(rt, "memory") {
         Some(write) => {
-            assert!(rt; is_swap(&write));
-            assert_eq!(rt; alloc.used(), 84);
+            assert_that(rt, is_swap(&write));
+            assert_equal(rt, alloc.used(), 84);
         }
         None => panic!(rt; "a swap writes"),
     }
@@ -45,8 +46,8 @@ fn a_write_has_the_memory_of_its_own_heap(rt: HostRuntime) -> Result<(), Fail> {
     let op = swap(&rt, ops);
     ops.refuse(1);
     write_in(&rt, own, &op);
-    assert_eq!(rt; ops.left(), 1);
-    assert_eq!(rt; own.used(), 0);
+    assert_equal(&rt, ops.left(), 1);
+    assert_equal(&rt, own.used(), 0);
     Ok(())
 }
 
@@ -61,10 +62,10 @@ fn a_write_takes_one_growth_for_each_long_key_and_value(rt: HostRuntime) {
     let op = swap(&rt, alloc);
     for growth in 1..=3 {
         alloc.refuse(growth);
-        assert!(rt; is_refused(alloc, &op));
-        assert_eq!(rt; alloc.left(), 0);
+        assert_that(&rt, is_refused(alloc, &op));
+        assert_equal(&rt, alloc.left(), 0);
     }
     alloc.refuse(4);
-    assert!(rt; !is_refused(alloc, &op));
-    assert_eq!(rt; alloc.left(), 1);
+    assert_that(&rt, !is_refused(alloc, &op));
+    assert_equal(&rt, alloc.left(), 1);
 }

@@ -1,4 +1,5 @@
 // An index beside the plain program.
+use crate::tests::assertions::assert_equal;
 use bw_batch::{Done, Index, Op, OpenGate, Pairs, Refusal, Reply};
 use bw_model::ReferenceMap;
 use std::process::Abort;
@@ -22,9 +23,9 @@ impl Drop for Compared {
 
 // Compares replies.
 fn same<R: Abort>(rt: &R, left: &[Reply], right: &[Reply]) {
-    assert_eq!(rt; left.len(), right.len());
+    assert_equal(rt, left.len(), right.len());
     for (left, right) in left.iter().zip(right) {
-        assert!(rt; *left == *right);
+        assert_equal(rt, left, right);
     }
 }
 
@@ -54,14 +55,14 @@ pub fn follow<R: Abort>(
 /// Compares pairs with those of the plain program.
 pub fn has_pairs<R: Abort>(rt: &R, map: &ReferenceMap, pairs: &Pairs) {
     let expected = map.entries().expect(rt, "memory");
-    assert!(rt; *pairs == expected);
+    assert_equal(rt, pairs, &expected);
 }
 
 // Compares the pairs of both, and their number.
 fn are_same<R: Abort>(rt: &R, both: &Compared) {
     let pairs = both.index.contents().expect(rt, "memory");
     has_pairs(rt, &both.map, &pairs);
-    assert_eq!(rt; both.index.len(), pairs.len() as u64);
+    assert_equal(rt, both.index.len(), pairs.len() as u64);
 }
 
 /// Runs a batch by both, and compares the replies and the pairs after it. Why it was refused, if it was: then the plain

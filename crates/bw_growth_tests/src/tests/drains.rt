@@ -1,6 +1,7 @@
 // Indexes that lose all their keys.
 use super::numbers::{count_absent, delete, held, run, upsert};
 use super::trees::working;
+use crate::tests::assertions::{assert_equal, assert_that};
 use bw_batch::{Index, Op, OpenGate};
 use bw_fixtures::heap;
 use bw_memory::Alloc;
@@ -42,9 +43,9 @@ fn filled<R: Abort + Threads + Sync>(rt: &R, alloc: Alloc, is_scattered: bool) -
     for batch in 0..10u32 {
         let from = batch * 10_000;
         let ops = upserts(rt, alloc, from, from + 10_000, is_scattered);
-        assert_eq!(rt; run(rt, &mut index, &ops), 10_000);
+        assert_equal(rt, run(rt, &mut index, &ops), 10_000);
     }
-    assert_eq!(rt; held(rt, &index), KEYS as usize);
+    assert_equal(rt, held(rt, &index), KEYS as usize);
     index
 }
 
@@ -78,7 +79,7 @@ fn drain<R: Abort + Threads + Sync>(
         let to = from.saturating_add(operations).min(KEYS);
         let ops = deletes(rt, alloc, from, to, is_scattered);
         let done = index.run(rt, &ops, &OpenGate).expect(rt, "memory");
-        assert!(rt; !done.tidy.stopped);
+        assert_that(rt, !done.tidy.stopped);
         absent = absent.saturating_add(count_absent(done.replies.as_slice()));
     }
     absent
@@ -91,13 +92,16 @@ fn pages<R: Abort>(rt: &R, index: &Index) -> usize {
 
 // The index has no pair, on one leaf.
 fn is_one_empty_leaf<R: Abort>(rt: &R, index: &Index) {
-    assert!(rt; index.is_empty());
-    assert_eq!(rt; held(rt, index), 0);
+    assert_that(rt, index.is_empty());
+    assert_equal(rt, held(rt, index), 0);
     let shape = index.shape().expect(rt, "memory");
-    assert_eq!(rt; shape.len(), 1);
-    assert_eq!(rt; index.tree().heads().len(), 1);
+    assert_equal(rt, shape.len(), 1);
+    assert_equal(rt, index.tree().heads().len(), 1);
     for leaf in &shape {
-        assert!(rt; leaf.level == 0 && leaf.pairs == 0 && leaf.high.is_none());
+        assert_that(
+            rt,
+            leaf.level == 0 && leaf.pairs == 0 && leaf.high.is_none(),
+        );
     }
 }
 
@@ -106,7 +110,7 @@ fn is_one_empty_leaf<R: Abort>(rt: &R, index: &Index) {
 fn rising_keys_go_by_small_batches_and_leave_one_leaf(rt: HostRuntime) {
     let alloc = heap(rt.alloc()).expect(&rt, "a heap");
     let mut index = filled(&rt, alloc, false);
-    assert_eq!(rt; drain(&rt, alloc, &mut index, 64, false), 0);
+    assert_equal(&rt, drain(&rt, alloc, &mut index, 64, false), 0);
     is_one_empty_leaf(&rt, &index);
 }
 
@@ -115,9 +119,13 @@ fn rising_keys_go_by_small_batches_and_leave_one_leaf(rt: HostRuntime) {
 fn scattered_keys_go_and_leave_one_leaf_once_all_are_written_to(rt: HostRuntime) {
     let alloc = heap(rt.alloc()).expect(&rt, "a heap");
     let mut index = filled(&rt, alloc, true);
-    assert_eq!(rt; drain(&rt, alloc, &mut index, 10_000, true), 0);
-    assert!(rt; index.is_empty());
-    assert!(rt; pages(&rt, &index) < 100);
-    assert_eq!(rt; drain(&rt, alloc, &mut index, 50_000, true), KEYS as usize);
+    assert_equal(&rt, drain(&rt, alloc, &mut index, 10_000, true), 0);
+    assert_that(&rt, index.is_empty());
+    assert_that(&rt, pages(&rt, &index) < 100);
+    assert_equal(
+        &rt,
+        drain(&rt, alloc, &mut index, 50_000, true),
+        KEYS as usize,
+    );
     is_one_empty_leaf(&rt, &index);
 }

@@ -1,5 +1,6 @@
 // An index that is dropped gives its memory back.
 use super::trees::LONG;
+use crate::tests::assertions::{assert_equal, assert_that};
 use bw_batch::{Index, Key, Op, OpenGate, Options, Value};
 use bw_memory::{Alloc, Heap};
 use std::process::Abort;
@@ -18,7 +19,7 @@ fn put<R: Abort + Threads + Sync>(rt: &R, alloc: Alloc, index: &mut Index) {
 fn drop_index<R: Abort + Threads + Sync>(rt: &R, alloc: Alloc) {
     let mut index = Index::new(alloc, Options::default()).expect(rt, "an index");
     put(rt, alloc, &mut index);
-    assert!(rt; alloc.used() > 0);
+    assert_that(rt, alloc.used() > 0);
     drop(index);
 }
 
@@ -26,6 +27,6 @@ fn drop_index<R: Abort + Threads + Sync>(rt: &R, alloc: Alloc) {
 fn what_is_dropped_gives_its_memory_back(rt: HostRuntime) -> Result<(), Fail> {
     let alloc = Heap::within(rt.alloc(), 1 << 20).leak(rt.alloc())?;
     drop_index(&rt, alloc);
-    assert_eq!(rt; alloc.used(), 0);
+    assert_equal(&rt, alloc.used(), 0);
     Ok(())
 }

@@ -1,5 +1,6 @@
 // What an index keeps comes from its own heap, whatever heap its operations were made on.
 use super::trees::{LONG, tree_of};
+use crate::tests::assertions::{assert_equal, assert_that};
 use bw_batch::{Index, Key, Op, OpenGate, Options, Refusal, Value};
 use bw_memory::{Alloc, Heap};
 use std::alloc::Global;
@@ -52,8 +53,8 @@ fn an_index_keeps_nothing_of_the_heap_of_its_operations(rt: HostRuntime) {
     let mut index = Index::new(own, Options::default()).expect(&rt, "an index");
     let before = own.used();
     run_writes(&rt, other, &mut index);
-    assert_eq!(rt; other.used(), 0);
-    assert!(rt; own.used() >= before.saturating_add(400));
+    assert_equal(&rt, other.used(), 0);
+    assert_that(&rt, own.used() >= before.saturating_add(400));
 }
 
 // So many upserts of a value of 1,024 bytes.
@@ -82,10 +83,14 @@ fn an_index_refuses_what_its_own_heap_has_no_room_for(rt: HostRuntime) {
     let own = heap(&rt, rt.alloc(), 1 << 18);
     let other = heap(&rt, rt.alloc(), 1 << 24);
     let mut index = Index::new(own, Options::default()).expect(&rt, "an index");
-    assert!(rt; refusal_of(&rt, other, &mut index, 10).is_none());
-    assert!(rt; refusal_of(&rt, other, &mut index, 500) == Some(Refusal::Memory));
-    assert_eq!(rt; other.used(), 0);
-    assert_eq!(rt; index.tree().records(), 10);
+    assert_that(&rt, refusal_of(&rt, other, &mut index, 10).is_none());
+    assert_equal(
+        &rt,
+        refusal_of(&rt, other, &mut index, 500),
+        Some(Refusal::Memory),
+    );
+    assert_equal(&rt, other.used(), 0);
+    assert_equal(&rt, index.tree().records(), 10);
 }
 
 // The bytes of a heap, and those of them that are left for a batch.
@@ -111,5 +116,5 @@ fn a_batch_of_one_write_over_10000_leaves_takes_memory_for_one_of_them(rt: HostR
     let _rest = fill(&rt, alloc);
     assert!(rt; Vec::<u8, Alloc>::with_capacity(alloc, LEFT as usize + 1).is_err());
     let done = index.run(&rt, &ops, &OpenGate).expect(&rt, "memory");
-    assert_eq!(rt; done.replies.as_slice().len(), 1);
+    assert_equal(&rt, done.replies.as_slice().len(), 1);
 }

@@ -1,5 +1,6 @@
 // The largest batches: all writes on one key, each on a key of its own, and many scans beside many writes of one leaf.
 use super::numbers::{holds, is_was, run, scan_one, upsert};
+use crate::tests::assertions::assert_equal;
 use bw_batch::{Index, Op, OpenGate, Options, Reply};
 use bw_fixtures::heap;
 use bw_memory::Alloc;
@@ -40,7 +41,7 @@ fn each_of_65536_keys_is_written(rt: HostRuntime) {
     let alloc = heap(rt.alloc()).expect(&rt, "a heap");
     let mut index = Index::new(alloc, Options::default()).expect(&rt, "an index");
     let ops = upserts(&rt, alloc, 65_536, false);
-    assert_eq!(rt; run(&rt, &mut index, &ops), 65_536);
+    assert_equal(&rt, run(&rt, &mut index, &ops), 65_536);
     holds(&rt, &index, 65_536, 0xffff);
 }
 
@@ -71,7 +72,7 @@ fn is_answered<R: Abort>(rt: &R, op: &Op, reply: &Reply) {
 
 // Each operation is answered so.
 fn are_answered<R: Abort>(rt: &R, ops: &[Op], replies: &[Reply]) {
-    assert_eq!(rt; replies.len(), ops.len());
+    assert_equal(rt, replies.len(), ops.len());
     for (op, reply) in ops.iter().zip(replies) {
         is_answered(rt, op, reply);
     }

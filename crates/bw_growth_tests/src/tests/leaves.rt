@@ -3,6 +3,7 @@ ghost use Rattle.std.specs.Prelude.{◌<◌};
 
 use super::compared::{Compared, run_both};
 use super::trees::{LONG, map_of, tree_of, working};
+use crate::tests::assertions::assert_that;
 use bw_batch::{Index, Key, Op, Options, Value};
 use bw_fixtures::{Random, heap, key, value};
 use bw_memory::Alloc;
@@ -110,7 +111,7 @@ fn run_drawn<R: Abort + Threads + Sync>(
     len: usize,
 ) {
     let ops = batch(rt, alloc, random, len);
-    assert!(rt; run_both(rt, both, &ops).is_none());
+    assert_that(rt, run_both(rt, both, &ops).is_none());
 }
 
 // Runs so many batches of so many operations, drawn from a seed.
@@ -122,7 +123,7 @@ fn compare<R: Abort + Threads + Sync>(
     (batches, len): (u64, usize),
 ) {
     let mut random = Random::new(seed);
-    assert!(rt; run_both(rt, both, &[]).is_none());
+    assert_that(rt, run_both(rt, both, &[]).is_none());
     for _ in 0..batches {
         run_drawn(rt, alloc, &mut random, both, len);
     }

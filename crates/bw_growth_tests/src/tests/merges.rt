@@ -1,4 +1,5 @@
 // Pages that are merged behind batches of deletes, with each growth of memory refused in turn, and with the longest values.
+use crate::tests::assertions::{assert_equal, assert_that};
 use bw_batch::{Done, Index, Key, Op, OpenGate, Options, Refusal, Reply, Value};
 use bw_fixtures::{heap, key, pairs_of, value, was_refused};
 use bw_memory::Alloc;
@@ -122,25 +123,28 @@ fn small_pages<R: Abort>(rt: &R, alloc: Alloc, workers: u64) -> Index {
 // Compares what a batch was answered.
 fn answers<R: Abort>(rt: &R, done: &Done, turn: &Turn) {
     let replies = done.replies.as_slice();
-    assert_eq!(rt; replies.len(), turn.replies.len());
+    assert_equal(rt, replies.len(), turn.replies.len());
     for (reply, wanted) in replies.iter().zip(&turn.replies) {
-        assert!(rt; *reply == *wanted);
+        assert_equal(rt, reply, wanted);
     }
 }
 
 // Runs a batch with ample memory.
 fn run<R: Abort + Threads + Sync>(rt: &R, index: &mut Index, turn: &Turn) {
     let done = index.run(rt, &turn.ops, &OpenGate).expect(rt, "memory");
-    assert!(rt; !done.tidy.stopped);
+    assert_that(rt, !done.tidy.stopped);
     answers(rt, &done, turn);
 }
 
 // The index is one leaf without pairs and writes.
 fn is_empty_leaf<R: Abort>(rt: &R, index: &Index) {
     let shape = index.shape().expect(rt, "memory");
-    assert_eq!(rt; shape.len(), 1);
-    assert!(rt; shape[0].level == 0 && shape[0].pairs == 0 && shape[0].writes == 0);
-    assert!(rt; index.is_empty());
+    assert_equal(rt, shape.len(), 1);
+    assert_that(
+        rt,
+        shape[0].level == 0 && shape[0].pairs == 0 && shape[0].writes == 0,
+    );
+    assert_that(rt, index.is_empty());
 }
 
 // Five letters are on two leaves under a root.
@@ -206,10 +210,10 @@ fn state_of<R: Abort>(rt: &R, alloc: Alloc, index: &Index) -> Before {
 // The index is as it was.
 fn stands<R: Abort>(rt: &R, index: &Index, before: &Before) {
     let tree = index.tree();
-    assert_eq!(rt; tree.next_stamp(), before.next);
-    assert_eq!(rt; tree.records(), before.records);
-    assert!(rt; tree.heads() == before.heads.as_slice());
-    assert_eq!(rt; index.len(), before.len);
+    assert_equal(rt, tree.next_stamp(), before.next);
+    assert_equal(rt, tree.records(), before.records);
+    assert_equal(rt, tree.heads(), before.heads.as_slice());
+    assert_equal(rt, index.len(), before.len);
 }
 
 // A get of each letter, and a scan of all, where they have values from this one on.
@@ -283,11 +287,11 @@ fn run_refused<R: Abort + Threads + Sync>(
     let refused = was_refused(alloc, growth);
     match outcome {
         Ok(done) => {
-            assert!(rt; refused || !done.tidy.stopped);
+            assert_that(rt, refused || !done.tidy.stopped);
             answers(rt, &done, turn);
         }
         Err(refusal) => {
-            assert!(rt; refused && refusal == Refusal::Memory);
+            assert_that(rt, refused && refusal == Refusal::Memory);
             stands(rt, index, &before);
             run(rt, index, turn);
         }
@@ -323,7 +327,7 @@ fn is_refused<R: Abort + Threads + Sync>(
 fn refuse_in_turn<R: Abort + Threads + Sync>(rt: &R, alloc: Alloc, story: &Story, place: usize) {
     for growth in 1..1000 {
         if !is_refused(rt, alloc, story, place, growth) {
-            assert!(rt; growth > 20);
+            assert_that(rt, growth > 20);
             return;
         }
     }

@@ -1,4 +1,5 @@
 // Operations and replies whose keys and values are numbers.
+use crate::tests::assertions::assert_equal;
 use bw_batch::{Index, Key, Op, OpenGate, Reply, Value};
 use bw_fixtures::{key, value};
 use bw_memory::Alloc;
@@ -61,15 +62,19 @@ pub fn held<R: Abort>(rt: &R, index: &Index) -> usize {
 /// Compares the value of the greatest key, and how many pairs the index holds.
 pub fn holds<R: Abort>(rt: &R, index: &Index, count: usize, last: u32) {
     let pairs = index.contents().expect(rt, "memory");
-    assert_eq!(rt; pairs.len(), count);
+    assert_equal(rt, pairs.len(), count);
     assert!(rt; pairs.len() > 0, "no pair");
-    assert!(rt; pairs.value_at(pairs.len() - 1) == last.to_be_bytes().as_slice());
+    assert_equal(
+        rt,
+        pairs.value_at(pairs.len() - 1),
+        last.to_be_bytes().as_slice(),
+    );
 }
 
 /// Runs a batch, which has a reply for each operation. How many of its keys were new.
 pub fn run<R: Abort + Threads + Sync>(rt: &R, index: &mut Index, ops: &[Op]) -> usize {
     let done = index.run(rt, ops, &OpenGate).expect(rt, "memory");
     let replies = done.replies.as_slice();
-    assert_eq!(rt; replies.len(), ops.len());
+    assert_equal(rt, replies.len(), ops.len());
     count_new(replies)
 }

@@ -1,6 +1,7 @@
 // Some thousand operations drawn from a seed, compared with the plain program.
 use super::compared::{Compared, run_both};
 use super::trees::LONG;
+use crate::tests::assertions::assert_equal;
 use bw_batch::{Index, Op, Options, Refusal};
 use bw_fixtures::{Random, TextOp, heap, op};
 use bw_memory::Alloc;
@@ -67,7 +68,7 @@ fn run_drawn<R: Abort + Threads + Sync>(
         true => Some(Refusal::TooLong { ops, most: 48 }),
         false => None,
     };
-    assert!(rt; refusal == expected);
+    assert_equal(rt, refusal, expected);
 }
 
 // Runs batches that are drawn from a seed, some 1,800 writes on a few keys, with so many workers and pieces of so many

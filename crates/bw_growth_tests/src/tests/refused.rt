@@ -1,6 +1,7 @@
 // Each growth of memory refused in turn.
 use super::compared::{follow, has_pairs};
 use super::trees::{LONG, apply, tree_of, working};
+use crate::tests::assertions::{assert_equal, assert_that};
 use bw_batch::{Done, Index, Memory, Op, OpenGate, Options, Refusal};
 use bw_fixtures::TextOp::{Delete, Get, Rscan, Scan, SwapIf, Update, Upsert};
 use bw_fixtures::TextReply::{Absent, Found, New, Pairs, Was};
@@ -97,7 +98,7 @@ fn filled<R: Abort + Threads + Sync>(
 // Compares the pairs of an index.
 fn holds<R: Abort>(rt: &R, index: &Index, pairs: &[TextPair]) {
     let contents = index.contents().expect(rt, "memory");
-    assert!(rt; have_texts(&contents, pairs));
+    assert_that(rt, have_texts(&contents, pairs));
 }
 
 // Makes an index where this growth is refused. Whether it was.
@@ -107,10 +108,10 @@ fn is_made_refused<R: Abort>(rt: &R, alloc: Alloc, options: Options, growth: u64
     let was_refused = was_refused(alloc, growth);
     match outcome {
         Ok(index) => {
-            assert!(rt; !was_refused);
+            assert_that(rt, !was_refused);
             holds(rt, &index, &[]);
         }
-        Err(_) => assert!(rt; was_refused),
+        Err(_) => assert_that(rt, was_refused),
     }
     was_refused
 }
@@ -134,11 +135,11 @@ fn is_read_refused<R: Abort>(rt: &R, alloc: Alloc, index: &Index, growth: u64) -
     let was_refused = was_refused(alloc, growth);
     match outcome {
         Ok(pairs) => {
-            assert!(rt; !was_refused);
-            assert!(rt; growth > 2);
-            assert!(rt; have_texts(&pairs, BEFORE));
+            assert_that(rt, !was_refused);
+            assert_that(rt, growth > 2);
+            assert_that(rt, have_texts(&pairs, BEFORE));
         }
-        Err(Memory) => assert!(rt; was_refused),
+        Err(Memory) => assert_that(rt, was_refused),
     }
     was_refused
 }
@@ -157,15 +158,15 @@ fn contents_meet_each_refusal(rt: HostRuntime) {
 
 // Compares what the batch answered, behind which tidying met the refusal, if anything did.
 fn stands<R: Abort>(rt: &R, done: &Done, start: &Start, was_refused: bool) {
-    assert!(rt; was_refused == done.tidy.stopped);
-    assert!(rt; are_replies(done.replies.as_slice(), start.replies));
+    assert_equal(rt, was_refused, done.tidy.stopped);
+    assert_that(rt, are_replies(done.replies.as_slice(), start.replies));
 }
 
 // Compares what an index holds where the batch was refused, and runs it again.
 fn goes_on<R: Abort + Threads + Sync>(rt: &R, index: &mut Index, ops: &[Op], start: &Start) {
     holds(rt, index, start.before);
     let done = index.run(rt, ops, &OpenGate).expect(rt, "ample memory");
-    assert!(rt; are_replies(done.replies.as_slice(), start.replies));
+    assert_that(rt, are_replies(done.replies.as_slice(), start.replies));
 }
 
 // Runs the batch where this growth is refused, and then again. Whether it was refused.
@@ -182,12 +183,12 @@ fn run_refused<R: Abort + Threads + Sync>(
     let was_refused = was_refused(alloc, growth);
     match outcome {
         Ok(done) => {
-            assert!(rt; growth > 5);
+            assert_that(rt, growth > 5);
             stands(rt, &done, start, was_refused);
         }
         Err(refusal) => {
-            assert!(rt; refusal == Refusal::Memory);
-            assert!(rt; was_refused);
+            assert_equal(rt, refusal, Refusal::Memory);
+            assert_that(rt, was_refused);
             goes_on(rt, index, &ops, start);
         }
     }
@@ -277,7 +278,7 @@ fn is_whole<R: Abort>(
     match follow(rt, map, ops, outcome) {
         Ok(is_tidied) => is_tidied,
         Err(refusal) => {
-            assert!(rt; refusal == Refusal::Memory);
+            assert_equal(rt, refusal, Refusal::Memory);
             false
         }
     }
@@ -292,7 +293,7 @@ fn count_refused<R: Abort>(
     outcomes: &[Result<Done, Refusal>],
 ) -> u64 {
     let mut refused = 0u64;
-    assert_eq!(rt; outcomes.len(), batches.len());
+    assert_equal(rt, outcomes.len(), batches.len());
     for (ops, outcome) in batches.iter().zip(outcomes) {
         if !is_whole(rt, map, ops, outcome) {
             refused = refused.saturating_add(1);
@@ -324,7 +325,7 @@ fn run_all_refused<R: Abort + Threads + Sync>(
         // No batch ran.
         Err(Memory) => 1,
     };
-    assert!(rt; refused == was_refused as u64);
+    assert_equal(rt, refused, was_refused as u64);
     ends_as(rt, index, &map);
     was_refused
 }
@@ -346,7 +347,7 @@ fn refuse_all_in_turn<R: Abort + Threads + Sync>(rt: &R, alloc: Alloc, workers: 
     let batches = batches(rt, alloc);
     for growth in 1..1000 {
         if !start_all_refused(rt, alloc, workers, &batches, growth) {
-            assert!(rt; growth > 10);
+            assert_that(rt, growth > 10);
             return;
         }
     }

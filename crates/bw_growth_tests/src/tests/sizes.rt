@@ -1,6 +1,7 @@
 // Many leaves, many batches and many records: the sizes of an index that is in use.
 use super::numbers::{held, is_was, run, upsert};
 use super::trees::{tree_of, working};
+use crate::tests::assertions::{assert_equal, assert_that};
 use bw_batch::{Done, Index, Op, OpenGate, Refusal, Reply};
 use bw_fixtures::heap;
 use bw_memory::Alloc;
@@ -34,16 +35,16 @@ fn batches_of_65536_writes_make_a_million_records_over_1024_leaves(rt: HostRunti
     let alloc = heap(rt.alloc()).expect(&rt, "a heap");
     let mut index = over_leaves(&rt, alloc);
     let ops = scattered(&rt, alloc);
-    assert_eq!(rt; ops.len(), 65_536);
-    assert_eq!(rt; run(&rt, &mut index, &ops), 65_536 - 1023);
+    assert_equal(&rt, ops.len(), 65_536);
+    assert_equal(&rt, run(&rt, &mut index, &ops), 65_536 - 1023);
     for _ in 1..16u64 {
-        assert_eq!(rt; run(&rt, &mut index, &ops), 0);
+        assert_equal(&rt, run(&rt, &mut index, &ops), 0);
     }
-    assert_eq!(rt; held(&rt, &index), 65_537);
+    assert_equal(&rt, held(&rt, &index), 65_537);
     // The first leaf was split, and its records are above those of the writes: so the last batch would pass 2^20 records, and
     // a sweep came before it.
-    assert!(rt; index.tree().heads().len() > 1025);
-    assert_eq!(rt; index.tree().next_stamp(), 65_536);
+    assert_that(&rt, index.tree().heads().len() > 1025);
+    assert_equal(&rt, index.tree().next_stamp(), 65_536);
 }
 
 // How many batches there are, how many writes each has, and how many keys they go round.
@@ -109,6 +110,6 @@ fn ten_thousand_batches_run_in_turn(rt: HostRuntime) {
         .run_all(&rt, &batches, &OpenGate)
         .expect(&rt, "memory");
     check_outcomes(&rt, &outcomes);
-    assert_eq!(rt; held(&rt, &index), 64);
-    assert_eq!(rt; index.tree().next_stamp(), 40_000);
+    assert_equal(&rt, held(&rt, &index), 64);
+    assert_equal(&rt, index.tree().next_stamp(), 40_000);
 }

@@ -3,6 +3,7 @@ ghost use Rattle.std.specs.Prelude.{◌≡◌, ◌<◌, [], None, is_some, T};
 ghost use Rattle.bw_model.specs.Contents.{is_below_end};
 ghost use Rattle.bw_tree.specs.Making.{AreAbutting};
 
+use crate::tests::assertions::assert_equal;
 use bw_batch::{Key, Leaf, Op, Options, PageId, Tree};
 use bw_fixtures::{key, one, value};
 use bw_memory::Alloc;
@@ -83,7 +84,7 @@ pub fn tree_of<R: Abort>(rt: &R, alloc: Alloc, count: u32, step: u32) -> Tree
 {
     let leaves = leaves_of(rt, alloc, count, step);
     let tree = Tree::from_level(alloc, leaves).expect(rt, "a tree");
-    assert!(rt; tree.heads().len() == count as usize + 1);
+    assert_equal(rt, tree.heads().len(), count as usize + 1);
     tree
 }
 

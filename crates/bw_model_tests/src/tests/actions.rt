@@ -3,6 +3,7 @@ ghost use Rattle.std.specs.Prelude.{◌≡◌, is_some, true};
 ghost use Rattle.bw_model.specs.Model.{key_of};
 
 use super::making::Maker;
+use crate::tests::assertions::{assert_equal, assert_that};
 use bw_fixtures::{TextOp, TextReply, is_reply};
 use bw_model::{Action, Op};
 use std::process::Abort;
@@ -32,8 +33,8 @@ fn compare<R: Abort>(rt: &R, make: &Maker<R>, (text, before, reply, after): Row)
     let action = action_of(rt, make, text);
     let before = before.map(|text| text.as_bytes());
     let answer = action.answer(make.alloc, before).expect(rt, "memory");
-    assert!(rt; is_reply(&answer, reply));
-    assert!(rt; is(action.effect(before), after));
+    assert_that(rt, is_reply(&answer, reply));
+    assert_that(rt, is(action.effect(before), after));
 }
 
 // Whether a value is that of a text, or there is none.
@@ -107,7 +108,7 @@ fn has_reply<R: Abort>(rt: &R, make: &Maker<R>, op: &Op, value: Option<&[u8]>, r
     requires { is_some (key_of op.now) ≡ true }
 {
     let answer = op.reply_at(make.alloc, value).expect(rt, "memory");
-    assert!(rt; is_reply(&answer, reply));
+    assert_that(rt, is_reply(&answer, reply));
 }
 
 // Compares what an operation on `k` answers where that has a 1, and where it has no value.
@@ -120,7 +121,7 @@ fn compare_replies<R: Abort>(
     let Some(key) = op.key() else {
         panic!(rt; "an operation on a key");
     };
-    assert!(rt; key.bytes() == b"k".as_slice());
+    assert_equal(rt, key.bytes(), b"k".as_slice());
     has_reply(rt, make, op, Some(b"1"), there);
     has_reply(rt, make, op, None, absent);
 }
@@ -155,5 +156,5 @@ fn each_operation_answers_by_the_value_at_its_key(rt: HostRuntime) {
 #[test]
 fn a_scan_has_no_key(rt: HostRuntime) {
     let make = Maker::new(&rt, rt.alloc());
-    assert!(rt; make.op(TextOp::Scan("k", None, 1)).key().is_none());
+    assert_that(&rt, make.op(TextOp::Scan("k", None, 1)).key().is_none());
 }

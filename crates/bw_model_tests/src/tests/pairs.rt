@@ -1,4 +1,5 @@
 // Pairs as keys and values of their own.
+use crate::tests::assertions::{assert_equal, assert_that};
 use bw_fixtures::{LONG, heap, was_refused};
 use bw_key::Key;
 use bw_memory::Alloc;
@@ -32,7 +33,7 @@ fn bytes_that_no_key_has_are_out_of_memory(rt: HostRuntime) {
     let alloc = heap(rt.alloc()).expect(&rt, "memory");
     let mut pairs = short_and_long(&rt, alloc);
     pairs.push(&[107; 65], b"1").expect(&rt, "memory");
-    assert!(rt; to_vec(alloc, &pairs).is_err());
+    assert_that(&rt, to_vec(alloc, &pairs).is_err());
 }
 
 #[test]
@@ -42,7 +43,7 @@ fn each_growth_of_pairs_of_their_own_is_refused(rt: HostRuntime) {
     for growth in 1..=4 {
         alloc.refuse(growth);
         let lacks_memory = to_vec(alloc, &pairs).is_err();
-        assert!(rt; lacks_memory == (growth < 4));
-        assert!(rt; was_refused(alloc, growth) == (growth < 4));
+        assert_equal(&rt, lacks_memory, growth < 4);
+        assert_equal(&rt, was_refused(alloc, growth), growth < 4);
     }
 }

@@ -1,6 +1,7 @@
 // Some thousand operations drawn from a seed, compared with a table of optional values.
 use super::making::{LONG, Maker, Pair};
 use super::reference::holds;
+use crate::tests::assertions::assert_that;
 use bw_fixtures::{Random, TextOp, TextReply};
 use bw_memory::Alloc;
 use bw_model::{Op, ReferenceMap, Reply};
@@ -147,7 +148,7 @@ fn same(left: &[Reply], right: &[Reply]) -> bool {
 // Compares the replies to a batch.
 fn are_answered<R: Abort>(rt: &R, map: &mut ReferenceMap, ops: &[Op], replies: &[Reply]) {
     let answered = map.run(ops).expect(rt, "memory");
-    assert!(rt; same(answered.as_slice(), replies));
+    assert_that(rt, same(answered.as_slice(), replies));
 }
 
 // Runs a batch of drawn operations, and compares its replies and the pairs afterwards.

@@ -1,5 +1,6 @@
 // The plain program: each operation over present and absent keys, and ranges.
 use super::making::{LONG, Maker, Pair};
+use crate::tests::assertions::{assert_equal, assert_that};
 use bw_fixtures::{TextOp, TextReply, are_replies, have_texts, is_reply};
 use bw_key::Key;
 use bw_memory::Alloc;
@@ -31,13 +32,13 @@ fn answers<R: Abort>(
 ) {
     let op = make.op(text);
     let answer = map.apply(&op).expect(rt, "memory");
-    assert!(rt; is_reply(&answer, reply));
+    assert_that(rt, is_reply(&answer, reply));
 }
 
 /// Compares the pairs of a map.
 pub fn holds<R: Abort>(rt: &R, map: &ReferenceMap, pairs: &[Pair]) {
     let entries = map.entries().expect(rt, "memory");
-    assert!(rt; have_texts(&entries, pairs));
+    assert_that(rt, have_texts(&entries, pairs));
 }
 
 // An operation, its reply, and the pairs afterwards.
@@ -55,8 +56,8 @@ fn a_new_map_is_empty(rt: HostRuntime) {
     let make = Maker::new(&rt, rt.alloc());
     make.alloc.refuse(1);
     let map = ReferenceMap::new(make.alloc);
-    assert!(rt; map.get(&make.key("")).is_none());
-    assert_eq!(rt; make.alloc.left(), 1);
+    assert_that(&rt, map.get(&make.key("")).is_none());
+    assert_equal(&rt, make.alloc.left(), 1);
     make.alloc.refuse(0);
     holds(&rt, &map, &[]);
 }
@@ -104,7 +105,7 @@ fn each_operation_over_a_key_that_is_not_there(rt: HostRuntime) {
 fn swaps<R: Abort>(rt: &R, make: &Maker<R>, map: &mut ReferenceMap, key: &Key) {
     let action = Action::SwapIf(make.value("1"), make.value(LONG));
     let answer = map.write(key, &action).expect(rt, "memory");
-    assert!(rt; is_reply(&answer, TextReply::Was("1")));
+    assert_that(rt, is_reply(&answer, TextReply::Was("1")));
 }
 
 // Whether a map has this text at a key.
@@ -121,8 +122,8 @@ fn a_write_is_answered_and_then_read(rt: HostRuntime) {
     let mut map = map_of(&rt, &make, &[("a", "1")]);
     let key = make.key("a");
     swaps(&rt, &make, &mut map, &key);
-    assert!(rt; has_at(&map, &key, LONG));
-    assert!(rt; map.get(&make.key("A")).is_none());
+    assert_that(&rt, has_at(&map, &key, LONG));
+    assert_that(&rt, map.get(&make.key("A")).is_none());
 }
 
 // The last pairs of a list, so many of them, the last one first.
@@ -143,7 +144,7 @@ fn scans<R: Abort>(
     pairs: &[Pair],
 ) {
     let scanned = map.scan(from, to, most).expect(rt, "memory");
-    assert!(rt; have_texts(&scanned, pairs));
+    assert_that(rt, have_texts(&scanned, pairs));
 }
 
 // And the last ones, the last one first.
@@ -155,7 +156,7 @@ fn scans_back<R: Abort>(
     pairs: &[Pair],
 ) {
     let scanned = map.rscan(from, to, most).expect(rt, "memory");
-    assert!(rt; have_texts(&scanned, pairs));
+    assert_that(rt, have_texts(&scanned, pairs));
 }
 
 // Compares the first pairs of a range, and the last ones, up to this many.
@@ -220,7 +221,7 @@ fn are_answered<R: Abort>(
 ) {
     let ops = make.ops(texts);
     let answered = map.run(&ops).expect(rt, "memory");
-    assert!(rt; are_replies(answered.as_slice(), replies));
+    assert_that(rt, are_replies(answered.as_slice(), replies));
 }
 
 #[test]
@@ -285,19 +286,19 @@ fn equal<R: Abort>(make: &Maker<R>, pairs: &Pairs, texts: &[Pair]) -> bool {
 fn pairs_are_equal_where_each_key_and_value_is(rt: HostRuntime) {
     let make = Maker::new(&rt, rt.alloc());
     let pairs = make.pairs(&[("a", "1"), ("b", "2")]);
-    assert!(rt; equal(&make, &pairs, &[("a", "1"), ("b", "2")]));
-    assert!(rt; !equal(&make, &pairs, &[("a", "1"), ("b", "3")]));
-    assert!(rt; !equal(&make, &pairs, &[("a", "1"), ("c", "2")]));
-    assert!(rt; !equal(&make, &pairs, &[("a", "1")]));
+    assert_that(&rt, equal(&make, &pairs, &[("a", "1"), ("b", "2")]));
+    assert_that(&rt, !equal(&make, &pairs, &[("a", "1"), ("b", "3")]));
+    assert_that(&rt, !equal(&make, &pairs, &[("a", "1"), ("c", "2")]));
+    assert_that(&rt, !equal(&make, &pairs, &[("a", "1")]));
 }
 
 #[test]
 fn pairs_give_back_what_they_were_made_of(rt: HostRuntime) {
     let make = Maker::new(&rt, rt.alloc());
     let pairs = make.pairs(&[("a", "1"), ("b", "2")]);
-    assert!(rt; have_texts(&pairs, &[("a", "1"), ("b", "2")]));
+    assert_that(&rt, have_texts(&pairs, &[("a", "1"), ("b", "2")]));
     let pairs = pairs.copy().expect(&rt, "memory");
-    assert!(rt; have_texts(&pairs, &[("a", "1"), ("b", "2")]));
+    assert_that(&rt, have_texts(&pairs, &[("a", "1"), ("b", "2")]));
 }
 
 #[test]
@@ -306,6 +307,6 @@ fn replies_give_back_what_they_were_made_of(rt: HostRuntime) {
     let expected = [TextReply::New, TextReply::Was("1")];
     let replies = vec![in make.alloc; Reply::New, make.was("1")].expect(&rt, "memory");
     let replies = Replies::from_vec(replies);
-    assert!(rt; are_replies(replies.as_slice(), &expected));
-    assert!(rt; are_replies(&replies.into_vec(), &expected));
+    assert_that(&rt, are_replies(replies.as_slice(), &expected));
+    assert_that(&rt, are_replies(&replies.into_vec(), &expected));
 }

@@ -1,6 +1,7 @@
 // Each growth of memory refused in turn.
 use super::making::{LONG, Maker, Pair};
 use super::reference::{holds, map_of};
+use crate::tests::assertions::{assert_equal, assert_that};
 use bw_fixtures::{TextOp, was_refused};
 use bw_key::Key;
 use bw_memory::Alloc;
@@ -59,7 +60,7 @@ fn meets_refusal<R: Abort>(rt: &R, make: &Maker<R>, work: &Work, growth: u64) ->
     let lacked = lacks_memory(&mut map, work);
     let refused = was_refused(make.alloc, growth);
 
-    assert!(rt; lacked == refused);
+    assert_equal(rt, lacked, refused);
     if refused {
         holds(rt, &map, BEFORE);
     }
@@ -78,7 +79,7 @@ fn refusals<R: Abort>(rt: &R, make: &Maker<R>, work: &Work) -> u64 {
 
 // Work that takes memory.
 fn is_refused<R: Abort>(rt: &R, make: &Maker<R>, work: &Work) {
-    assert!(rt; refusals(rt, make, work) > 0);
+    assert_that(rt, refusals(rt, make, work) > 0);
 }
 
 // A batch that takes memory.
@@ -120,7 +121,7 @@ fn each_operation_meets_each_refusal(rt: HostRuntime) {
         TextOp::Rscan("", None, 9),
     ];
     for text in texts {
-        assert!(rt; op_refusals(&rt, &make, text) > 0);
+        assert_that(&rt, op_refusals(&rt, &make, text) > 0);
     }
 }
 
@@ -139,5 +140,5 @@ fn a_batch_meets_each_refusal(rt: HostRuntime) {
 #[test]
 fn a_get_of_a_short_value_takes_no_memory(rt: HostRuntime) {
     let make = Maker::new(&rt, rt.alloc());
-    assert_eq!(rt; op_refusals(&rt, &make, TextOp::Get("a")), 0);
+    assert_equal(&rt, op_refusals(&rt, &make, TextOp::Get("a")), 0);
 }

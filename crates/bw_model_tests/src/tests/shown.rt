@@ -2,6 +2,7 @@
 ghost use Rattle.std.specs.Prelude.{◌≤◌};
 
 use super::making::{LONG, Maker};
+use crate::tests::assertions::{assert_equal, assert_that};
 use bw_fixtures::{TextOp, TextReply, was_refused};
 use bw_model::{Op, Reply};
 use std::process::Abort;
@@ -39,14 +40,14 @@ const REPLIES: [(TextReply, &str); 8] = [
 
 fn is_shown_op<R: Abort>(make: &Maker<'_, R>, rt: &R, op: &Op, text: &str) {
     let shown = format!(in make.alloc; "{op}").expect(rt, "memory");
-    assert!(rt; shown.as_str() == text);
-    assert!(rt; op.clone().expect(rt, "memory") == *op);
+    assert_equal(rt, shown.as_str(), text);
+    assert_equal(rt, &op.clone().expect(rt, "memory"), op);
 }
 
 fn is_shown_reply<R: Abort>(make: &Maker<'_, R>, rt: &R, reply: &Reply, text: &str) {
     let shown = format!(in make.alloc; "{reply}").expect(rt, "memory");
-    assert!(rt; shown.as_str() == text);
-    assert!(rt; reply.clone().expect(rt, "memory") == *reply);
+    assert_equal(rt, shown.as_str(), text);
+    assert_equal(rt, &reply.clone().expect(rt, "memory"), reply);
 }
 
 #[test]
@@ -66,25 +67,26 @@ fn a_reply_is_shown_as_it_is_printed(rt: HostRuntime) {
 }
 
 // Clones with each growth refused in turn, until none is.
-fn is_cloned<R: Abort>(make: &Maker<'_, R>, rt: &R, op: &Op, growths: u64)
+fn is_cloned<R: Abort>(make: &Maker<'_, R>, rt: &R, op: TextOp, growths: u64)
     requires { growths ≤ 3 }
 {
+    let op = make.op(op);
     for growth in 1..=growths {
         make.alloc.refuse(growth);
-        assert!(rt; op.clone().is_err());
-        assert!(rt; was_refused(make.alloc, growth));
+        assert_that(rt, op.clone().is_err());
+        assert_that(rt, was_refused(make.alloc, growth));
     }
     make.alloc.refuse(growths + 1);
-    assert!(rt; op.clone().is_ok());
-    assert!(rt; make.alloc.left() == 1);
+    assert_that(rt, op.clone().is_ok());
+    assert_equal(rt, make.alloc.left(), 1);
     make.alloc.refuse(0);
 }
 
 #[test]
 fn a_clone_takes_a_growth_for_each_long_key_and_value(rt: HostRuntime) {
     let make = Maker::new(&rt, rt.alloc());
-    is_cloned(&make, &rt, &make.op(TextOp::Get("a")), 0);
-    is_cloned(&make, &rt, &make.op(TextOp::Delete(LONG)), 1);
-    is_cloned(&make, &rt, &make.op(TextOp::SwapIf(LONG, LONG, LONG)), 3);
-    is_cloned(&make, &rt, &make.op(TextOp::Scan(LONG, Some(LONG), 1)), 2);
+    is_cloned(&make, &rt, TextOp::Get("a"), 0);
+    is_cloned(&make, &rt, TextOp::Delete(LONG), 1);
+    is_cloned(&make, &rt, TextOp::SwapIf(LONG, LONG, LONG), 3);
+    is_cloned(&make, &rt, TextOp::Scan(LONG, Some(LONG), 1), 2);
 }

@@ -2,6 +2,7 @@
 ghost use Rattle.std.specs.Prelude.{◌≡◌, ◌≤◌, length};
 
 use super::making::{Child, KEY, KEY_AND_VALUE, has, heap, list_of, push_all};
+use crate::tests::assertions::assert_that;
 use bw_memory::Alloc;
 use bw_packed::Packed;
 use std::process::Abort;
@@ -35,9 +36,9 @@ fn copies_run<R: Abort>(
 {
     let mut copy = list_of(rt, alloc, &entries[..start]);
     copy.extend(list, start..end).expect(rt, "memory");
-    assert!(rt; has(&copy, &entries[..end], 0));
+    assert_that(rt, has(&copy, &entries[..end], 0));
     push_all(&mut copy, &entries[end..], end).expect(rt, "memory");
-    assert!(rt; has(&copy, entries, 0));
+    assert_that(rt, has(&copy, entries, 0));
 }
 
 #[test]
@@ -57,13 +58,13 @@ fn a_list_is_cut_and_goes_on(rt: HostRuntime) {
     let alloc = heap(&rt, rt.alloc());
     let mut list = list_of(&rt, alloc, &ENTRIES);
     list.truncate(7);
-    assert!(rt; has(&list, &ENTRIES, 0));
+    assert_that(&rt, has(&list, &ENTRIES, 0));
     list.truncate(2);
-    assert!(rt; has(&list, &ENTRIES[..2], 0));
+    assert_that(&rt, has(&list, &ENTRIES[..2], 0));
     push_all(&mut list, &ENTRIES[2..], 2).expect(&rt, "memory");
-    assert!(rt; has(&list, &ENTRIES, 0));
+    assert_that(&rt, has(&list, &ENTRIES, 0));
     list.truncate(0);
-    assert!(rt; list.is_empty());
+    assert_that(&rt, list.is_empty());
 }
 
 #[test]

@@ -1,5 +1,6 @@
 // The memory that a list takes and gives back, and each growth refused in turn.
 use super::making::{Child, has, heap, list_of};
+use crate::tests::assertions::{assert_equal, assert_that};
 use bw_memory::{Alloc, Heap};
 use bw_packed::Packed;
 use std::process::Abort;
@@ -16,11 +17,11 @@ fn full_list<R: Abort>(rt: &R, alloc: Alloc) -> Packed<Child> {
 fn push_is_refused<R: Abort>(rt: &R, alloc: Alloc, growth: u64) {
     let mut list = full_list(rt, alloc);
     alloc.refuse(growth);
-    assert!(rt; list.push(b"c", Child(1)).is_err());
-    assert!(rt; alloc.left() == 0);
-    assert!(rt; has(&list, &[b"ab"], 0));
+    assert_that(rt, list.push(b"c", Child(1)).is_err());
+    assert_equal(rt, alloc.left(), 0);
+    assert_that(rt, has(&list, &[b"ab"], 0));
     list.push(b"c", Child(1)).expect(rt, "memory");
-    assert!(rt; has(&list, &[b"ab", b"c"], 0));
+    assert_that(rt, has(&list, &[b"ab", b"c"], 0));
 }
 
 // The same by a run of another list.
@@ -45,11 +46,11 @@ fn room_is_refused(alloc: Alloc, growth: u64) -> bool {
 fn each_growth_is_refused_in_turn(rt: HostRuntime) -> Result<(), Fail> {
     let alloc = Heap::counted(rt.alloc()).leak(rt.alloc())?;
     for growth in 1..3 {
-        assert!(rt; room_is_refused(alloc, growth));
+        assert_that(&rt, room_is_refused(alloc, growth));
         push_is_refused(&rt, alloc, growth);
         extend_is_refused(&rt, alloc, growth);
     }
-    assert!(rt; !room_is_refused(alloc, 3));
+    assert_that(&rt, !room_is_refused(alloc, 3));
     Ok(())
 }
 
@@ -62,7 +63,7 @@ fn fills_its_room<R: Abort>(rt: &R, alloc: Alloc, other: &Packed<Child>) {
     let mut list = Packed::with_capacity(alloc, 3, 6).expect(rt, "memory");
     list.push(b"ab", Child(0)).expect(rt, "memory");
     list.extend(other, 0..2).expect(rt, "memory");
-    assert!(rt; alloc.left() == 1);
+    assert_equal(rt, alloc.left(), 1);
 }
 
 #[test]
@@ -79,16 +80,16 @@ fn keeps_what_it_uses<R: Abort>(rt: &R, alloc: Alloc) {
     let mut list = Packed::with_capacity(alloc, 10, 100).expect(rt, "memory");
     list.push(b"ab", Child(0)).expect(rt, "memory");
     list.push(b"c", Child(1)).expect(rt, "memory");
-    assert!(rt; alloc.used() == 260);
+    assert_equal(rt, alloc.used(), 260);
     list.shrink_to_fit();
-    assert!(rt; alloc.used() == 35);
-    assert!(rt; has(&list, &[b"ab", b"c"], 0));
+    assert_equal(rt, alloc.used(), 35);
+    assert_that(rt, has(&list, &[b"ab", b"c"], 0));
 }
 
 #[test]
 fn what_is_dropped_gives_its_memory_back(rt: HostRuntime) -> Result<(), Fail> {
     let alloc = Heap::within(rt.alloc(), 4096).leak(rt.alloc())?;
     keeps_what_it_uses(&rt, alloc);
-    assert!(rt; alloc.used() == 0);
+    assert_equal(&rt, alloc.used(), 0);
     Ok(())
 }

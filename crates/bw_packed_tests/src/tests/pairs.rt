@@ -1,5 +1,6 @@
 // Lists of pairs.
 use super::making::{KEY, heap};
+use crate::tests::assertions::{assert_equal, assert_that};
 use bw_memory::{Alloc, Heap};
 use bw_packed::{Pairs, Run};
 use std::process::Abort;
@@ -94,15 +95,15 @@ fn a_place_is_behind_the_pairs_with_smaller_keys(rt: HostRuntime) {
     let alloc = heap(&rt, rt.alloc());
     let mut pairs = all_pairs(&rt, alloc);
     for (place, key) in KEYS.iter().enumerate() {
-        assert!(rt; pairs.all().place(key) == place);
-        assert!(rt; finds(&pairs.all(), key, place));
+        assert_equal(&rt, pairs.all().place(key), place);
+        assert_that(&rt, finds(&pairs.all(), key, place));
     }
-    assert!(rt; pairs.all().place(b"aa") == 2);
-    assert!(rt; lacks(&pairs.all(), b"aa", 2));
-    assert!(rt; pairs.all().place(b"l") == 4);
+    assert_equal(&rt, pairs.all().place(b"aa"), 2);
+    assert_that(&rt, lacks(&pairs.all(), b"aa", 2));
+    assert_equal(&rt, pairs.all().place(b"l"), 4);
     pairs.truncate(1);
-    assert!(rt; pairs.all().place(b"l") == 1);
-    assert!(rt; Pairs::new(alloc).all().place(b"a") == 0);
+    assert_equal(&rt, pairs.all().place(b"l"), 1);
+    assert_equal(&rt, Pairs::new(alloc).all().place(b"a"), 0);
 }
 
 // Whether a run has the pairs that stand from this place on in the list of all.
@@ -165,11 +166,11 @@ fn a_run_has_the_bytes_of_its_pairs(rt: HostRuntime) {
 fn a_copy_is_equal(rt: HostRuntime) {
     let pairs = all_pairs(&rt, heap(&rt, rt.alloc()));
     let copy = pairs.copy().expect(&rt, "memory");
-    assert!(rt; are_all(&copy));
-    assert!(rt; copy == pairs);
+    assert_that(&rt, are_all(&copy));
+    assert_equal(&rt, &copy, &pairs);
     let clone = pairs.clone().expect(&rt, "memory");
-    assert!(rt; are_all(&clone));
-    assert!(rt; clone == pairs);
+    assert_that(&rt, are_all(&clone));
+    assert_equal(&rt, clone, pairs);
 }
 
 // Whether pairs equal these.
@@ -192,18 +193,31 @@ fn pairs_are_equal_where_each_key_and_value_is(rt: HostRuntime) {
     let mut pairs = Pairs::new(alloc);
     pairs.push(b"a", b"12").expect(&rt, "memory");
     pairs.push(b"b", b"3").expect(&rt, "memory");
-    assert!(rt; equal(&rt, alloc, &pairs, &[(b"a", b"12"), (b"b", b"3")]));
-    assert!(rt; !equal(&rt, alloc, &pairs, &[(b"a", b"12"), (b"c", b"3")]));
-    assert!(rt; !equal(&rt, alloc, &pairs, &[(b"a", b"12"), (b"b", b"4")]));
-    assert!(rt; !equal(&rt, alloc, &pairs, &[(b"a1", b"2"), (b"b", b"3")]));
-    assert!(rt; !equal(&rt, alloc, &pairs, &[(b"a", b"12")]));
-    assert!(rt;
+    assert_that(
+        &rt,
+        equal(&rt, alloc, &pairs, &[(b"a", b"12"), (b"b", b"3")]),
+    );
+    assert_that(
+        &rt,
+        !equal(&rt, alloc, &pairs, &[(b"a", b"12"), (b"c", b"3")]),
+    );
+    assert_that(
+        &rt,
+        !equal(&rt, alloc, &pairs, &[(b"a", b"12"), (b"b", b"4")]),
+    );
+    assert_that(
+        &rt,
+        !equal(&rt, alloc, &pairs, &[(b"a1", b"2"), (b"b", b"3")]),
+    );
+    assert_that(&rt, !equal(&rt, alloc, &pairs, &[(b"a", b"12")]));
+    assert_that(
+        &rt,
         !equal(
             &rt,
             alloc,
             &pairs,
-            &[(b"a", b"12"), (b"b", b"3"), (b"c", b"4")]
-        )
+            &[(b"a", b"12"), (b"b", b"3"), (b"c", b"4")],
+        ),
     );
 }
 
@@ -211,16 +225,16 @@ fn pairs_are_equal_where_each_key_and_value_is(rt: HostRuntime) {
 fn keep_what_they_use<R: Abort>(rt: &R, alloc: Alloc) {
     let mut pairs = Pairs::with_capacity(alloc, 10, 100).expect(rt, "memory");
     pairs.push(b"key", b"value").expect(rt, "memory");
-    assert!(rt; alloc.used() == 180);
+    assert_equal(rt, alloc.used(), 180);
     pairs.shrink_to_fit();
-    assert!(rt; alloc.used() == 16);
+    assert_equal(rt, alloc.used(), 16);
 }
 
 #[test]
 fn what_is_dropped_gives_its_memory_back(rt: HostRuntime) -> Result<(), Fail> {
     let alloc = Heap::within(rt.alloc(), 4096).leak(rt.alloc())?;
     keep_what_they_use(&rt, alloc);
-    assert!(rt; alloc.used() == 0);
+    assert_equal(&rt, alloc.used(), 0);
     Ok(())
 }
 
@@ -236,8 +250,8 @@ fn each_growth_is_refused_in_turn(rt: HostRuntime) -> Result<(), Fail> {
     let alloc = Heap::counted(rt.alloc()).leak(rt.alloc())?;
     let other = all_pairs(&rt, heap(&rt, rt.alloc()));
     for growth in 1..5 {
-        assert!(rt; lacks_memory(alloc, &other, growth));
-        assert!(rt; alloc.left() == 0);
+        assert_that(&rt, lacks_memory(alloc, &other, growth));
+        assert_equal(&rt, alloc.left(), 0);
     }
     Ok(())
 }

@@ -2,6 +2,7 @@
 ghost use Rattle.std.specs.Prelude.{◌≡◌, [], length};
 
 use super::making::from_start_and_c;
+use crate::tests::assertions::{assert_equal, assert_that};
 use bw_fixtures::{LONG, are, heap, key, was_refused};
 use bw_memory::Alloc;
 use bw_model::Pairs;
@@ -33,10 +34,10 @@ fn is_leaf<R: Abort>(
     side: u32,
     wanted: &[(&'static [u8], &'static [u8])],
 ) {
-    assert!(rt; leaf.low().bytes() == low);
-    assert!(rt; leaf.high().map(|end| end.bytes()) == Some(high));
-    assert!(rt; leaf.side() == Some(PageId(side)));
-    assert!(rt; are(leaf.pairs(), wanted));
+    assert_equal(rt, leaf.low().bytes(), low);
+    assert_equal(rt, leaf.high().map(|end| end.bytes()), Some(high));
+    assert_equal(rt, leaf.side(), Some(PageId(side)));
+    assert_that(rt, are(leaf.pairs(), wanted));
 }
 
 // Compares the leaf of three pairs.
@@ -74,8 +75,8 @@ fn leaf_refused<R: Abort>(rt: &R, alloc: Alloc, leaf: &mut Leaf, growth: u64) {
 fn leaf_keeps_room<R: Abort>(rt: &R, alloc: Alloc, growth: u64) {
     let mut leaf = three(rt, alloc);
     alloc.refuse(growth);
-    assert!(rt; leaf.cut(1).is_ok());
-    assert!(rt; was_refused(alloc, growth));
+    assert_that(rt, leaf.cut(1).is_ok());
+    assert_that(rt, was_refused(alloc, growth));
     is_leaf(rt, &leaf, b"", b"c", 1, &[(b"a", b"1")]);
 }
 
@@ -97,7 +98,7 @@ fn a_leaf_is_narrowed_with_no_memory(rt: HostRuntime) {
     let end = key(alloc, b"b").expect(&rt, "memory");
     alloc.refuse(1);
     leaf.narrow(end, PageId(7));
-    assert_eq!(rt; alloc.left(), 1);
+    assert_equal(&rt, alloc.left(), 1);
     is_leaf(&rt, &leaf, b"", b"b", 7, &[(b"a", b"1"), (LONG, LONG)]);
 }
 
@@ -110,10 +111,10 @@ fn three_children<R: Abort>(rt: &R, alloc: Alloc) -> Inner {
 
 // Compares the separators and children of a page.
 fn has_children<R: Abort>(rt: &R, inner: &Inner, wanted: &[(&'static [u8], u32)]) {
-    assert_eq!(rt; inner.children().len(), wanted.len());
+    assert_equal(rt, inner.children().len(), wanted.len());
     for (child, (sep, page)) in inner.children().iter().zip(wanted) {
-        assert!(rt; child.0.bytes() == *sep);
-        assert_eq!(rt; child.1.0, *page);
+        assert_equal(rt, child.0.bytes(), *sep);
+        assert_equal(rt, child.1.0, *page);
     }
 }
 
@@ -155,8 +156,12 @@ fn an_inner_page_is_narrowed_with_no_memory(rt: HostRuntime) {
     let end = key(alloc, b"c").expect(&rt, "memory");
     alloc.refuse(1);
     inner.narrow(end, PageId(7));
-    assert_eq!(rt; alloc.left(), 1);
+    assert_equal(&rt, alloc.left(), 1);
     has_children(&rt, &inner, &[(b"", 0)]);
-    assert!(rt; inner.high().map(|end| end.bytes()) == Some(b"c".as_slice()));
-    assert!(rt; inner.side() == Some(PageId(7)));
+    assert_equal(
+        &rt,
+        inner.high().map(|end| end.bytes()),
+        Some(b"c".as_slice()),
+    );
+    assert_equal(&rt, inner.side(), Some(PageId(7)));
 }

@@ -1,4 +1,5 @@
 // Pages that are dropped give their memory back, with all that is in them.
+use crate::tests::assertions::{assert_equal, assert_that};
 use bw_fixtures::{LONG, key, one, pair};
 use bw_memory::{Alloc, Heap};
 use bw_page::{Inner, Leaf, PageId};
@@ -16,7 +17,7 @@ fn drop_leaf<R: Abort>(rt: &R, alloc: Alloc) {
         key(alloc, LONGER).expect(rt, "memory"),
     );
     let leaf = Leaf::from_pairs(low, Some(high), Some(PageId(1)), pairs);
-    assert!(rt; alloc.used() > 100);
+    assert_that(rt, alloc.used() > 100);
     drop(leaf);
 }
 
@@ -31,7 +32,7 @@ fn drop_inner<R: Abort>(rt: &R, alloc: Alloc) {
         key(alloc, LONGER).expect(rt, "memory"),
     );
     let inner = Inner::from_children(1, low, Some(high), Some(PageId(9)), children);
-    assert!(rt; alloc.used() > 100);
+    assert_that(rt, alloc.used() > 100);
     drop(inner);
 }
 
@@ -39,8 +40,8 @@ fn drop_inner<R: Abort>(rt: &R, alloc: Alloc) {
 fn what_is_dropped_gives_its_memory_back(rt: HostRuntime) -> Result<(), Fail> {
     let alloc = Heap::within(rt.alloc(), 4096).leak(rt.alloc())?;
     drop_leaf(&rt, alloc);
-    assert_eq!(rt; alloc.used(), 0);
+    assert_equal(&rt, alloc.used(), 0);
     drop_inner(&rt, alloc);
-    assert_eq!(rt; alloc.used(), 0);
+    assert_equal(&rt, alloc.used(), 0);
     Ok(())
 }

@@ -1,5 +1,6 @@
 // Inner pages.
 use super::making::{c_with, from_c, from_start, from_start_and_c};
+use crate::tests::assertions::{assert_equal, assert_that};
 use bw_fixtures::{heap, key};
 use bw_key::Key;
 use bw_memory::Alloc;
@@ -8,19 +9,19 @@ use std::process::Abort;
 
 // Compares a page's separators and children with the wanted ones.
 fn has_children<R: Abort>(rt: &R, inner: &Inner, wanted: &[(&'static [u8], u32)]) {
-    assert_eq!(rt; inner.children().len(), wanted.len());
+    assert_equal(rt, inner.children().len(), wanted.len());
     for (child, (sep, page)) in inner.children().iter().zip(wanted) {
-        assert!(rt; child.0.bytes() == *sep);
-        assert_eq!(rt; child.1.0, *page);
+        assert_equal(rt, child.0.bytes(), *sep);
+        assert_equal(rt, child.1.0, *page);
     }
 }
 
 // Compares the low key of a page over leaves, which is the last one.
 fn is_last_from<R: Abort>(rt: &R, inner: &Inner, low: &[u8]) {
-    assert_eq!(rt; inner.level(), 1);
-    assert!(rt; inner.low().bytes() == low);
-    assert!(rt; inner.high().is_none());
-    assert!(rt; inner.side().is_none());
+    assert_equal(rt, inner.level(), 1);
+    assert_equal(rt, inner.low().bytes(), low);
+    assert_that(rt, inner.high().is_none());
+    assert_that(rt, inner.side().is_none());
 }
 
 // The child that a page has for a key of its range.
@@ -38,10 +39,14 @@ fn child_for<R: Abort>(rt: &R, alloc: Alloc, inner: &Inner, bytes: &[u8]) -> u32
 fn an_inner_page_has_its_bounds_and_children(rt: HostRuntime) {
     let alloc = heap(rt.alloc()).expect(&rt, "memory");
     let inner = from_start(&rt, alloc);
-    assert_eq!(rt; inner.level(), 1);
-    assert!(rt; inner.low().bytes() == b"".as_slice());
-    assert!(rt; inner.high().map(|high| high.bytes()) == Some(b"c".as_slice()));
-    assert!(rt; inner.side() == Some(PageId(9)));
+    assert_equal(&rt, inner.level(), 1);
+    assert_equal(&rt, inner.low().bytes(), b"".as_slice());
+    assert_equal(
+        &rt,
+        inner.high().map(|high| high.bytes()),
+        Some(b"c".as_slice()),
+    );
+    assert_equal(&rt, inner.side(), Some(PageId(9)));
     has_children(&rt, &inner, &[(b"", 0)]);
 }
 
@@ -108,9 +113,9 @@ fn a_key_belongs_to_the_last_separator_up_to_it(rt: HostRuntime) {
         (b"z", 1),
     ];
     for (bytes, child) in wanted {
-        assert!(rt; child_for(&rt, alloc, &inner, bytes) == child);
+        assert_equal(&rt, child_for(&rt, alloc, &inner, bytes), child);
     }
-    assert!(rt; child_for(&rt, alloc, &from_c(&rt, alloc), b"c") == 1);
+    assert_equal(&rt, child_for(&rt, alloc, &from_c(&rt, alloc), b"c"), 1);
 }
 
 // The level of a page, or the page that took a removed one's range over.
@@ -135,7 +140,7 @@ fn removed_into(rt: &impl Abort, alloc: Alloc, left: PageId) -> Page {
 #[test]
 fn a_page_is_of_one_kind(rt: HostRuntime) {
     let alloc = heap(rt.alloc()).expect(&rt, "memory");
-    assert!(rt; told(&Page::Leaf(c_with(&rt, alloc, b"3"))) == 0);
-    assert!(rt; told(&Page::Inner(from_c(&rt, alloc))) == 1);
-    assert!(rt; told(&removed_into(&rt, alloc, PageId(4))) == 4);
+    assert_equal(&rt, told(&Page::Leaf(c_with(&rt, alloc, b"3"))), 0);
+    assert_equal(&rt, told(&Page::Inner(from_c(&rt, alloc))), 1);
+    assert_equal(&rt, told(&removed_into(&rt, alloc, PageId(4))), 4);
 }

@@ -1,5 +1,6 @@
 // Leaves.
 use super::making::c_with;
+use crate::tests::assertions::{assert_equal, assert_that};
 use bw_fixtures::{are, heap, key, up_to_c};
 use bw_key::Key;
 use bw_memory::Alloc;
@@ -23,14 +24,14 @@ fn c_to_h<R: Abort>(rt: &R, alloc: Alloc) -> Leaf {
 
 // Compares a leaf's pairs with the bytes of the wanted ones.
 fn has_pairs<R: Abort>(rt: &R, leaf: &Leaf, wanted: &[(&'static [u8], &'static [u8])]) {
-    assert!(rt; are(leaf.pairs(), wanted));
+    assert_that(rt, are(leaf.pairs(), wanted));
 }
 
 // Compares the low key of a leaf, which is the last one.
 fn is_last_from<R: Abort>(rt: &R, leaf: &Leaf, low: &[u8]) {
-    assert!(rt; leaf.low().bytes() == low);
-    assert!(rt; leaf.high().is_none());
-    assert!(rt; leaf.side().is_none());
+    assert_equal(rt, leaf.low().bytes(), low);
+    assert_that(rt, leaf.high().is_none());
+    assert_that(rt, leaf.side().is_none());
 }
 
 #[test]
@@ -38,19 +39,26 @@ fn an_empty_leaf_has_all_keys_and_no_pair(rt: HostRuntime) {
     let alloc = heap(rt.alloc()).expect(&rt, "memory");
     alloc.refuse(1);
     let leaf = Leaf::empty(alloc);
-    assert_eq!(rt; alloc.left(), 1);
+    assert_equal(&rt, alloc.left(), 1);
     is_last_from(&rt, &leaf, b"");
     has_pairs(&rt, &leaf, &[]);
-    assert!(rt; leaf.find(&key(alloc, b"").expect(&rt, "memory")).is_none());
+    assert_that(
+        &rt,
+        leaf.find(&key(alloc, b"").expect(&rt, "memory")).is_none(),
+    );
 }
 
 #[test]
 fn a_leaf_has_its_bounds_and_pairs(rt: HostRuntime) {
     let alloc = heap(rt.alloc()).expect(&rt, "memory");
     let leaf = c_to_h(&rt, alloc);
-    assert!(rt; leaf.low().bytes() == b"c".as_slice());
-    assert!(rt; leaf.high().map(|high| high.bytes()) == Some(b"h".as_slice()));
-    assert!(rt; leaf.side() == Some(PageId(7)));
+    assert_equal(&rt, leaf.low().bytes(), b"c".as_slice());
+    assert_equal(
+        &rt,
+        leaf.high().map(|high| high.bytes()),
+        Some(b"h".as_slice()),
+    );
+    assert_equal(&rt, leaf.side(), Some(PageId(7)));
     has_pairs(
         &rt,
         &leaf,
@@ -71,13 +79,14 @@ fn a_key_is_found_among_the_pairs_alone(rt: HostRuntime) {
     for (bytes, wanted) in found {
         let key = key(alloc, bytes).expect(&rt, "memory");
         alloc.refuse(1);
-        assert!(rt; leaf.find(&key) == Some(wanted));
-        assert_eq!(rt; alloc.left(), 1);
+        assert_equal(&rt, leaf.find(&key), Some(wanted));
+        assert_equal(&rt, alloc.left(), 1);
     }
     for bytes in [b"".as_slice(), b"b", b"cc", b"e", b"g", b"h", b"z"] {
-        assert!(rt;
+        assert_that(
+            &rt,
             leaf.find(&key(alloc, bytes).expect(&rt, "memory"))
-                .is_none()
+                .is_none(),
         );
     }
 }
@@ -110,7 +119,7 @@ fn a_range_has_its_pairs_and_takes_no_memory(rt: HostRuntime) {
     has_between(&rt, &leaf, &d, Some(&f), &[b"d", b"dd"]);
     has_between(&rt, &leaf, &e, None, &[b"f"]);
     has_between(&rt, &leaf, &f, Some(&d), &[]);
-    assert_eq!(rt; alloc.left(), 1);
+    assert_equal(&rt, alloc.left(), 1);
 }
 
 #[test]
@@ -138,9 +147,9 @@ fn the_upper_half_begins_with_the_first_pair_that_moves(rt: HostRuntime) {
 
 #[test]
 fn page_names_are_their_numbers(rt: HostRuntime) {
-    assert_eq!(rt; PageId(3), PageId(3));
+    assert_equal(&rt, PageId(3), PageId(3));
     assert_ne!(rt; PageId(3), PageId(4));
-    assert!(rt; PageId(u32::MAX).0 == 4294967295);
+    assert_equal(&rt, PageId(u32::MAX).0, 4294967295);
 }
 
 #[test]

@@ -1,6 +1,7 @@
 // Keys of any bytes, and numbers that a picture has no room for.
 use super::making::{Row, drawn};
 use super::tags::are_closed;
+use crate::tests::assertions::assert_that;
 use bw_fixtures::heap;
 use bw_memory::Alloc;
 use std::process::Abort;
@@ -11,9 +12,9 @@ const LONGEST: &[u8] = b"0123456789abcdef0123456789abcdef0123456789abcdef0123456
 // Draws one leaf, and compares a part of its text.
 fn has<R: Abort>(rt: &R, alloc: Alloc, leaf: Row, part: &str) {
     let text = drawn(rt, alloc, &[leaf]);
-    assert!(rt; are_closed(&text));
+    assert_that(rt, are_closed(&text));
     let text = String::from_utf8(text).expect(rt, "a text");
-    assert!(rt; text.as_str().contains(part));
+    assert_that(rt, text.as_str().contains(part));
 }
 
 #[test]

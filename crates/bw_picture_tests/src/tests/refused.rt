@@ -1,5 +1,6 @@
 // Each growth of memory refused in turn.
 use super::making::{THREE, pages_of};
+use crate::tests::assertions::{assert_equal, assert_that};
 use bw_fixtures::{heap, was_refused};
 use bw_memory::Alloc;
 use bw_picture::{PageShape, picture};
@@ -10,7 +11,7 @@ fn picture_refused<R: Abort>(rt: &R, alloc: Alloc, pages: &[PageShape], growth: 
     alloc.refuse(growth);
     let text = picture(alloc, pages, 4);
     let refused = was_refused(alloc, growth);
-    assert!(rt; text.is_err() == refused);
+    assert_equal(rt, text.is_err(), refused);
     refused
 }
 
@@ -20,7 +21,7 @@ fn each_growth_of_a_picture_is_refused(rt: HostRuntime) {
     let pages = pages_of(alloc, &THREE).expect(&rt, "the pages");
     for growth in 1..200 {
         if !picture_refused(&rt, alloc, &pages, growth) {
-            assert!(rt; growth > 20);
+            assert_that(&rt, growth > 20);
             return;
         }
     }

@@ -1,5 +1,7 @@
 // Whether the tags of a text are closed.
 
+use crate::tests::assertions::assert_that;
+
 // What was read so far.
 #[derive(Clone, Copy)]
 struct Reading {
@@ -73,9 +75,9 @@ pub fn are_closed(text: &[u8]) -> bool {
 
 #[test]
 fn open_tags_are_found(rt: HostRuntime) {
-    assert!(rt; are_closed(b"<g x=\"1\"><a/>text</g>"));
-    assert!(rt; !are_closed(b"<g><a></g>"));
-    assert!(rt; !are_closed(b"<g></g></g>"));
-    assert!(rt; !are_closed(b"<g <a/>></g>"));
-    assert!(rt; !are_closed(b"<g></g"));
+    assert_that(&rt, are_closed(b"<g x=\"1\"><a/>text</g>"));
+    assert_that(&rt, !are_closed(b"<g><a></g>"));
+    assert_that(&rt, !are_closed(b"<g></g></g>"));
+    assert_that(&rt, !are_closed(b"<g <a/>></g>"));
+    assert_that(&rt, !are_closed(b"<g></g"));
 }

@@ -1,5 +1,6 @@
 // Whole pictures, against texts that were written by hand.
 use super::making::{THREE, drawn};
+use crate::tests::assertions::assert_equal;
 use bw_fixtures::heap;
 
 const NO_PAGES: &str =
@@ -52,11 +53,15 @@ const THREE_PAGES: &str =
 #[test]
 fn no_pages_are_a_white_ground(rt: HostRuntime) {
     let alloc = heap(rt.alloc()).expect(&rt, "memory");
-    assert!(rt; drawn(&rt, alloc, &[]).as_slice() == NO_PAGES.as_bytes());
+    assert_equal(&rt, drawn(&rt, alloc, &[]).as_slice(), NO_PAGES.as_bytes());
 }
 
 #[test]
 fn three_pages_are_drawn(rt: HostRuntime) {
     let alloc = heap(rt.alloc()).expect(&rt, "memory");
-    assert!(rt; drawn(&rt, alloc, &THREE).as_slice() == THREE_PAGES.as_bytes());
+    assert_equal(
+        &rt,
+        drawn(&rt, alloc, &THREE).as_slice(),
+        THREE_PAGES.as_bytes(),
+    );
 }

@@ -1,6 +1,7 @@
 // Pictures of trees.
 use super::making::{Row, drawn};
 use super::tags::are_closed;
+use crate::tests::assertions::{assert_equal, assert_that};
 use bw_fixtures::{heap, three_leaves};
 use bw_memory::Alloc;
 use bw_picture::picture;
@@ -36,16 +37,21 @@ fn a_tree_is_drawn_as_its_list(rt: HostRuntime) {
     let alloc = heap(rt.alloc()).expect(&rt, "memory");
     let leaves = three_leaves(alloc, b"1").expect(&rt, "the leaves");
     let tree = Tree::from_level(alloc, leaves).expect(&rt, "a tree");
-    assert!(rt; picture_of(&rt, alloc, &tree) == drawn(&rt, alloc, &LISTED));
+    assert_equal(
+        &rt,
+        picture_of(&rt, alloc, &tree),
+        drawn(&rt, alloc, &LISTED),
+    );
 }
 
 #[test]
 fn inner_pages_stand_above_their_leaves(rt: HostRuntime) {
     let alloc = heap(rt.alloc()).expect(&rt, "memory");
     let text = drawn(&rt, alloc, &FOUR_LEVELS);
-    assert!(rt; are_closed(&text));
+    assert_that(&rt, are_closed(&text));
     let text = String::from_utf8(text).expect(&rt, "a text");
-    assert!(rt;
-        text.as_str().contains("<g transform=\"translate(420 344)\">\n<title>inner page 4,")
+    assert_that(
+        &rt,
+        text.as_str().contains("<g transform=\"translate(420 344)\">\n<title>inner page 4,"),
     );
 }

@@ -2,6 +2,7 @@
 ghost use Rattle.std.specs.Prelude.{◌≡◌, None};
 
 use super::making::{FLOOR, batch, holds, post, stands, three, upsert};
+use crate::tests::assertions::assert_equal;
 use bw_fixtures::{heap, key, was_refused};
 use bw_key::Memory;
 use bw_memory::Alloc;
@@ -45,10 +46,10 @@ fn consolidate<R: Abort>(
 fn one_leaf_of_three_is_consolidated(rt: HostRuntime) {
     let alloc = heap(rt.alloc()).expect(&rt, "memory");
     let mut tree = written(&rt, alloc);
-    assert!(rt; consolidate(&rt, alloc, &mut tree, b"d") == Ok(PageId(1)));
+    assert_equal(&rt, consolidate(&rt, alloc, &mut tree, b"d"), Ok(PageId(1)));
     stands(&rt, &tree, &[0, 1, FLOOR + 1, 3], 2, 3);
     holds(&rt, alloc, &tree, 3, &AFTER);
-    assert!(rt; consolidate(&rt, alloc, &mut tree, b"e") == Ok(PageId(2)));
+    assert_equal(&rt, consolidate(&rt, alloc, &mut tree, b"e"), Ok(PageId(2)));
     stands(&rt, &tree, &[0, 1, 2, 3], 2, 3);
     holds(&rt, alloc, &tree, 3, &AFTER);
 }
@@ -100,7 +101,7 @@ fn consolidation_refused<R: Abort + Threads + Sync>(rt: &R, alloc: Alloc, growth
     alloc.refuse(growth);
     let consolidated = consolidate(rt, alloc, &mut tree, b"c");
     let refused = was_refused(alloc, growth);
-    assert!(rt; consolidated.is_err() == (refused && growth <= 4));
+    assert_equal(rt, consolidated.is_err(), refused && growth <= 4);
     if consolidated.is_err() {
         stands(rt, &tree, &[0, FLOOR, FLOOR + 1, 3], 2, 3);
     }
@@ -113,7 +114,7 @@ fn each_growth_of_a_consolidation_is_refused(rt: HostRuntime) {
     let alloc = heap(rt.alloc()).expect(&rt, "memory");
     for growth in 1..100 {
         if !consolidation_refused(&rt, alloc, growth) {
-            assert_eq!(rt; growth, 7);
+            assert_equal(&rt, growth, 7);
             return;
         }
     }

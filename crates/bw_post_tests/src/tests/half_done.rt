@@ -4,6 +4,7 @@ ghost use Rattle.std.specs.Prelude.{◌≡◌, None};
 use super::making::{has, holds, upsert};
 use super::shapes::has_pages;
 use super::tidying::{five, five_tidied, run, tidy_does};
+use crate::tests::assertions::assert_equal;
 use bw_fixtures::{heap, key};
 use bw_memory::Alloc;
 use bw_model::Op;
@@ -24,7 +25,7 @@ fn split_at<R: Abort>(rt: &R, tree: &mut Tree, page: u32, keep: usize)
     ensures next { tree.new.next ≡ tree.old.next }
     ensures staged { tree.new.staged ≡ None }
 {
-    assert!(rt; split(tree, PageId(page), keep) == Ok(Did::Done));
+    assert_equal(rt, split(tree, PageId(page), keep), Ok(Did::Done));
 }
 
 // Finishes the split of a page.
@@ -33,7 +34,7 @@ fn finish<R: Abort>(rt: &R, tree: &mut Tree, page: u32, wanted: Did)
     ensures next { tree.new.next ≡ tree.old.next }
     ensures staged { tree.new.staged ≡ None }
 {
-    assert!(rt; finish_split(tree, PageId(page)) == Ok(wanted));
+    assert_equal(rt, finish_split(tree, PageId(page)), Ok(wanted));
 }
 
 // Puts a root over a root that was split.
@@ -42,7 +43,7 @@ fn grow<R: Abort>(rt: &R, tree: &mut Tree)
     ensures next { tree.new.next ≡ tree.old.next }
     ensures staged { tree.new.staged ≡ None }
 {
-    assert!(rt; grow_root(tree) == Ok(Did::Done));
+    assert_equal(rt, grow_root(tree), Ok(Did::Done));
 }
 
 /// Runs a batch of stamps from 5 on: get d, upsert d 9, upsert b 8.

@@ -3,6 +3,7 @@ ghost use Rattle.std.specs.Prelude.{◌≡◌, ◌<◌, ◌≤◌, ◌+◌, ◌^
 ghost use Rattle.bw_tree.specs.Stages.{staged_on};
 ghost use Rattle.bw_tree.specs.Words.{IsPostedStageOn};
 
+use crate::tests::assertions::{assert_equal, assert_that};
 use bw_fixtures::{are, key, three_leaves, value};
 use bw_group::Grouping;
 use bw_memory::Alloc;
@@ -25,9 +26,9 @@ pub fn three<R: Abort>(rt: &R, alloc: Alloc) -> Tree
 
 /// Compares a tree's mapping words, how many records it has, and its next stamp.
 pub fn stands<R: Abort>(rt: &R, tree: &Tree, heads: &[u64], records: usize, next: u64) {
-    assert!(rt; tree.heads() == heads);
-    assert_eq!(rt; tree.records(), records);
-    assert_eq!(rt; tree.next_stamp(), next);
+    assert_equal(rt, tree.heads(), heads);
+    assert_equal(rt, tree.records(), records);
+    assert_equal(rt, tree.next_stamp(), next);
 }
 
 /// A put of a value at a key.
@@ -63,7 +64,7 @@ fn has_at<R: Abort>(
     let found = tree
         .value_at(&key(alloc, bytes).expect(rt, "memory"), stamp)
         .expect(rt, "memory");
-    assert!(rt; found.as_ref().map(|value| value.bytes()) == wanted);
+    assert_equal(rt, found.as_ref().map(|value| value.bytes()), wanted);
 }
 
 /// Compares the values at keys as of a stamp.
@@ -89,7 +90,7 @@ pub fn holds<R: Abort>(
 ) {
     let from = key(alloc, b"").expect(rt, "memory");
     let pairs = tree.scan_at(&from, None, 9, stamp).expect(rt, "memory");
-    assert!(rt; are(&pairs, wanted));
+    assert_that(rt, are(&pairs, wanted));
 }
 
 /// Stages a batch and posts it by one worker.

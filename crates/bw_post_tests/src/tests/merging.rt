@@ -7,6 +7,7 @@ use super::half_done::{
 use super::making::{has, holds};
 use super::shapes::has_pages;
 use super::tidying::{five_tidied, tidy_does};
+use crate::tests::assertions::{assert_equal, assert_that};
 use bw_fixtures::{are, heap, key};
 use bw_memory::Alloc;
 use bw_page::PageId;
@@ -21,7 +22,7 @@ fn finish<R: Abort>(rt: &R, tree: &mut Tree, page: u32)
     ensures next { tree.new.next ≡ tree.old.next }
     ensures staged { tree.new.staged ≡ None }
 {
-    assert!(rt; finish_absorb(tree, PageId(page)) == Ok(Did::Done));
+    assert_equal(rt, finish_absorb(tree, PageId(page)), Ok(Did::Done));
 }
 
 // Two leaves under a root, the right one of which was merged into the left one.
@@ -30,8 +31,8 @@ fn half_merged<R: Abort + Threads + Sync>(rt: &R, alloc: Alloc) -> Tree
     ensures staged { result.staged ≡ None }
 {
     let mut tree = five_tidied(rt, alloc);
-    assert!(rt; consolidate(&mut tree, PageId(0)) == Ok(Did::Done));
-    assert!(rt; absorb(&mut tree, PageId(1)) == Ok(Did::Done));
+    assert_equal(rt, consolidate(&mut tree, PageId(0)), Ok(Did::Done));
+    assert_equal(rt, absorb(&mut tree, PageId(1)), Ok(Did::Done));
     has_pages(
         rt,
         &tree,
@@ -52,7 +53,7 @@ fn a_batch_is_posted_to_a_merged_leaf(rt: HostRuntime) {
         &tree,
         &[(0, 0, b"", None, 5, 2), (2, 1, b"", None, 1, 0)],
     );
-    assert!(rt; drop_root(&mut tree) == Ok(Did::Done));
+    assert_equal(&rt, drop_root(&mut tree), Ok(Did::Done));
     has_put_on_halves(&rt, alloc, &tree);
     put_on_leaves(&rt, alloc, &mut tree, &[PageId(0)]);
     has_put_on_leaves(&rt, alloc, &tree);
@@ -66,8 +67,8 @@ fn a_sweep_leaves_a_merge_to_be_finished(rt: HostRuntime) {
     let alloc = heap(rt.alloc()).expect(&rt, "memory");
     let mut tree = half_merged(&rt, alloc);
     put_on_halves(&rt, alloc, &mut tree, &[PageId(0)]);
-    assert!(rt; sweep(&mut tree) == Ok(()));
-    assert!(rt; tree.records() == 0);
+    assert_equal(&rt, sweep(&mut tree), Ok(()));
+    assert_equal(&rt, tree.records(), 0);
     let wanted: [(&[u8], &[u8]); 5] = [
         (b"a", b"1"),
         (b"b", b"8"),
@@ -104,7 +105,7 @@ fn scans<R: Abort>(
     let from = key(alloc, range.from).expect(rt, "a key");
     let to = range.to.map(|bytes| key(alloc, bytes).expect(rt, "a key"));
     let pairs = tree.scan_at(&from, to.as_ref(), range.most, range.stamp);
-    assert!(rt; are(&pairs.expect(rt, "memory"), wanted));
+    assert_that(rt, are(&pairs.expect(rt, "memory"), wanted));
 }
 
 // Compares the pairs of a range from its end.
@@ -118,7 +119,7 @@ fn scans_back<R: Abort>(
     let from = key(alloc, range.from).expect(rt, "a key");
     let to = range.to.map(|bytes| key(alloc, bytes).expect(rt, "a key"));
     let pairs = tree.rscan_at(&from, to.as_ref(), range.most, range.stamp);
-    assert!(rt; are(&pairs.expect(rt, "memory"), wanted));
+    assert_that(rt, are(&pairs.expect(rt, "memory"), wanted));
 }
 
 // Page 1, which is removed, began at c.
@@ -191,7 +192,7 @@ fn a_batch_is_posted_below_a_merged_page(rt: HostRuntime) {
     has_put_on_halves(&rt, alloc, &tree);
     finish(&rt, &mut tree, 3);
     has_put_on_halves(&rt, alloc, &tree);
-    assert!(rt; drop_root(&mut tree) == Ok(Did::Done));
+    assert_equal(&rt, drop_root(&mut tree), Ok(Did::Done));
     put_on_leaves(&rt, alloc, &mut tree, &[PageId(0), PageId(1)]);
     has_put_on_leaves(&rt, alloc, &tree);
     has_pages(

@@ -6,6 +6,7 @@ ghost use Rattle.bw_tree.specs.Stages.{is_adopted};
 ghost use Rattle.bw_tree.specs.Words.{IsPostedStageOn};
 
 use super::making::{FLOOR, batch, has, holds, post, stands, three, upsert};
+use crate::tests::assertions::{assert_equal, assert_that};
 use bw_fixtures::{heap, key, value};
 use bw_group::Grouping;
 use bw_key::Memory;
@@ -24,9 +25,9 @@ pub fn adopted<R: Abort + Threads + Sync>(rt: &R, alloc: Alloc) -> Tree
 {
     let mut tree = three(rt, alloc);
     let Posting { pages, closed, .. } = post(rt, alloc, &mut tree, &batch(rt, alloc), 1);
-    assert!(rt; pages.as_slice() == [PageId(1), PageId(2)].as_slice());
-    assert!(rt; closed.heads() == [FLOOR, FLOOR + 1].as_slice());
-    assert!(rt; closed.links() == [1, 2].as_slice());
+    assert_equal(rt, pages.as_slice(), [PageId(1), PageId(2)].as_slice());
+    assert_equal(rt, closed.heads(), [FLOOR, FLOOR + 1].as_slice());
+    assert_equal(rt, closed.links(), [1, 2].as_slice());
     tree.adopt_on(pages, closed);
     stands(rt, &tree, &[0, FLOOR, FLOOR + 1, 3], 2, 0);
     tree
@@ -66,7 +67,7 @@ fn an_adopted_batch_is_undone_without_memory(rt: HostRuntime) {
     let mut tree = adopted(&rt, alloc);
     alloc.refuse(1);
     tree.undo();
-    assert_eq!(rt; alloc.left(), 1);
+    assert_equal(&rt, alloc.left(), 1);
     alloc.refuse(0);
     stands(&rt, &tree, &[0, 1, 2, 3], 0, 0);
     holds(
@@ -101,7 +102,7 @@ fn adopt_and_accept_take_no_memory(rt: HostRuntime) {
     alloc.refuse(1);
     tree.adopt_on(pages, closed);
     tree.accept();
-    assert_eq!(rt; alloc.left(), 1);
+    assert_equal(&rt, alloc.left(), 1);
     alloc.refuse(0);
     stands(&rt, &tree, &[0, FLOOR, FLOOR + 1, 3], 2, 3);
 }
@@ -113,9 +114,13 @@ fn a_batch_of_reads_is_posted_to_no_page(rt: HostRuntime) {
     let first = key(alloc, b"a").expect(&rt, "a key");
     let last = key(alloc, b"e").expect(&rt, "a key");
     let posting = post(&rt, alloc, &mut tree, &[Op::Get(last), Op::Get(first)], 1);
-    assert!(rt; posting.homes.pages() == [PageId(0), PageId(2)].as_slice());
-    assert_eq!(rt; posting.pages.len(), 0);
-    assert_eq!(rt; posting.closed.heads().len(), 0);
+    assert_equal(
+        &rt,
+        posting.homes.pages(),
+        [PageId(0), PageId(2)].as_slice(),
+    );
+    assert_equal(&rt, posting.pages.len(), 0);
+    assert_equal(&rt, posting.closed.heads().len(), 0);
     tree.adopt_on(posting.pages, posting.closed);
     stands(&rt, &tree, &[0, 1, 2, 3], 0, 0);
 }
@@ -127,8 +132,8 @@ fn written_twice<R: Abort + Threads + Sync>(rt: &R, alloc: Alloc) -> Tree
     let mut tree = Tree::new(alloc).expect(rt, "memory");
     let ops = [upsert(rt, alloc, b"a", b"1"), upsert(rt, alloc, b"a", b"2")];
     let Posting { pages, closed, .. } = post(rt, alloc, &mut tree, &ops, 1);
-    assert!(rt; closed.heads() == [FLOOR + 1].as_slice());
-    assert!(rt; closed.links() == [0, FLOOR].as_slice());
+    assert_equal(rt, closed.heads(), [FLOOR + 1].as_slice());
+    assert_equal(rt, closed.links(), [0, FLOOR].as_slice());
     tree.adopt_on(pages, closed);
     tree
 }
@@ -159,7 +164,7 @@ fn the_words_of_all_pages_are_adopted_and_undone(rt: HostRuntime) {
     stands(&rt, &tree, &[FLOOR + 1], 2, 0);
     tree.undo();
     stands(&rt, &tree, &[0], 0, 0);
-    assert_eq!(rt; alloc.left(), 1);
+    assert_equal(&rt, alloc.left(), 1);
 }
 
 #[test]
@@ -214,13 +219,13 @@ fn a_value_behind_writes_takes_two_growths(rt: HostRuntime) {
     let at = key(alloc, b"a").expect(&rt, "memory");
     for growth in [1u64, 2] {
         alloc.refuse(growth);
-        assert!(rt; tree.value_at(&at, 2).err() == Some(Memory));
-        assert_eq!(rt; alloc.left(), 0);
+        assert_equal(&rt, tree.value_at(&at, 2).err(), Some(Memory));
+        assert_equal(&rt, alloc.left(), 0);
     }
     alloc.refuse(3);
     let found = tree.value_at(&at, 2).expect(&rt, "memory");
-    assert_eq!(rt; alloc.left(), 1);
-    assert!(rt; found == Some(value(alloc, b"2").expect(&rt, "memory")));
+    assert_equal(&rt, alloc.left(), 1);
+    assert_equal(&rt, found, Some(value(alloc, b"2").expect(&rt, "memory")));
 }
 
 // How many growths a scan of all pairs behind the batch takes.
@@ -230,7 +235,7 @@ fn growths<R: Abort>(rt: &R, alloc: Alloc, scans: &mut Scans) -> u64 {
     let pairs = scans.scan(&from, None, 9, 2);
     let left = alloc.left();
     alloc.refuse(0);
-    assert_eq!(rt; pairs.expect(rt, "memory").len(), 3);
+    assert_equal(rt, pairs.expect(rt, "memory").len(), 3);
     1000u64.saturating_sub(left)
 }
 
@@ -241,7 +246,7 @@ fn growths_back<R: Abort>(rt: &R, alloc: Alloc, scans: &mut Scans) -> u64 {
     let pairs = scans.scan_back(&from, None, 9, 2);
     let left = alloc.left();
     alloc.refuse(0);
-    assert_eq!(rt; pairs.expect(rt, "memory").len(), 3);
+    assert_equal(rt, pairs.expect(rt, "memory").len(), 3);
     1000u64.saturating_sub(left)
 }
 
@@ -250,9 +255,9 @@ fn writes_have_their_effects_once_for_all_scans(rt: HostRuntime) {
     let alloc = heap(rt.alloc()).expect(&rt, "memory");
     let tree = adopted(&rt, alloc);
     let mut scans = Scans::new(alloc, &tree);
-    assert!(rt; growths(&rt, alloc, &mut scans) > 4);
-    assert_eq!(rt; growths(&rt, alloc, &mut scans), 2);
-    assert_eq!(rt; growths_back(&rt, alloc, &mut scans), 2);
+    assert_that(&rt, growths(&rt, alloc, &mut scans) > 4);
+    assert_equal(&rt, growths(&rt, alloc, &mut scans), 2);
+    assert_equal(&rt, growths_back(&rt, alloc, &mut scans), 2);
 }
 
 #[test]
@@ -260,8 +265,8 @@ fn writes_have_their_effects_once_for_all_scans_back(rt: HostRuntime) {
     let alloc = heap(rt.alloc()).expect(&rt, "memory");
     let tree = adopted(&rt, alloc);
     let mut scans = Scans::new(alloc, &tree);
-    assert!(rt; growths_back(&rt, alloc, &mut scans) > 4);
-    assert_eq!(rt; growths_back(&rt, alloc, &mut scans), 2);
+    assert_that(&rt, growths_back(&rt, alloc, &mut scans) > 4);
+    assert_equal(&rt, growths_back(&rt, alloc, &mut scans), 2);
 }
 
 // Reads the leaves of a tree behind the batch, two of which have writes, and drops what was read.
@@ -269,7 +274,7 @@ fn drop_scans<R: Abort>(rt: &R, alloc: Alloc, tree: &Tree) {
     let from = key(alloc, b"").expect(rt, "memory");
     let mut scans = Scans::new(alloc, tree);
     let pairs = scans.scan(&from, None, 9, 2).expect(rt, "memory");
-    assert_eq!(rt; pairs.len(), 3);
+    assert_equal(rt, pairs.len(), 3);
 }
 
 // The same with the tree.
@@ -277,14 +282,14 @@ fn drop_adopted<R: Abort + Threads + Sync>(rt: &R, alloc: Alloc) {
     let tree = adopted(rt, alloc);
     let kept = alloc.used();
     drop_scans(rt, alloc, &tree);
-    assert_eq!(rt; alloc.used(), kept);
+    assert_equal(rt, alloc.used(), kept);
 }
 
 #[test]
 fn what_is_dropped_gives_its_memory_back(rt: HostRuntime) -> Result<(), Fail> {
     let alloc = Heap::within(rt.alloc(), 65536).leak(rt.alloc())?;
     drop_adopted(&rt, alloc);
-    assert_eq!(rt; alloc.used(), 0);
+    assert_equal(&rt, alloc.used(), 0);
     Ok(())
 }
 
@@ -310,7 +315,7 @@ fn posting_refused<R: Abort + Threads + Sync>(
 fn each_growth_refused<R: Abort + Threads + Sync>(rt: &R, alloc: Alloc, workers: u64) {
     for growth in 1..100 {
         if !posting_refused(rt, alloc, workers, growth) {
-            assert!(rt; growth > 4);
+            assert_that(rt, growth > 4);
             return;
         }
     }

@@ -2,6 +2,7 @@
 ghost use Rattle.std.specs.Prelude.{◌<◌, ◌≤◌};
 
 use super::making::{FLOOR, has, upsert};
+use crate::tests::assertions::{assert_equal, assert_that};
 use bw_fixtures::{heap, key};
 use bw_group::Grouping;
 use bw_memory::Alloc;
@@ -104,9 +105,9 @@ fn two_workers_post_in_either_order(rt: HostRuntime) {
     for late in 0..2u64 {
         let turn = Turn::new(late, 1 - late, TURNS);
         let (tree, _) = posted(&rt, alloc, &ops, 1, 2, &turn);
-        assert!(rt; turn.gave_up.load(Ordering::SeqCst) == 0);
-        assert!(rt; turn.calls.load(Ordering::SeqCst) == 4);
-        assert!(rt; tree.heads() == [FLOOR + late].as_slice());
+        assert_equal(&rt, turn.gave_up.load(Ordering::SeqCst), 0);
+        assert_equal(&rt, turn.calls.load(Ordering::SeqCst), 4);
+        assert_equal(&rt, tree.heads(), [FLOOR + late].as_slice());
         has(&rt, alloc, &tree, 0, &[(b"a", None)]);
         has(&rt, alloc, &tree, 1, &[(b"a", Some(b"0"))]);
         has(&rt, alloc, &tree, 2, &[(b"a", Some(b"1"))]);
@@ -120,8 +121,8 @@ fn a_piece_is_posted_by_one_worker(rt: HostRuntime) {
     let ops = puts(&rt, alloc, 4);
     let turn = Turn::new(0, 1, TURNS / 10);
     let (tree, _) = posted(&rt, alloc, &ops, 2, 2, &turn);
-    assert!(rt; turn.gave_up.load(Ordering::SeqCst) == 1);
-    assert_eq!(rt; tree.records(), 4);
+    assert_equal(&rt, turn.gave_up.load(Ordering::SeqCst), 1);
+    assert_equal(&rt, tree.records(), 4);
 }
 
 // Each record waits until so many have come.
@@ -156,8 +157,8 @@ fn four_workers_post_at_once(rt: HostRuntime) {
         gave_up: AtomicU64::new(0),
     };
     let (tree, _) = posted(&rt, alloc, &ops, 1, 4, &meeting);
-    assert!(rt; meeting.gave_up.load(Ordering::SeqCst) == 0);
-    assert_eq!(rt; tree.records(), 4);
+    assert_equal(&rt, meeting.gave_up.load(Ordering::SeqCst), 0);
+    assert_equal(&rt, tree.records(), 4);
 }
 
 // Compares the value at the key as of each stamp.
@@ -166,7 +167,11 @@ fn each_is_read<R: Abort>(rt: &R, alloc: Alloc, tree: &Tree, count: u64) {
     for stamp in 1..count {
         let digit = ((stamp - 1) % 10) as u8 + b'0';
         let found = tree.value_at(&name, stamp).expect(rt, "memory");
-        assert!(rt; found.as_ref().map(|value| value.bytes()) == Some([digit].as_slice()));
+        assert_equal(
+            rt,
+            found.as_ref().map(|value| value.bytes()),
+            Some([digit].as_slice()),
+        );
     }
 }
 
@@ -177,8 +182,8 @@ fn each_number_of_workers_posts_each_write_once(rt: HostRuntime) {
     for workers in [1u64, 2, 16, 64] {
         for piece in [1u64, 64, 4096] {
             let (tree, lost) = posted(&rt, alloc, &ops, piece, workers, &OpenGate);
-            assert!(rt; workers > 1 || lost == 0);
-            assert_eq!(rt; tree.records(), 200);
+            assert_that(&rt, workers > 1 || lost == 0);
+            assert_equal(&rt, tree.records(), 200);
             each_is_read(&rt, alloc, &tree, 200);
         }
     }

@@ -1,5 +1,6 @@
 // States of leaves with the writes of an adopted batch over them.
 use super::rows::adopted;
+use crate::tests::assertions::{assert_equal, assert_that};
 use bw_fixtures::{are, heap, was_refused};
 use bw_memory::Alloc;
 use bw_page::{Page, PageId};
@@ -23,7 +24,7 @@ fn has_leaf<R: Abort>(
     pairs: &[(&'static [u8], &'static [u8])],
 ) {
     let state = tree.state(PageId(page), stamp).expect(rt, "memory");
-    assert!(rt; is_leaf(state.as_ref(), pairs));
+    assert_that(rt, is_leaf(state.as_ref(), pairs));
 }
 
 #[test]
@@ -34,8 +35,8 @@ fn a_leaf_has_its_state_as_of_each_stamp(rt: HostRuntime) {
     has_leaf(&rt, &tree, 1, 1, &[(b"c", b"9")]);
     has_leaf(&rt, &tree, 2, 1, &[(b"e", b"5")]);
     has_leaf(&rt, &tree, 2, 2, &[]);
-    assert!(rt; tree.is_plain(PageId(0)));
-    assert!(rt; !tree.is_plain(PageId(1)));
+    assert_that(&rt, tree.is_plain(PageId(0)));
+    assert_that(&rt, !tree.is_plain(PageId(1)));
 }
 
 // Asks for the state of a leaf with a write where this growth is refused. Whether it was: behind the first four growths two
@@ -44,7 +45,7 @@ fn state_refused<R: Abort>(rt: &R, alloc: Alloc, tree: &Tree, growth: u64) -> bo
     alloc.refuse(growth);
     let state = tree.state(PageId(1), 3);
     let refused = was_refused(alloc, growth);
-    assert!(rt; state.is_err() == (refused && growth <= 4));
+    assert_equal(rt, state.is_err(), refused && growth <= 4);
     refused
 }
 
@@ -54,7 +55,7 @@ fn each_growth_of_a_state_is_refused(rt: HostRuntime) {
     let tree = adopted(&rt, alloc);
     for growth in 1..100 {
         if !state_refused(&rt, alloc, &tree, growth) {
-            assert_eq!(rt; growth, 7);
+            assert_equal(&rt, growth, 7);
             return;
         }
     }

@@ -7,6 +7,7 @@ ghost use Rattle.bw_shape.specs.Limits.{AreWithinBut, IsWithin};
 
 use super::making::{FLOOR, has, holds, post, upsert};
 use super::shapes::{Wanted, has_pages};
+use crate::tests::assertions::assert_equal;
 use bw_fixtures::{heap, key};
 use bw_memory::Alloc;
 use bw_model::Op;
@@ -119,7 +120,7 @@ pub fn run<R: Abort + Threads + Sync>(
     ensures staged { tree.new.staged ≡ None }
 {
     let posting = post(rt, alloc, tree, ops, 64);
-    assert!(rt; posting.homes.pages() == homes);
+    assert_equal(rt, posting.homes.pages(), homes);
     let Posting { pages, closed, .. } = posting;
     tree.adopt_on(pages, closed);
     tree.accept();
@@ -293,7 +294,7 @@ fn up_to_eight_writes_are_left_as_they_are(rt: HostRuntime) {
     run(&rt, alloc, &mut tree, &ops, &[PageId(0)]);
     tidy_does(&rt, alloc, &mut tree, &eight_writes(), &[PageId(0)], (0, 0));
     has_pages(&rt, &tree, &[(0, 0, b"", None, 8, 8)]);
-    assert!(rt; tree.heads() == [FLOOR + 7].as_slice());
+    assert_equal(&rt, tree.heads(), [FLOOR + 7].as_slice());
     reads_letters(&rt, alloc, &tree, b'a', b'i');
 }
 

@@ -2,6 +2,7 @@
 ghost use Rattle.std.specs.Prelude.{◌≡◌, [], None, IfOk};
 ghost use Rattle.bw_tree.specs.Making.{AreAbutting};
 
+use crate::tests::assertions::{assert_equal, assert_that};
 use bw_fixtures::{are, key};
 use bw_memory::Alloc;
 use bw_model::Pairs;
@@ -51,8 +52,8 @@ pub fn named_once<R: Abort>(rt: &R, alloc: Alloc) -> Tree
 
 /// Compares the identifier of a tree's root, its mapping words, and what is read of it.
 pub fn stands<R: Abort>(rt: &R, alloc: Alloc, tree: &Tree, root: u32, heads: &[u64]) {
-    assert!(rt; tree.root() == PageId(root));
-    assert!(rt; tree.heads() == heads);
+    assert_equal(rt, tree.root(), PageId(root));
+    assert_equal(rt, tree.heads(), heads);
     reads_all(rt, alloc, tree);
 }
 
@@ -67,7 +68,7 @@ pub fn reads_all<R: Abort>(rt: &R, alloc: Alloc, tree: &Tree) {
         (b"d", b"4"),
         (b"e", b"5"),
     ];
-    assert!(rt; are(&pairs, &wanted));
+    assert_that(rt, are(&pairs, &wanted));
 }
 
 /// Splits a page, and compares what that did.
@@ -75,7 +76,7 @@ pub fn split_does<R: Abort>(rt: &R, tree: &mut Tree, page: u32, keep: usize, wan
     requires { tree.old.staged ≡ None }
     ensures { tree.new.staged ≡ None }
 {
-    assert!(rt; split(tree, PageId(page), keep) == Ok(wanted));
+    assert_equal(rt, split(tree, PageId(page), keep), Ok(wanted));
 }
 
 /// Consolidates a page, and compares what that did.
@@ -83,7 +84,7 @@ pub fn consolidate_does<R: Abort>(rt: &R, tree: &mut Tree, page: u32, wanted: Di
     requires { tree.old.staged ≡ None }
     ensures { tree.new.staged ≡ None }
 {
-    assert!(rt; consolidate(tree, PageId(page)) == Ok(wanted));
+    assert_equal(rt, consolidate(tree, PageId(page)), Ok(wanted));
 }
 
 /// Finishes the split of a page, and compares what that did.
@@ -91,7 +92,7 @@ pub fn finish_does<R: Abort>(rt: &R, tree: &mut Tree, page: u32, wanted: Did)
     requires { tree.old.staged ≡ None }
     ensures { tree.new.staged ≡ None }
 {
-    assert!(rt; finish_split(tree, PageId(page)) == Ok(wanted));
+    assert_equal(rt, finish_split(tree, PageId(page)), Ok(wanted));
 }
 
 /// Grows the root, and compares what that did.
@@ -99,7 +100,7 @@ pub fn grow_does<R: Abort>(rt: &R, tree: &mut Tree, wanted: Did)
     requires { tree.old.staged ≡ None }
     ensures { tree.new.staged ≡ None }
 {
-    assert!(rt; grow_root(tree) == Ok(wanted));
+    assert_equal(rt, grow_root(tree), Ok(wanted));
 }
 
 /// Sweeps a tree, and compares what is left of its records and stamps.
@@ -107,9 +108,9 @@ pub fn sweep_does<R: Abort>(rt: &R, tree: &mut Tree)
     requires { tree.old.staged ≡ None }
     ensures { tree.new.staged ≡ None }
 {
-    assert!(rt; sweep(tree) == Ok(()));
-    assert!(rt; tree.records() == 0);
-    assert!(rt; tree.next_stamp() == 0);
+    assert_equal(rt, sweep(tree), Ok(()));
+    assert_equal(rt, tree.records(), 0);
+    assert_equal(rt, tree.next_stamp(), 0);
 }
 
 /// Compares the page of a level whose range has a key.
@@ -122,5 +123,5 @@ pub fn finds<R: Abort>(
     wanted: Option<u32>,
 ) {
     let found = tree.above(level, &key(alloc, bytes).expect(rt, "a key"));
-    assert!(rt; found.map(|page| page.0) == wanted);
+    assert_equal(rt, found.map(|page| page.0), wanted);
 }

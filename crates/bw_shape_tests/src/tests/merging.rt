@@ -6,6 +6,7 @@ use super::making::{
 };
 use super::shapes::has_pages;
 use super::tidying::{did, four_pairs};
+use crate::tests::assertions::{assert_equal, assert_that};
 use bw_fixtures::{are, heap, key};
 use bw_memory::Alloc;
 use bw_model::Pairs;
@@ -18,7 +19,7 @@ pub fn absorb_does<R: Abort>(rt: &R, tree: &mut Tree, page: u32, wanted: Did)
     requires { tree.old.staged ≡ None }
     ensures { tree.new.staged ≡ None }
 {
-    assert!(rt; absorb(tree, PageId(page)) == Ok(wanted));
+    assert_equal(rt, absorb(tree, PageId(page)), Ok(wanted));
 }
 
 /// Finishes a merge, and compares what that did.
@@ -26,7 +27,7 @@ pub fn forget_does<R: Abort>(rt: &R, tree: &mut Tree, page: u32, wanted: Did)
     requires { tree.old.staged ≡ None }
     ensures { tree.new.staged ≡ None }
 {
-    assert!(rt; finish_absorb(tree, PageId(page)) == Ok(wanted));
+    assert_equal(rt, finish_absorb(tree, PageId(page)), Ok(wanted));
 }
 
 /// Lowers the root, and compares what that did.
@@ -34,7 +35,7 @@ pub fn drop_does<R: Abort>(rt: &R, tree: &mut Tree, wanted: Did)
     requires { tree.old.staged ≡ None }
     ensures { tree.new.staged ≡ None }
 {
-    assert!(rt; drop_root(tree) == Ok(wanted));
+    assert_equal(rt, drop_root(tree), Ok(wanted));
 }
 
 // The leaf up to c, with page 1 at its right: a 1.
@@ -75,7 +76,7 @@ pub fn has_two_pairs<R: Abort>(rt: &R, alloc: Alloc, tree: &Tree) {
     let from = key(alloc, b"").expect(rt, "a key");
     let pairs = tree.scan_at(&from, None, 9, 0).expect(rt, "the pairs");
     let wanted: [(&[u8], &[u8]); 2] = [(b"a", b"1"), (b"c", b"3")];
-    assert!(rt; are(&pairs, &wanted));
+    assert_that(rt, are(&pairs, &wanted));
 }
 
 /// The tree of five pairs as two leaves without records, 0 and 1, under the root 2, which names both.
@@ -94,9 +95,13 @@ pub fn two_leaves<R: Abort>(rt: &R, alloc: Alloc) -> Tree
 fn two_leaves_become_one(rt: HostRuntime) {
     let alloc = heap(rt.alloc()).expect(&rt, "memory");
     let mut tree = of_two_pairs(&rt, alloc);
-    assert!(rt; tree.root() == PageId(2));
+    assert_equal(&rt, tree.root(), PageId(2));
     absorb_does(&rt, &mut tree, 1, Did::Done);
-    assert!(rt; tree.route(&key(alloc, b"c").expect(&rt, "a key")) == PageId(0));
+    assert_equal(
+        &rt,
+        tree.route(&key(alloc, b"c").expect(&rt, "a key")),
+        PageId(0),
+    );
     has_two_pairs(&rt, alloc, &tree);
     forget_does(&rt, &mut tree, 1, Did::Done);
     forget_does(&rt, &mut tree, 1, Did::NotNeeded);
@@ -121,7 +126,7 @@ fn a_merge_that_was_left_is_finished(rt: HostRuntime) {
     let alloc = heap(rt.alloc()).expect(&rt, "memory");
     let mut tree = of_two_pairs(&rt, alloc);
     absorb_does(&rt, &mut tree, 1, Did::Done);
-    assert!(rt; tidy(&mut tree, &four_pairs()) == did(0, 0));
+    assert_equal(&rt, tidy(&mut tree, &four_pairs()), did(0, 0));
     has_pages(&rt, &tree, &[(0, 0, b"", None, 2, 0)]);
     has_two_pairs(&rt, alloc, &tree);
 }
@@ -133,7 +138,7 @@ fn a_leaf_is_merged_into_its_left_neighbour(rt: HostRuntime) {
     stands(&rt, alloc, &tree, 2, &[0, 1, 2]);
     absorb_does(&rt, &mut tree, 1, Did::Done);
     stands(&rt, alloc, &tree, 2, &[FLOOR + 2, 1, 2]);
-    assert!(rt; tree.in_level(PageId(1)) == None);
+    assert_equal(&rt, tree.in_level(PageId(1)), None);
     finds(&rt, alloc, &tree, 0, b"c", Some(0));
     finds(&rt, alloc, &tree, 0, b"b", Some(0));
     absorb_does(&rt, &mut tree, 1, Did::NotNeeded);
@@ -213,11 +218,11 @@ fn a_new_page_takes_the_entry_of_a_removed_one(rt: HostRuntime) {
     split_does(&rt, &mut tree, 0, 2, Did::Done);
     stands(&rt, alloc, &tree, 2, &[FLOOR + 3, 1, 2, 3]);
     finds(&rt, alloc, &tree, 0, b"c", Some(3));
-    assert!(rt; tree.namer(PageId(3)) == None);
-    assert!(rt; tree.namer_of_removed(PageId(1)) == Some(PageId(2)));
+    assert_equal(&rt, tree.namer(PageId(3)), None);
+    assert_equal(&rt, tree.namer_of_removed(PageId(1)), Some(PageId(2)));
     finish_does(&rt, &mut tree, 0, Did::Done);
-    assert!(rt; tree.namer(PageId(3)) == Some(PageId(2)));
-    assert!(rt; tree.namer_of_removed(PageId(1)) == None);
+    assert_equal(&rt, tree.namer(PageId(3)), Some(PageId(2)));
+    assert_equal(&rt, tree.namer_of_removed(PageId(1)), None);
     forget_does(&rt, &mut tree, 1, Did::NotNeeded);
     finish_does(&rt, &mut tree, 0, Did::NotNeeded);
     stands(&rt, alloc, &tree, 2, &[FLOOR + 3, 1, FLOOR + 4, 3]);
@@ -290,18 +295,18 @@ fn inner_pages_are_merged_too(rt: HostRuntime) {
 fn what_is_left_of_a_page_says_where_it_began(rt: HostRuntime) {
     let alloc = heap(rt.alloc()).expect(&rt, "memory");
     let mut tree = two_leaves(&rt, alloc);
-    assert!(rt; tree.removed(PageId(1)).is_none());
-    assert!(rt; tree.removed(PageId(9)).is_none());
-    assert!(rt; tree.namer_of_removed(PageId(1)) == None);
+    assert_that(&rt, tree.removed(PageId(1)).is_none());
+    assert_that(&rt, tree.removed(PageId(9)).is_none());
+    assert_equal(&rt, tree.namer_of_removed(PageId(1)), None);
     absorb_does(&rt, &mut tree, 1, Did::Done);
     let removed = tree.removed(PageId(1)).expect(&rt, "a removed page");
-    assert!(rt; removed.left == PageId(0));
-    assert!(rt; removed.level == 0);
-    assert!(rt; removed.low.bytes() == b"c".as_slice());
-    assert!(rt; tree.namer_of_removed(PageId(1)) == Some(PageId(2)));
+    assert_equal(&rt, removed.left, PageId(0));
+    assert_equal(&rt, removed.level, 0);
+    assert_equal(&rt, removed.low.bytes(), b"c".as_slice());
+    assert_equal(&rt, tree.namer_of_removed(PageId(1)), Some(PageId(2)));
     forget_does(&rt, &mut tree, 1, Did::Done);
-    assert!(rt; tree.removed(PageId(1)).is_some());
-    assert!(rt; tree.namer_of_removed(PageId(1)) == None);
+    assert_that(&rt, tree.removed(PageId(1)).is_some());
+    assert_equal(&rt, tree.namer_of_removed(PageId(1)), None);
 }
 
 // A root that goes is a removed page, which leads to the page that takes its place.
@@ -311,15 +316,15 @@ fn what_is_left_of_a_root_leads_to_its_child(rt: HostRuntime) {
     let mut tree = of_two_pairs(&rt, alloc);
     absorb_does(&rt, &mut tree, 1, Did::Done);
     forget_does(&rt, &mut tree, 1, Did::Done);
-    assert!(rt; tree.removed(PageId(2)).is_none());
+    assert_that(&rt, tree.removed(PageId(2)).is_none());
     drop_does(&rt, &mut tree, Did::Done);
     let removed = tree.removed(PageId(2)).expect(&rt, "a removed page");
-    assert!(rt; removed.left == PageId(0));
-    assert!(rt; removed.level == 1);
-    assert!(rt; removed.low.bytes() == b"".as_slice());
-    assert!(rt; tree.in_level(PageId(2)) == None);
-    assert!(rt; tree.low_key(PageId(2)).is_none());
-    assert!(rt; tree.namer_of_removed(PageId(2)) == None);
+    assert_equal(&rt, removed.left, PageId(0));
+    assert_equal(&rt, removed.level, 1);
+    assert_equal(&rt, removed.low.bytes(), b"".as_slice());
+    assert_equal(&rt, tree.in_level(PageId(2)), None);
+    assert_that(&rt, tree.low_key(PageId(2)).is_none());
+    assert_equal(&rt, tree.namer_of_removed(PageId(2)), None);
     forget_does(&rt, &mut tree, 2, Did::NotNeeded);
     has_two_pairs(&rt, alloc, &tree);
 }

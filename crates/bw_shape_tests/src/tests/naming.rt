@@ -5,6 +5,7 @@ use super::leaves::{reads_numbers, tree_of};
 use super::making::{finish_does, grow_does, split_does};
 use super::shapes::{abut_within, are_alike};
 use super::tidying::{are_within_but, due_of, four_pairs};
+use crate::tests::assertions::{assert_equal, assert_that};
 use bw_fixtures::{heap, was_refused};
 use bw_memory::Alloc;
 use bw_shape::{Did, PageId, Tree, consolidate, finish_split, tidy_due};
@@ -111,8 +112,8 @@ fn stands_as_by_steps<R: Abort>(rt: &R, alloc: Alloc, tree: &Tree) {
     tidy_by_steps(rt, alloc, &mut other);
     let pages = tree.shape().expect(rt, "the pages");
     let wanted = other.shape().expect(rt, "the pages");
-    assert!(rt; abut_within(&pages, 4));
-    assert!(rt; are_alike(&pages, &wanted));
+    assert_that(rt, abut_within(&pages, 4));
+    assert_that(rt, are_alike(&pages, &wanted));
 }
 
 // Compares that each right neighbour of a page has its index entry.
@@ -148,8 +149,8 @@ fn new_pages_of_2000_pairs_are_named_at_once(rt: HostRuntime) {
     alloc.refuse(0);
     tidy_whole(&rt, alloc, &mut tree, &[PageId(0)]);
     let growths = alloc.left().wrapping_neg();
-    assert!(rt; growths > 677);
-    assert!(rt; growths <= MOST);
+    assert_that(&rt, growths > 677);
+    assert_that(&rt, growths <= MOST);
 }
 
 // The leaf in the middle becomes eight.
@@ -187,7 +188,7 @@ fn middle_refused<R: Abort>(rt: &R, alloc: Alloc, wanted: &Tree, growth: u64) ->
 fn has_pages_of<R: Abort>(rt: &R, tree: &Tree, wanted: &Tree) {
     let pages = tree.shape().expect(rt, "the pages");
     let wanted = wanted.shape().expect(rt, "the pages");
-    assert!(rt; are_alike(&pages, &wanted));
+    assert_that(rt, are_alike(&pages, &wanted));
 }
 
 #[test]
@@ -197,7 +198,7 @@ fn a_stop_at_each_growth_leaves_what_is_tidied_to_the_same_pages(rt: HostRuntime
     tidy_whole(&rt, alloc, &mut wanted, &[PageId(1)]);
     for growth in 1..1000 {
         if !middle_refused(&rt, alloc, &wanted, growth) {
-            assert!(rt; growth > 20);
+            assert_that(&rt, growth > 20);
             return;
         }
     }
@@ -213,7 +214,7 @@ fn new_pages_are_named_over_a_page_with_a_record(rt: HostRuntime) {
     tidy_whole(&rt, alloc, &mut tree, &[PageId(2)]);
     are_named(&rt, &mut tree);
     let pages = tree.shape().expect(&rt, "the pages");
-    assert!(rt; pages.len() == 10);
-    assert!(rt; abut_within(&pages, 4));
+    assert_equal(&rt, pages.len(), 10);
+    assert_that(&rt, abut_within(&pages, 4));
     reads_numbers(&rt, alloc, &tree, FROM, 4112);
 }

@@ -1,5 +1,6 @@
 // Each growth of memory refused in turn.
 use super::making::{FLOOR, five, grow_does, named_once, split_does, stands};
+use crate::tests::assertions::{assert_equal, assert_that};
 use bw_fixtures::{heap, was_refused};
 use bw_memory::Alloc;
 use bw_shape::{Did, Memory, PageId, consolidate, finish_split, grow_root, split};
@@ -13,11 +14,11 @@ fn split_refused<R: Abort>(rt: &R, alloc: Alloc, growth: u64) -> bool {
     let parted = split(&mut tree, PageId(0), 2);
     let refused = was_refused(alloc, growth);
     if parted == Err(Memory) {
-        assert!(rt; refused);
+        assert_that(rt, refused);
         stands(rt, alloc, &tree, 0, &[0]);
         return true;
     }
-    assert!(rt; parted == Ok(Did::Done));
+    assert_equal(rt, parted, Ok(Did::Done));
     stands(rt, alloc, &tree, 0, &[FLOOR, 1]);
     false
 }
@@ -30,11 +31,11 @@ fn grow_refused<R: Abort>(rt: &R, alloc: Alloc, growth: u64) -> bool {
     let grown = grow_root(&mut tree);
     let refused = was_refused(alloc, growth);
     if refused {
-        assert!(rt; grown == Err(Memory));
+        assert_equal(rt, grown, Err(Memory));
         stands(rt, alloc, &tree, 0, &[FLOOR, 1]);
         return true;
     }
-    assert!(rt; grown == Ok(Did::Done));
+    assert_equal(rt, grown, Ok(Did::Done));
     stands(rt, alloc, &tree, 2, &[FLOOR, 1, 2]);
     false
 }
@@ -47,7 +48,7 @@ fn consolidation_refused<R: Abort>(rt: &R, alloc: Alloc, growth: u64) -> bool {
     let consolidated = consolidate(&mut tree, PageId(2));
     let refused = was_refused(alloc, growth);
     if refused {
-        assert!(rt; consolidated == Err(Memory));
+        assert_equal(rt, consolidated, Err(Memory));
         stands(
             rt,
             alloc,
@@ -57,7 +58,7 @@ fn consolidation_refused<R: Abort>(rt: &R, alloc: Alloc, growth: u64) -> bool {
         );
         return true;
     }
-    assert!(rt; consolidated == Ok(Did::Done));
+    assert_equal(rt, consolidated, Ok(Did::Done));
     stands(rt, alloc, &tree, 2, &[FLOOR, FLOOR + 1, 2, FLOOR + 3, 4]);
     false
 }
@@ -69,7 +70,7 @@ fn finish_refused<R: Abort>(rt: &R, alloc: Alloc, growth: u64) -> bool {
     let finished = finish_split(&mut tree, PageId(3));
     let refused = was_refused(alloc, growth);
     if refused {
-        assert!(rt; finished == Err(Memory));
+        assert_equal(rt, finished, Err(Memory));
         let above = if growth == 1 { FLOOR + 2 } else { 2 };
         stands(
             rt,
@@ -80,7 +81,7 @@ fn finish_refused<R: Abort>(rt: &R, alloc: Alloc, growth: u64) -> bool {
         );
         return true;
     }
-    assert!(rt; finished == Ok(Did::Done));
+    assert_equal(rt, finished, Ok(Did::Done));
     stands(
         rt,
         alloc,
@@ -96,7 +97,7 @@ fn each_growth_of_an_index_entry_is_refused(rt: HostRuntime) {
     let alloc = heap(rt.alloc()).expect(&rt, "memory");
     for growth in 1..100 {
         if !finish_refused(&rt, alloc, growth) {
-            assert!(rt; growth > 2);
+            assert_that(&rt, growth > 2);
             return;
         }
     }
@@ -108,7 +109,7 @@ fn each_growth_of_a_consolidation_is_refused(rt: HostRuntime) {
     let alloc = heap(rt.alloc()).expect(&rt, "memory");
     for growth in 1..100 {
         if !consolidation_refused(&rt, alloc, growth) {
-            assert!(rt; growth > 1);
+            assert_that(&rt, growth > 1);
             return;
         }
     }
@@ -124,8 +125,8 @@ fn a_page_that_was_split_is_consolidated_with_no_memory(rt: HostRuntime) {
     split_does(&rt, &mut tree, 2, 1, Did::Done);
     stands(&rt, alloc, &tree, 2, &[FLOOR, 1, FLOOR + 1, 3]);
     alloc.refuse(1);
-    assert!(rt; consolidate(&mut tree, PageId(2)) == Ok(Did::Done));
-    assert_eq!(rt; alloc.left(), 1);
+    assert_equal(&rt, consolidate(&mut tree, PageId(2)), Ok(Did::Done));
+    assert_equal(&rt, alloc.left(), 1);
     alloc.refuse(0);
     stands(&rt, alloc, &tree, 2, &[FLOOR, 1, 2, 3]);
 }
@@ -135,7 +136,7 @@ fn each_growth_of_a_split_is_refused(rt: HostRuntime) {
     let alloc = heap(rt.alloc()).expect(&rt, "memory");
     for growth in 1..100 {
         if !split_refused(&rt, alloc, growth) {
-            assert!(rt; growth > 3);
+            assert_that(&rt, growth > 3);
             return;
         }
     }
@@ -148,7 +149,7 @@ fn a_refused_root_grows_later(rt: HostRuntime) {
     let mut tree = five(&rt, alloc);
     split_does(&rt, &mut tree, 0, 2, Did::Done);
     alloc.refuse(1);
-    assert!(rt; grow_root(&mut tree) == Err(Memory));
+    assert_equal(&rt, grow_root(&mut tree), Err(Memory));
     alloc.refuse(0);
     stands(&rt, alloc, &tree, 0, &[FLOOR, 1]);
     grow_does(&rt, &mut tree, Did::Done);
@@ -160,7 +161,7 @@ fn each_growth_of_a_new_root_is_refused(rt: HostRuntime) {
     let alloc = heap(rt.alloc()).expect(&rt, "memory");
     for growth in 1..100 {
         if !grow_refused(&rt, alloc, growth) {
-            assert!(rt; growth > 1);
+            assert_that(&rt, growth > 1);
             return;
         }
     }

@@ -3,6 +3,7 @@ ghost use Rattle.std.specs.Prelude.{◌≡◌, None};
 
 use super::making::{FLOOR, consolidate_does, finish_does, split_does, stands};
 use super::merging::{absorb_does, forget_does, merged_under_a_record, two_leaves};
+use crate::tests::assertions::{assert_equal, assert_that};
 use bw_fixtures::{heap, was_refused};
 use bw_memory::Alloc;
 use bw_shape::{Did, Memory, PageId, Tree, absorb, drop_root, finish_absorb};
@@ -15,12 +16,12 @@ fn absorb_refused<R: Abort>(rt: &R, alloc: Alloc, growth: u64) -> bool {
     let merged = absorb(&mut tree, PageId(1));
     let refused = was_refused(alloc, growth);
     if refused {
-        assert!(rt; merged == Err(Memory));
+        assert_equal(rt, merged, Err(Memory));
         stands(rt, alloc, &tree, 2, &[0, 1, 2]);
-        assert!(rt; tree.records() == 1);
+        assert_equal(rt, tree.records(), 1);
         return true;
     }
-    assert!(rt; merged == Ok(Did::Done));
+    assert_equal(rt, merged, Ok(Did::Done));
     stands(rt, alloc, &tree, 2, &[FLOOR + 2, 1, 2]);
     false
 }
@@ -33,11 +34,11 @@ fn forget_refused<R: Abort>(rt: &R, alloc: Alloc, growth: u64) -> bool {
     let finished = finish_absorb(&mut tree, PageId(1));
     let refused = was_refused(alloc, growth);
     if refused {
-        assert!(rt; finished == Err(Memory));
+        assert_equal(rt, finished, Err(Memory));
         stands(rt, alloc, &tree, 2, &[FLOOR + 2, 1, 2]);
         return true;
     }
-    assert!(rt; finished == Ok(Did::Done));
+    assert_equal(rt, finished, Ok(Did::Done));
     stands(rt, alloc, &tree, 2, &[FLOOR + 2, 1, FLOOR + 3]);
     false
 }
@@ -50,7 +51,7 @@ fn rebase_refused<R: Abort>(rt: &R, alloc: Alloc, growth: u64) -> bool {
     let finished = finish_absorb(&mut tree, PageId(3));
     let refused = was_refused(alloc, growth);
     if refused {
-        assert!(rt; finished == Err(Memory));
+        assert_equal(rt, finished, Err(Memory));
         let above = if tree.is_plain(PageId(2)) {
             2
         } else {
@@ -59,7 +60,7 @@ fn rebase_refused<R: Abort>(rt: &R, alloc: Alloc, growth: u64) -> bool {
         stands(rt, alloc, &tree, 2, &[0, FLOOR + 4, above, 3]);
         return true;
     }
-    assert!(rt; finished == Ok(Did::Done));
+    assert_equal(rt, finished, Ok(Did::Done));
     stands(rt, alloc, &tree, 2, &[0, FLOOR + 4, FLOOR + 5, 3]);
     false
 }
@@ -97,11 +98,11 @@ fn drop_refused<R: Abort>(rt: &R, alloc: Alloc, growth: u64) -> bool {
     let dropped = drop_root(&mut tree);
     let refused = was_refused(alloc, growth);
     if refused {
-        assert!(rt; dropped == Err(Memory));
+        assert_equal(rt, dropped, Err(Memory));
         stands(rt, alloc, &tree, 2, &[FLOOR + 17, 1, FLOOR + 18, 3, 4, 5]);
         return true;
     }
-    assert!(rt; dropped == Ok(Did::Done));
+    assert_equal(rt, dropped, Ok(Did::Done));
     stands(rt, alloc, &tree, 0, &[FLOOR + 17, 1, 2, 3, 4, 5]);
     false
 }
@@ -111,7 +112,7 @@ fn each_growth_of_a_merge_is_refused(rt: HostRuntime) {
     let alloc = heap(rt.alloc()).expect(&rt, "memory");
     for growth in 1..100 {
         if !absorb_refused(&rt, alloc, growth) {
-            assert!(rt; growth > 1);
+            assert_that(&rt, growth > 1);
             return;
         }
     }
@@ -123,7 +124,7 @@ fn each_growth_of_a_dropped_entry_is_refused(rt: HostRuntime) {
     let alloc = heap(rt.alloc()).expect(&rt, "memory");
     for growth in 1..100 {
         if !forget_refused(&rt, alloc, growth) {
-            assert!(rt; growth > 1);
+            assert_that(&rt, growth > 1);
             return;
         }
     }
@@ -135,7 +136,7 @@ fn each_growth_of_an_entry_under_a_record_is_refused(rt: HostRuntime) {
     let alloc = heap(rt.alloc()).expect(&rt, "memory");
     for growth in 1..100 {
         if !rebase_refused(&rt, alloc, growth) {
-            assert!(rt; growth > 2);
+            assert_that(&rt, growth > 2);
             return;
         }
     }
@@ -147,7 +148,7 @@ fn each_growth_of_a_root_that_goes_is_refused(rt: HostRuntime) {
     let alloc = heap(rt.alloc()).expect(&rt, "memory");
     for growth in 1..100 {
         if !drop_refused(&rt, alloc, growth) {
-            assert!(rt; growth > 1);
+            assert_that(&rt, growth > 1);
             return;
         }
     }

@@ -6,6 +6,7 @@ use super::merging::{
     absorb_does, drop_does, forget_does, has_two_pairs, of_two_pairs, two_leaves,
 };
 use super::shapes::has_pages;
+use crate::tests::assertions::{assert_equal, assert_that};
 use bw_fixtures::{heap, was_refused};
 use bw_memory::Alloc;
 use bw_shape::{Did, Memory, PageId, Tree, release};
@@ -16,7 +17,7 @@ fn release_does<R: Abort>(rt: &R, tree: &mut Tree, page: u32, wanted: Did)
     requires { tree.old.staged ≡ None }
     ensures { tree.new.staged ≡ None }
 {
-    assert!(rt; release(tree, PageId(page)) == Ok(wanted));
+    assert_equal(rt, release(tree, PageId(page)), Ok(wanted));
 }
 
 // A leaf that was removed gives its identifier back once no index entry names it, and so does the root that went. The
@@ -41,7 +42,7 @@ fn new_pages_take_what_was_given_back(rt: HostRuntime) {
         &[(0, 0, b"", Some(b"c"), 1, 0), (1, 0, b"c", None, 1, 0)],
     );
     grow_does(&rt, &mut tree, Did::Done);
-    assert!(rt; tree.root() == PageId(2));
+    assert_equal(&rt, tree.root(), PageId(2));
     has_two_pairs(&rt, alloc, &tree);
 }
 
@@ -95,7 +96,7 @@ fn trim_leaves<R: Abort>(rt: &R, tree: &mut Tree, wanted: usize)
     ensures { tree.new.staged ≡ None }
 {
     tree.trim();
-    assert_eq!(rt; tree.heads().len(), wanted);
+    assert_equal(rt, tree.heads().len(), wanted);
 }
 
 // Free identifiers behind the last page are forgotten, and given out anew.
@@ -141,7 +142,7 @@ pub fn without_two_roots<R: Abort>(rt: &R, alloc: Alloc) -> Tree
 fn an_old_root_is_given_back_before_its_child(rt: HostRuntime) {
     let alloc = heap(rt.alloc()).expect(&rt, "memory");
     let mut tree = without_two_roots(&rt, alloc);
-    assert!(rt; tree.root() == PageId(0));
+    assert_equal(&rt, tree.root(), PageId(0));
     release_does(&rt, &mut tree, 0, Did::NotNeeded);
     release_does(&rt, &mut tree, 3, Did::Done);
     release_does(&rt, &mut tree, 2, Did::NotNeeded);
@@ -162,13 +163,13 @@ fn release_refused<R: Abort>(rt: &R, alloc: Alloc, growth: u64) -> bool {
     let released = release(&mut tree, PageId(2));
     let refused = was_refused(alloc, growth);
     if refused {
-        assert!(rt; released == Err(Memory));
-        assert!(rt; !tree.is_free(PageId(2)));
+        assert_equal(rt, released, Err(Memory));
+        assert_that(rt, !tree.is_free(PageId(2)));
         release_does(rt, &mut tree, 2, Did::Done);
     } else {
-        assert!(rt; released == Ok(Did::Done));
+        assert_equal(rt, released, Ok(Did::Done));
     }
-    assert!(rt; tree.is_free(PageId(2)));
+    assert_that(rt, tree.is_free(PageId(2)));
     consolidate_does(rt, &mut tree, 0, Did::Done);
     split_does(rt, &mut tree, 0, 1, Did::Done);
     has_pages(
@@ -185,7 +186,7 @@ fn each_growth_of_an_identifier_given_back_is_refused(rt: HostRuntime) {
     let alloc = heap(rt.alloc()).expect(&rt, "memory");
     for growth in 1..100 {
         if !release_refused(&rt, alloc, growth) {
-            assert!(rt; growth > 1);
+            assert_that(&rt, growth > 1);
             return;
         }
     }

@@ -1,4 +1,5 @@
 // What tests compare the pages of a tree with.
+use crate::tests::assertions::{assert_equal, assert_that};
 use bw_key::Key;
 use bw_shape::{PageId, Tree};
 use bw_tree::PageShape;
@@ -29,9 +30,9 @@ fn is(page: &PageShape, wanted: &Wanted) -> bool {
 /// Compares the pages of a tree.
 pub fn has_pages<R: Abort>(rt: &R, tree: &Tree, wanted: &[Wanted]) {
     let pages = tree.shape().expect(rt, "the pages");
-    assert_eq!(rt; pages.len(), wanted.len());
+    assert_equal(rt, pages.len(), wanted.len());
     for (page, wanted) in pages.iter().zip(wanted) {
-        assert!(rt; is(page, wanted));
+        assert_that(rt, is(page, wanted));
     }
 }
 

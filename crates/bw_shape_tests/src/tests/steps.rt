@@ -2,6 +2,7 @@
 use super::making::{
     FLOOR, consolidate_does, finds, finish_does, five, grow_does, named_once, split_does, stands,
 };
+use crate::tests::assertions::assert_equal;
 use bw_fixtures::heap;
 use bw_shape::{Did, PageId};
 
@@ -18,7 +19,7 @@ fn a_leaf_of_five_pairs_parts_and_the_root_grows(rt: HostRuntime) {
     grow_does(&rt, &mut tree, Did::Done);
     stands(&rt, alloc, &tree, 2, &[FLOOR, 1, 2]);
     finds(&rt, alloc, &tree, 1, b"c", Some(2));
-    assert!(rt; tree.in_level(PageId(2)) == Some(1));
+    assert_equal(&rt, tree.in_level(PageId(2)), Some(1));
     grow_does(&rt, &mut tree, Did::NotNeeded);
 }
 
@@ -34,7 +35,7 @@ fn a_step_that_is_not_needed_changes_nothing(rt: HostRuntime) {
     consolidate_does(&rt, &mut tree, 0, Did::NotNeeded);
     consolidate_does(&rt, &mut tree, 9, Did::NotNeeded);
     grow_does(&rt, &mut tree, Did::NotNeeded);
-    assert!(rt; tree.in_level(PageId(9)) == None);
+    assert_equal(&rt, tree.in_level(PageId(9)), None);
     stands(&rt, alloc, &tree, 0, &[0]);
 }
 

@@ -7,6 +7,7 @@ use super::making::{
 use super::merging::{absorb_does, drop_does, forget_does, has_two_pairs, of_two_pairs};
 use super::releasing::{three_leaves, without_two_roots};
 use super::shapes::has_pages;
+use crate::tests::assertions::{assert_equal, assert_that};
 use bw_fixtures::{heap, was_refused};
 use bw_memory::Alloc;
 use bw_shape::{Did, Limits, Memory, PageId, Tree, sweep, tidy};
@@ -51,8 +52,8 @@ fn sweep_refused<R: Abort>(rt: &R, alloc: Alloc, growth: u64) -> bool {
     let swept = sweep(&mut tree);
     let refused = was_refused(alloc, growth);
     if refused {
-        assert!(rt; swept == Err(Memory));
-        assert!(rt; tree.records() == 4);
+        assert_equal(rt, swept, Err(Memory));
+        assert_equal(rt, tree.records(), 4);
         reads_all(rt, alloc, &tree);
         sweep_does(rt, &mut tree);
     }
@@ -65,7 +66,7 @@ fn each_growth_of_a_sweep_is_refused(rt: HostRuntime) {
     let alloc = heap(rt.alloc()).expect(&rt, "memory");
     for growth in 1..100 {
         if !sweep_refused(&rt, alloc, growth) {
-            assert!(rt; growth > 1);
+            assert_that(&rt, growth > 1);
             return;
         }
     }
@@ -76,7 +77,7 @@ fn each_growth_of_a_sweep_is_refused(rt: HostRuntime) {
 fn are_free<R: Abort>(rt: &R, tree: &Tree, wanted: &[bool]) {
     let mut page = 0u32;
     for free in wanted {
-        assert!(rt; tree.is_free(PageId(page)) == *free);
+        assert_equal(rt, tree.is_free(PageId(page)), *free);
         page = page.saturating_add(1);
     }
 }
@@ -109,7 +110,7 @@ fn gone_refused<R: Abort>(rt: &R, alloc: Alloc, growth: u64) -> bool {
     let swept = sweep(&mut tree);
     let refused = was_refused(alloc, growth);
     if refused {
-        assert!(rt; swept == Err(Memory));
+        assert_equal(rt, swept, Err(Memory));
         reads_all(rt, alloc, &tree);
         sweep_does(rt, &mut tree);
     }
@@ -124,7 +125,7 @@ fn each_growth_of_a_sweep_over_pages_that_went_is_refused(rt: HostRuntime) {
     let alloc = heap(rt.alloc()).expect(&rt, "memory");
     for growth in 1..100 {
         if !gone_refused(&rt, alloc, growth) {
-            assert!(rt; growth > 1);
+            assert_that(&rt, growth > 1);
             return;
         }
     }
@@ -167,7 +168,7 @@ fn tidying_gives_back_a_left_neighbour_behind_the_page_removed_into_it(rt: HostR
     let mut tree = five(&rt, alloc);
     removed_twice(&rt, &mut tree);
     let limits = Limits::new(1, 8, 0);
-    assert!(rt; !tidy(&mut tree, &limits).stopped);
+    assert_that(&rt, !tidy(&mut tree, &limits).stopped);
     are_free(&rt, &tree, &[false, true, true, true]);
     reads_all(&rt, alloc, &tree);
 }

@@ -8,6 +8,7 @@ ghost use Rattle.bw_shape.specs.Limits.{AreWithinBut, IsWithin};
 use super::leaves::{reads_numbers, tree_of};
 use super::making::{five, reads_all};
 use super::shapes::{Wanted, abut_within, has_pages};
+use crate::tests::assertions::{assert_equal, assert_that};
 use bw_fixtures::{heap, was_refused};
 use bw_memory::Alloc;
 use bw_shape::{Due, Limits, PageId, Tidy, Tree, tidy_due};
@@ -236,7 +237,7 @@ fn each_growth_of_a_split_leaf_is_refused(rt: HostRuntime) {
     let alloc = heap(rt.alloc()).expect(&rt, "memory");
     for growth in 1..1000 {
         if !five_refused(&rt, alloc, growth) {
-            assert!(rt; growth > 6);
+            assert_that(&rt, growth > 6);
             return;
         }
     }
@@ -257,7 +258,7 @@ fn each_growth_of_leaves_and_pages_above_is_refused(rt: HostRuntime) {
     let alloc = heap(rt.alloc()).expect(&rt, "memory");
     for growth in 1..1000 {
         if !seventeen_refused(&rt, alloc, growth) {
-            assert!(rt; growth > 12);
+            assert_that(&rt, growth > 12);
             return;
         }
     }
@@ -294,14 +295,14 @@ fn root_refused<R: Abort>(rt: &R, alloc: Alloc, growth: u64) -> bool {
     if !stopped.stopped || tree.heads().len() != 2 {
         return false;
     }
-    assert!(rt; (stopped.consolidated, stopped.splits) == (0, 1));
+    assert_equal(rt, (stopped.consolidated, stopped.splits), (0, 1));
     has_pages(
         rt,
         &tree,
         &[(0, 0, b"", Some(b"c"), 2, 0), (1, 0, b"c", None, 3, 0)],
     );
     reads_all(rt, alloc, &tree);
-    assert!(rt; tidy_due(&mut tree, &limits, &mut due) == did(0, 0));
+    assert_equal(rt, tidy_due(&mut tree, &limits, &mut due), did(0, 0));
     has_pages(rt, &tree, &FIVE);
     reads_all(rt, alloc, &tree);
     true
@@ -316,7 +317,7 @@ fn a_refused_root_is_put_there_by_the_next_tidying(rt: HostRuntime) {
             runs = runs.saturating_add(1);
         }
     }
-    assert!(rt; runs > 0);
+    assert_that(&rt, runs > 0);
 }
 
 // How many pairs the largest leaf has, from this number on, each of whose keys has two bytes.
@@ -330,7 +331,7 @@ fn a_leaf_of_many_pairs_becomes_levels_of_small_pages(rt: HostRuntime) {
     let mut tree = tree_of(&rt, alloc, FROM, &[FROM + MANY]);
     tidy_does(&rt, alloc, &mut tree, &[PageId(0)], did(511, 1359));
     let pages = tree.shape().expect(&rt, "the pages");
-    assert!(rt; pages.len() == 1365);
-    assert!(rt; abut_within(&pages, 4));
+    assert_equal(&rt, pages.len(), 1365);
+    assert_that(&rt, abut_within(&pages, 4));
     reads_numbers(&rt, alloc, &tree, FROM, FROM + MANY);
 }

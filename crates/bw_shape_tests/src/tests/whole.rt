@@ -7,6 +7,7 @@ use super::making::{
 };
 use super::shapes::{Wanted, are_alike, has_pages};
 use super::tidying::{A, BEHIND_Q, FIVE, SEVENTEEN, did, four_pairs};
+use crate::tests::assertions::{assert_equal, assert_that};
 use bw_fixtures::{heap, was_refused};
 use bw_memory::Alloc;
 use bw_shape::{Did, Tidy, Tree, tidy};
@@ -70,7 +71,7 @@ fn tidy_does<R: Abort>(rt: &R, tree: &mut Tree, wanted: Tidy)
     requires { tree.old.staged ≡ None }
     ensures { tree.new.staged ≡ None }
 {
-    assert!(rt; tidy(tree, &four_pairs()) == wanted);
+    assert_equal(rt, tidy(tree, &four_pairs()), wanted);
 }
 
 #[test]
@@ -162,13 +163,16 @@ fn tidy_refused<R: Abort>(rt: &R, alloc: Alloc, growth: u64) -> bool {
     alloc.refuse(growth);
     let stopped = tidy(&mut tree, &four_pairs()).stopped;
     let refused = was_refused(alloc, growth);
-    assert!(rt; refused || !stopped);
+    assert_that(rt, refused || !stopped);
     reads_numbers(rt, alloc, &tree, A, BEHIND_Q);
     if refused {
-        assert!(rt; !tidy(&mut tree, &four_pairs()).stopped);
+        assert_that(rt, !tidy(&mut tree, &four_pairs()).stopped);
     }
     let pages = tree.shape().expect(rt, "the pages");
-    assert!(rt; are_alike(&pages, &other.shape().expect(rt, "the pages")));
+    assert_that(
+        rt,
+        are_alike(&pages, &other.shape().expect(rt, "the pages")),
+    );
     reads_numbers(rt, alloc, &tree, A, BEHIND_Q);
     refused
 }
@@ -178,7 +182,7 @@ fn each_growth_of_a_whole_tree_is_refused(rt: HostRuntime) {
     let alloc = heap(rt.alloc()).expect(&rt, "memory");
     for growth in 1..1000 {
         if !tidy_refused(&rt, alloc, growth) {
-            assert!(rt; growth > 12);
+            assert_that(&rt, growth > 12);
             return;
         }
     }

@@ -2,6 +2,7 @@
 // and where one of them is merged, its first child gets a left neighbour into which the next tidying merges it.
 use super::maker::Maker;
 use super::stops::{Compared, deletes, empty, run, upserts};
+use crate::tests::assertions::assert_equal;
 use bw_memory::Alloc;
 use std::process::Abort;
 use std::thread::Threads;
@@ -43,6 +44,6 @@ fn inner_pages_are_merged_by_the_tidying_behind_that_of_their_parents(rt: HostRu
     let make = Maker::new(&rt, rt.alloc());
     let mut both = empty(&rt, &make, 6, 3);
     fill(&rt, &make, &mut both);
-    assert!(rt; both.index.tree().root_level() == 3);
+    assert_equal(&rt, both.index.tree().root_level(), 3);
     drain(&rt, &make, &mut both);
 }

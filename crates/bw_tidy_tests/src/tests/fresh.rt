@@ -1,6 +1,7 @@
 // A batch of 65,536 keys that are all new.
 use super::levels::{are_within, count_pages, is_whole};
 use super::maker::Maker;
+use crate::tests::assertions::{assert_equal, assert_that};
 use bw_batch::{Index, Key, Op, OpenGate, Options, Reply, Tidy};
 use bw_memory::Alloc;
 use bw_tree::PageShape;
@@ -65,19 +66,19 @@ fn count_consolidated(levels: &[usize]) -> u64 {
 
 // What tidying did that made so many pages.
 fn has_made<R: Abort>(rt: &R, did: &Tidy, levels: &[usize]) {
-    assert!(rt; !did.stopped);
-    assert_eq!(rt; did.splits, count_splits(levels));
-    assert_eq!(rt; did.consolidated, count_consolidated(levels));
-    assert_eq!(rt; did.merges, 0);
+    assert_that(rt, !did.stopped);
+    assert_equal(rt, did.splits, count_splits(levels));
+    assert_equal(rt, did.consolidated, count_consolidated(levels));
+    assert_equal(rt, did.merges, 0);
 }
 
 // Runs the upserts, each of a new key, behind which tidying makes so many pages.
 fn put_all<R: Abort + Threads + Sync>(rt: &R, index: &mut Index, ops: &[Op], levels: &[usize]) {
     let done = index.run(rt, ops, &OpenGate).expect(rt, "memory");
     let replies = done.replies.as_slice();
-    assert_eq!(rt; replies.len(), ops.len());
+    assert_equal(rt, replies.len(), ops.len());
     for reply in replies {
-        assert!(rt; *reply == Reply::New);
+        assert_equal(rt, reply, &Reply::New);
     }
     has_made(rt, &done.tidy, levels);
 }
@@ -94,9 +95,9 @@ fn is_found(reply: &Reply, number: u32) -> bool {
 fn find_all<R: Abort + Threads + Sync>(rt: &R, index: &mut Index, ops: &[Op]) {
     let done = index.run(rt, ops, &OpenGate).expect(rt, "memory");
     let replies = done.replies.as_slice();
-    assert_eq!(rt; replies.len(), ops.len());
+    assert_equal(rt, replies.len(), ops.len());
     for (number, reply) in (0..KEYS).zip(replies) {
-        assert!(rt; is_found(reply, number));
+        assert_that(rt, is_found(reply, number));
     }
 }
 
@@ -126,7 +127,7 @@ fn abuts(page: &PageShape, next: &PageShape) -> bool {
 // The pages of each level stand side by side.
 fn are_abutting<R: Abort>(rt: &R, shape: &[PageShape]) {
     for (page, next) in shape.iter().zip(shape.iter().skip(1)) {
-        assert!(rt; abuts(page, next));
+        assert_that(rt, abuts(page, next));
     }
 }
 
@@ -134,10 +135,10 @@ fn are_abutting<R: Abort>(rt: &R, shape: &[PageShape]) {
 fn has_levels<R: Abort>(rt: &R, shape: &[PageShape], levels: &[usize]) {
     let mut all = 0usize;
     for (level, count) in (0u32..64).zip(levels) {
-        assert_eq!(rt; count_pages(shape, level), *count);
+        assert_equal(rt, count_pages(shape, level), *count);
         all = all.saturating_add(*count);
     }
-    assert_eq!(rt; shape.len(), all);
+    assert_equal(rt, shape.len(), all);
 }
 
 // The pages are within the limits, side by side and named, and each level has so many of them.
@@ -147,7 +148,7 @@ fn has_pages<R: Abort>(rt: &R, make: &Maker<R>, index: &Index, page_max: u64, le
     are_within(rt, &shape, 0, page_max);
     are_abutting(rt, &shape);
     has_levels(rt, &shape, levels);
-    assert!(rt; is_whole(rt, make.alloc, tree, &shape));
+    assert_that(rt, is_whole(rt, make.alloc, tree, &shape));
 }
 
 // An index into which all keys were put at once, which makes so many pages.

@@ -1,4 +1,5 @@
 // Whether the pages of a tree name one another as they should.
+use crate::tests::assertions::assert_that;
 use bw_memory::Alloc;
 use bw_page::{Page, PageId};
 use bw_tree::{PageShape, Tree};
@@ -84,7 +85,7 @@ pub fn is_whole<R: Abort>(rt: &R, alloc: Alloc, tree: &Tree, shape: &[PageShape]
 /// Each page has no more than so many pairs or children, and each leaf no more than so many writes over it.
 pub fn are_within<R: Abort>(rt: &R, shape: &[PageShape], chain_max: u64, page_max: u64) {
     for page in shape {
-        assert!(rt; page.pairs as u64 <= page_max);
-        assert!(rt; page.writes as u64 <= chain_max);
+        assert_that(rt, page.pairs as u64 <= page_max);
+        assert_that(rt, page.writes as u64 <= chain_max);
     }
 }

@@ -1,4 +1,5 @@
 // Keys, values, operations and replies of numbers.
+use crate::tests::assertions::assert_equal;
 use bw_batch::{Key, Op, Reply, Value};
 use bw_fixtures::{heap, key, value};
 use bw_memory::Alloc;
@@ -98,8 +99,8 @@ impl<'a, R: Abort> Maker<'a, R> {
 
 /// Compares replies.
 pub fn same<R: Abort>(rt: &R, left: &[Reply], right: &[Reply]) {
-    assert_eq!(rt; left.len(), right.len());
+    assert_equal(rt, left.len(), right.len());
     for (left, right) in left.iter().zip(right) {
-        assert!(rt; *left == *right);
+        assert_equal(rt, left, right);
     }
 }

@@ -1,6 +1,7 @@
 // The order in which pages are looked at behind a sweep.
 use super::maker::Maker;
 use super::records::leaves;
+use crate::tests::assertions::{assert_equal, assert_that};
 use bw_batch::{Index, Options};
 use bw_tree::PageShape;
 use std::process::Abort;
@@ -59,9 +60,9 @@ fn is(page: &PageShape, wanted: &Wanted) -> bool {
 // The pages of an index are these.
 fn has_pages<R: Abort>(rt: &R, index: &Index, pages: &[Wanted]) {
     let shape = index.tree().shape().expect(rt, "memory");
-    assert_eq!(rt; shape.len(), pages.len());
+    assert_equal(rt, shape.len(), pages.len());
     for (page, wanted) in shape.iter().zip(pages) {
-        assert!(rt; is(page, wanted));
+        assert_that(rt, is(page, wanted));
     }
 }
 

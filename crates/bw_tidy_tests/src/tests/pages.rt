@@ -1,5 +1,6 @@
 // The pages of an index, compared with those of the plain program.
 use super::literal::{PlainPage, PlainTree};
+use crate::tests::assertions::{assert_equal, assert_that};
 use bw_batch::{Index, Key};
 use bw_tree::PageShape;
 use std::process::Abort;
@@ -33,10 +34,10 @@ fn is_listed(page: &PageShape, plain: &PlainPage, entries: usize) -> bool {
 
 // Compares pages.
 fn same_shape<R: Abort>(rt: &R, shape: &[PageShape], plain: &PlainTree) {
-    assert_eq!(rt; shape.len(), plain.pages().len());
+    assert_equal(rt, shape.len(), plain.pages().len());
     for (page, plain_page) in shape.iter().zip(plain.pages()) {
         let entries = plain.count_entries(rt, plain_page);
-        assert!(rt; is_listed(page, plain_page, entries));
+        assert_that(rt, is_listed(page, plain_page, entries));
     }
 }
 
@@ -44,7 +45,7 @@ fn same_shape<R: Abort>(rt: &R, shape: &[PageShape], plain: &PlainTree) {
 pub fn same_pages<R: Abort>(rt: &R, index: &Index, plain: &PlainTree) {
     let shape = index.tree().shape().expect(rt, "memory");
     same_shape(rt, &shape, plain);
-    assert_eq!(rt; index.tree().heads().len(), plain.identifiers());
-    assert_eq!(rt; index.tree().records(), plain.records());
-    assert_eq!(rt; index.tree().next_stamp(), plain.stamps() as u64);
+    assert_equal(rt, index.tree().heads().len(), plain.identifiers());
+    assert_equal(rt, index.tree().records(), plain.records());
+    assert_equal(rt, index.tree().next_stamp(), plain.stamps() as u64);
 }

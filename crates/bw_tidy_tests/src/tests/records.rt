@@ -1,5 +1,6 @@
 // How many records there are: one for each write, each split and each index entry since the last sweep.
 use super::maker::Maker;
+use crate::tests::assertions::{assert_equal, assert_that};
 use bw_batch::{Index, Op, OpenGate, Options};
 use bw_tree::PageShape;
 use std::process::Abort;
@@ -8,8 +9,8 @@ use std::thread::Threads;
 /// Runs a batch, behind which there are so many records.
 pub fn leaves<R: Abort + Threads + Sync>(rt: &R, index: &mut Index, ops: &[Op], records: usize) {
     let done = index.run(rt, ops, &OpenGate).expect(rt, "memory");
-    assert!(rt; !done.tidy.stopped);
-    assert_eq!(rt; index.tree().records(), records);
+    assert_that(rt, !done.tidy.stopped);
+    assert_equal(rt, index.tree().records(), records);
 }
 
 // Whether a page is the leaf of the keys below d, with three pairs, two writes over them.
@@ -34,7 +35,7 @@ fn splits_and_entries_make_a_sweep_due(rt: HostRuntime) {
     leaves(&rt, &mut index, &last, 2);
     let shape = index.tree().shape().expect(&rt, "memory");
     let first = shape.first().expect(&rt, "a leaf");
-    assert!(rt; is_first(first));
+    assert_that(&rt, is_first(first));
 }
 
 #[test]

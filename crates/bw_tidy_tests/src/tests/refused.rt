@@ -2,6 +2,7 @@
 use super::levels::{are_within, is_whole};
 use super::maker::{Maker, same};
 use super::rows::{Row, holds, run};
+use crate::tests::assertions::{assert_equal, assert_that};
 use bw_batch::{Index, OpenGate, Options, Refusal, Tidy};
 use bw_fixtures::was_refused;
 use bw_memory::Alloc;
@@ -17,11 +18,11 @@ fn small_pages<R: Abort>(rt: &R, make: &Maker<R>) -> Index {
 
 // The index is as it was made.
 fn is_new<R: Abort>(rt: &R, index: &Index) {
-    assert_eq!(rt; index.tree().next_stamp(), 0);
-    assert_eq!(rt; index.tree().records(), 0);
-    assert!(rt; index.tree().heads() == [0u64].as_slice());
+    assert_equal(rt, index.tree().next_stamp(), 0);
+    assert_equal(rt, index.tree().records(), 0);
+    assert_equal(rt, index.tree().heads(), [0u64].as_slice());
     let pairs = index.contents().expect(rt, "memory");
-    assert!(rt; pairs.is_empty());
+    assert_that(rt, pairs.is_empty());
 }
 
 // What became of the inserts of a row.
@@ -44,7 +45,7 @@ fn insert<R: Abort + Threads + Sync>(rt: &R, index: &mut Index, row: &Row) -> In
             }
         }
         Err(refusal) => {
-            assert!(rt; refusal == Refusal::Memory);
+            assert_equal(rt, refusal, Refusal::Memory);
             is_new(rt, index);
             Inserted {
                 refused: true,
@@ -65,7 +66,7 @@ fn insert_refused<R: Abort + Threads + Sync>(
     make.alloc.refuse(growth);
     let inserted = insert(rt, index, row);
     let refused = was_refused(make.alloc, growth);
-    assert!(rt; refused || !inserted.refused);
+    assert_that(rt, refused || !inserted.refused);
     holds(rt, make, index, row);
     Inserted {
         refused,
@@ -96,9 +97,9 @@ fn is_same(page: &PageShape, other: &PageShape) -> bool {
 // Compares the pages of an index.
 fn has_pages<R: Abort>(rt: &R, index: &Index, wanted: &[PageShape]) {
     let shape = index.tree().shape().expect(rt, "memory");
-    assert_eq!(rt; shape.len(), wanted.len());
+    assert_equal(rt, shape.len(), wanted.len());
     for (page, other) in shape.iter().zip(wanted) {
-        assert!(rt; is_same(page, other));
+        assert_that(rt, is_same(page, other));
     }
 }
 
@@ -115,7 +116,7 @@ fn is_refused<R: Abort + Threads + Sync>(
     let mut index = small_pages(rt, make);
     let inserted = insert_refused(rt, make, &mut index, row, growth);
     let behind = run(rt, &mut index, &row.reads);
-    assert!(rt; both(inserted.tidy, behind) == did);
+    assert_equal(rt, both(inserted.tidy, behind), did);
     has_pages(rt, &index, wanted);
     run(rt, &mut index, &row.again);
     inserted.refused
@@ -123,10 +124,10 @@ fn is_refused<R: Abort + Threads + Sync>(
 
 // An index holds what the writes leave, on pages within the limits.
 fn has_written<R: Abort>(rt: &R, make: &Maker<R>, index: &Index, row: &Row) {
-    assert!(rt; index.contents().expect(rt, "memory") == row.left);
+    assert_equal(rt, &index.contents().expect(rt, "memory"), &row.left);
     let shape = index.tree().shape().expect(rt, "memory");
     are_within(rt, &shape, 1, 4);
-    assert!(rt; is_whole(rt, make.alloc, index.tree(), &shape));
+    assert_that(rt, is_whole(rt, make.alloc, index.tree(), &shape));
 }
 
 // The same, and goes on with writes.
@@ -153,9 +154,9 @@ fn pages<R: Abort + Threads + Sync>(
 ) -> Vec<PageShape, Alloc> {
     let mut index = small_pages(rt, make);
     let inserted = insert(rt, &mut index, row);
-    assert!(rt; !inserted.refused);
-    assert!(rt; inserted.tidy == did);
-    assert!(rt; run(rt, &mut index, &row.reads) == Tidy::default());
+    assert_that(rt, !inserted.refused);
+    assert_equal(rt, inserted.tidy, did);
+    assert_equal(rt, run(rt, &mut index, &row.reads), Tidy::default());
     index.tree().shape().expect(rt, "memory")
 }
 
@@ -165,9 +166,13 @@ fn refuse_in_turn<R: Abort + Threads + Sync>(rt: &R, make: &Maker<R>, last: u8, 
     let wanted = pages(rt, make, &row, did);
     for growth in 1..1000 {
         let refused = is_refused(rt, make, &row, &wanted, did, growth);
-        assert!(rt; is_refused_before_writes(rt, make, &row, growth) == refused);
+        assert_equal(
+            rt,
+            is_refused_before_writes(rt, make, &row, growth),
+            refused,
+        );
         if !refused {
-            assert!(rt; growth > 20);
+            assert_that(rt, growth > 20);
             return;
         }
     }

@@ -1,5 +1,6 @@
 // Each growth of memory refused in turn, where a sweep comes before each batch but the first.
 use super::maker::{Maker, same};
+use crate::tests::assertions::{assert_equal, assert_that};
 use bw_batch::{Index, Op, OpenGate, Options, Refusal, Reply};
 use bw_fixtures::{are, heap, was_refused};
 use bw_memory::Alloc;
@@ -48,7 +49,7 @@ fn pairs_before(number: u32) -> &'static [Pair] {
 // The index holds the pairs before this batch.
 fn is_before<R: Abort>(rt: &R, index: &Index, number: u32) {
     let pairs = index.contents().expect(rt, "memory");
-    assert!(rt; are(&pairs, pairs_before(number)));
+    assert_that(rt, are(&pairs, pairs_before(number)));
 }
 
 // The next stamp, how many records there are, and the mapping word of the one page.
@@ -74,7 +75,7 @@ fn run<R: Abort + Threads + Sync>(
             Some(done.tidy.stopped)
         }
         Err(refusal) => {
-            assert!(rt; refusal == Refusal::Memory);
+            assert_equal(rt, refusal, Refusal::Memory);
             None
         }
     }
@@ -95,8 +96,8 @@ fn run_twice<R: Abort + Threads + Sync>(
     }
     is_before(rt, index, number);
     // No sweep is due before the first batch.
-    assert!(rt; number > 0 || numbers(index) == stood);
-    assert!(rt; run(rt, index, &ops, &wanted) == Some(false));
+    assert_that(rt, number > 0 || numbers(index) == stood);
+    assert_equal(rt, run(rt, index, &ops, &wanted), Some(false));
     true
 }
 
@@ -117,7 +118,7 @@ fn is_refused<R: Abort + Threads + Sync>(
         }
     }
     let refused = was_refused(alloc, growth);
-    assert!(rt; seen <= refused as u64);
+    assert_that(rt, seen <= refused as u64);
     is_before(rt, &index, BATCHES);
     refused
 }
@@ -128,7 +129,7 @@ fn batches_meet_each_refusal_and_so_do_their_sweeps(rt: HostRuntime) {
     let alloc = heap(rt.alloc()).expect(&rt, "a heap");
     for growth in 1..1000 {
         if !is_refused(&rt, &make, alloc, growth) {
-            assert!(rt; growth > 20);
+            assert_that(&rt, growth > 20);
             return;
         }
     }

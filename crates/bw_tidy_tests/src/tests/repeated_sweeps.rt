@@ -1,6 +1,7 @@
 // Sweeps that are refused again and again: each page is due once, so the list of them doesn't grow.
 use super::maker::Maker;
 use super::records::leaves;
+use crate::tests::assertions::assert_equal;
 use bw_batch::{Index, Op, OpenGate, Options, Refusal, Value};
 use bw_memory::{Alloc, Heap};
 use std::process::Abort;
@@ -46,9 +47,9 @@ fn is_refused<R: Abort + Threads + Sync>(
 ) -> u64 {
     match index.run(rt, ops, &OpenGate) {
         Ok(_) => panic!(rt; "a sweep without memory"),
-        Err(refusal) => assert!(rt; refusal == Refusal::Memory),
+        Err(refusal) => assert_equal(rt, refusal, Refusal::Memory),
     }
-    assert_eq!(rt; index.tree().records(), 26);
+    assert_equal(rt, index.tree().records(), 26);
     alloc.used()
 }
 
@@ -59,7 +60,7 @@ fn are_refused<R: Abort + Threads + Sync>(rt: &R, alloc: Alloc, index: &mut Inde
     is_refused(rt, alloc, index, ops);
     let used = is_refused(rt, alloc, index, ops);
     for _ in 2..SWEEPS {
-        assert_eq!(rt; is_refused(rt, alloc, index, ops), used);
+        assert_equal(rt, is_refused(rt, alloc, index, ops), used);
     }
 }
 

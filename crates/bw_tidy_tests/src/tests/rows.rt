@@ -1,5 +1,6 @@
 // Rows of letters, with what the plain program answers.
 use super::maker::{Maker, same};
+use crate::tests::assertions::{assert_equal, assert_that};
 use bw_batch::{Index, Key, Op, OpenGate, Pairs, Replies, Tidy, Tree};
 use bw_memory::Alloc;
 use bw_model::ReferenceMap;
@@ -112,7 +113,7 @@ impl Row {
 pub fn run<R: Abort + Threads + Sync>(rt: &R, index: &mut Index, batch: &Answered) -> Tidy {
     let done = index.run(rt, &batch.ops, &OpenGate).expect(rt, "memory");
     same(rt, done.replies.as_slice(), batch.replies.as_slice());
-    assert!(rt; !done.tidy.stopped);
+    assert_that(rt, !done.tidy.stopped);
     done.tidy
 }
 
@@ -121,7 +122,7 @@ fn has<R: Abort>(rt: &R, make: &Maker<R>, tree: &Tree, at: &[u8], bytes: &[u8]) 
     let key = Key::new(make.alloc, at).expect(rt, "a key");
     let found = tree.value_at(&key, tree.next_stamp());
     match found.expect(rt, "memory") {
-        Some(value) => assert!(rt; value.bytes() == bytes),
+        Some(value) => assert_equal(rt, value.bytes(), bytes),
         None => panic!(rt; "a value"),
     }
 }
@@ -130,9 +131,9 @@ fn has<R: Abort>(rt: &R, make: &Maker<R>, tree: &Tree, at: &[u8], bytes: &[u8]) 
 fn scans<R: Abort>(rt: &R, make: &Maker<R>, tree: &Tree, row: &Row) {
     let (least, stamp) = (make.key(0), tree.next_stamp());
     let forth = tree.scan_at(&least, None, ALL, stamp);
-    assert!(rt; forth.expect(rt, "memory") == row.forth);
+    assert_equal(rt, &forth.expect(rt, "memory"), &row.forth);
     let back = tree.rscan_at(&least, None, ALL, stamp);
-    assert!(rt; back.expect(rt, "memory") == row.back);
+    assert_equal(rt, &back.expect(rt, "memory"), &row.back);
 }
 
 /// An index holds a row as it stands: each letter is read and all are scanned, without a batch.

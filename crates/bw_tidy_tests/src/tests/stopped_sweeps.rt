@@ -3,6 +3,7 @@ use super::levels::{are_named, are_within, is_root_split, is_whole};
 use super::maker::Maker;
 use super::rows::{Row, holds};
 use super::stopping::run_stopped;
+use crate::tests::assertions::{assert_equal, assert_that};
 use bw_batch::{Index, Op, OpenGate, Options, Tree};
 use bw_fixtures::was_refused;
 use std::process::Abort;
@@ -66,17 +67,17 @@ fn run_swept<R: Abort + Threads + Sync>(
         ops.push(make.get(b'a')).expect(rt, "memory");
     }
     let tidy = run_stopped(rt, make.alloc, index, &ops);
-    assert!(rt; tidy.stopped);
-    assert_eq!(rt; index.tree().next_stamp(), record_max);
+    assert_that(rt, tidy.stopped);
+    assert_equal(rt, index.tree().next_stamp(), record_max);
 }
 
 // Runs an empty batch, behind which no split is left to be finished, and no leaf is over a limit.
 fn tidy<R: Abort + Threads + Sync>(rt: &R, make: &Maker<R>, index: &mut Index, row: &Row) {
     let done = index.run(rt, &[], &OpenGate).expect(rt, "memory");
-    assert!(rt; !done.tidy.stopped);
+    assert_that(rt, !done.tidy.stopped);
     let shape = index.tree().shape().expect(rt, "memory");
     are_within(rt, &shape, 1, 4);
-    assert!(rt; is_whole(rt, make.alloc, index.tree(), &shape));
+    assert_that(rt, is_whole(rt, make.alloc, index.tree(), &shape));
     holds(rt, make, index, row);
 }
 
@@ -91,7 +92,7 @@ fn go_on<R: Abort + Threads + Sync>(
 ) {
     let whole = is_finished(rt, make, index.tree());
     run_swept(rt, make, index, record_max);
-    assert!(rt; is_finished(rt, make, index.tree()) == whole);
+    assert_equal(rt, is_finished(rt, make, index.tree()), whole);
     holds(rt, make, index, row);
     see(rt, make, seen, index.tree());
     tidy(rt, make, index, row);
@@ -145,7 +146,7 @@ fn refuse_in_turn<R: Abort + Threads + Sync>(
 fn splits_of_seventeen_letters_are_finished_behind_a_sweep(rt: HostRuntime) {
     let make = Maker::new(&rt, rt.alloc());
     let seen = refuse_in_turn(&rt, &make, b'q', 27);
-    assert!(rt; seen.leaf_root && seen.inner_root && seen.leaf);
+    assert_that(&rt, seen.leaf_root && seen.inner_root && seen.leaf);
 }
 
 // 33 keys make so many leaves that an inner page below the root is split, too.
@@ -153,5 +154,5 @@ fn splits_of_seventeen_letters_are_finished_behind_a_sweep(rt: HostRuntime) {
 fn splits_of_33_keys_are_finished_behind_a_sweep(rt: HostRuntime) {
     let make = Maker::new(&rt, rt.alloc());
     let seen = refuse_in_turn(&rt, &make, b'a' + 32, 53);
-    assert!(rt; seen.leaf_root && seen.leaf && seen.inner);
+    assert_that(&rt, seen.leaf_root && seen.leaf && seen.inner);
 }

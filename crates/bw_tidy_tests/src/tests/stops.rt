@@ -3,6 +3,7 @@ use super::literal::PlainTree;
 use super::maker::Maker;
 use super::pages::same_pages;
 use super::stopping::run_stopped;
+use crate::tests::assertions::{assert_equal, assert_that};
 use bw_batch::{Index, Op, OpenGate, Options, Tidy};
 use bw_memory::Alloc;
 use std::process::Abort;
@@ -62,7 +63,7 @@ pub fn upserts<R: Abort>(rt: &R, make: &Maker<R>, keys: &[u8]) -> Vec<Op, Alloc>
 pub fn run<R: Abort + Threads + Sync>(rt: &R, both: &mut Compared, ops: &[Op]) {
     let done = both.index.run(rt, ops, &OpenGate).expect(rt, "memory");
     both.plain.run(rt, ops);
-    assert!(rt; done.tidy == both.plain.tidy(rt));
+    assert_equal(rt, done.tidy, both.plain.tidy(rt));
     same_pages(rt, &both.index, &both.plain);
 }
 
@@ -70,7 +71,7 @@ pub fn run<R: Abort + Threads + Sync>(rt: &R, both: &mut Compared, ops: &[Op]) {
 fn stop<R: Abort + Threads + Sync>(rt: &R, make: &Maker<R>, both: &mut Compared, keys: &[u8]) {
     let ops = upserts(rt, make, keys);
     let tidy = run_stopped(rt, make.alloc, &mut both.index, &ops);
-    assert!(rt; tidy == STOPPED);
+    assert_equal(rt, tidy, STOPPED);
     both.plain.run(rt, &ops);
     same_pages(rt, &both.index, &both.plain);
 }
@@ -130,10 +131,14 @@ fn is_cut_twice<R: Abort + Threads + Sync>(rt: &R, make: &Maker<R>, growth: u64)
         return false;
     }
     let ops = upserts(rt, make, &[10, 20]);
-    assert!(rt; run_stopped(rt, make.alloc, &mut both.index, &ops) == STOPPED);
+    assert_equal(
+        rt,
+        run_stopped(rt, make.alloc, &mut both.index, &ops),
+        STOPPED,
+    );
     both.plain.run(rt, &ops);
     let done = both.index.run(rt, &[], &OpenGate).expect(rt, "memory");
-    assert!(rt; done.tidy == MERGED);
+    assert_equal(rt, done.tidy, MERGED);
     both.plain.tidy(rt);
     same_pages(rt, &both.index, &both.plain);
     true
@@ -148,5 +153,5 @@ fn a_leaf_that_was_begun_is_merged_behind_two_stops(rt: HostRuntime) {
             cuts = cuts.saturating_add(1);
         }
     }
-    assert!(rt; cuts > 1);
+    assert_that(&rt, cuts > 1);
 }

@@ -1,5 +1,6 @@
 // Many batches with a sweep before each.
 use super::maker::{Maker, same};
+use crate::tests::assertions::assert_equal;
 use bw_batch::{Index, OpenGate, Options, Reply};
 use std::process::Abort;
 use std::thread::Threads;
@@ -34,14 +35,14 @@ fn storm<R: Abort + Threads + Sync>(rt: &R, make: &Maker<R>, workers: u64) {
     let mut index = Index::new(make.alloc, options).expect(rt, "an index");
     for batch in 0..BATCHES {
         run(rt, make, &mut index, batch.wrapping_mul(3));
-        assert_eq!(rt; index.tree().next_stamp(), 3);
-        assert_eq!(rt; index.tree().records(), 3);
+        assert_equal(rt, index.tree().next_stamp(), 3);
+        assert_equal(rt, index.tree().records(), 3);
     }
     let shape = index.tree().shape().expect(rt, "memory");
-    assert_eq!(rt; shape.len(), 1);
+    assert_equal(rt, shape.len(), 1);
     for page in &shape {
-        assert_eq!(rt; page.pairs, 1);
-        assert_eq!(rt; page.writes, 3);
+        assert_equal(rt, page.pairs, 1);
+        assert_equal(rt, page.writes, 3);
     }
 }
 

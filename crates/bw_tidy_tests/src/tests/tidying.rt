@@ -2,6 +2,7 @@
 use super::literal::PlainTree;
 use super::maker::{Maker, same};
 use super::pages::same_pages;
+use crate::tests::assertions::{assert_equal, assert_that};
 use bw_batch::{Index, Op, OpenGate, Options, Reply};
 use bw_fixtures::Random;
 use bw_memory::Alloc;
@@ -160,7 +161,7 @@ fn empty<R: Abort>(
 fn same_pairs<R: Abort>(rt: &R, index: &Index, map: &ReferenceMap) {
     let pairs = index.contents().expect(rt, "memory");
     let expected = map.entries().expect(rt, "memory");
-    assert!(rt; pairs == expected);
+    assert_equal(rt, pairs, expected);
 }
 
 // Has a map run a batch, and compares what an index answered.
@@ -174,7 +175,7 @@ fn run<R: Abort + Threads + Sync>(rt: &R, all: &mut Compared, ops: &[Op]) -> u64
     let done = all.index.run(rt, ops, &OpenGate).expect(rt, "memory");
     same_replies(rt, &mut all.map, ops, done.replies.as_slice());
     all.plain.run(rt, ops);
-    assert!(rt; done.tidy == all.plain.tidy(rt));
+    assert_equal(rt, done.tidy, all.plain.tidy(rt));
     same_pages(rt, &all.index, &all.plain);
     same_pairs(rt, &all.index, &all.map);
     done.tidy.merges
@@ -209,9 +210,9 @@ fn compare<R: Abort + Threads + Sync>(rt: &R, make: &Maker<R>, limits: Sizes, re
     for workers in [1u64, 4] {
         let mut all = empty(rt, make, workers, limits, record_max);
         let seen = run_all(rt, make, &mut all);
-        assert!(rt; seen.pages > 30);
-        assert!(rt; seen.merges > 20 || limits.page_min == 0);
-        assert!(rt; (all.plain.sweeps() > 2) == (record_max == FEW));
+        assert_that(rt, seen.pages > 30);
+        assert_that(rt, seen.merges > 20 || limits.page_min == 0);
+        assert_equal(rt, all.plain.sweeps() > 2, record_max == FEW);
     }
 }
 

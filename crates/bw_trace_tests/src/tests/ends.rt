@@ -1,5 +1,6 @@
 // What jobs print at the end.
 use super::ports::Maker;
+use crate::tests::assertions::{assert_equal, assert_that};
 use bw_batch::Options;
 use bw_trace::{Job, Source, Summary, TraceFault, run_trace};
 use std::process::Abort;
@@ -47,7 +48,7 @@ fn each_job_prints_its_end(rt: HostRuntime) {
         (Job::Shape, "leaf % * 1 1\n"),
         (Job::Picture, PICTURE),
     ] {
-        assert!(rt; make.end_of("upsert a 1\n", job, 0, text).is_ok());
+        assert_that(&rt, make.end_of("upsert a 1\n", job, 0, text).is_ok());
     }
 }
 
@@ -55,7 +56,11 @@ fn each_job_prints_its_end(rt: HostRuntime) {
 fn a_failed_write_of_an_end_is_a_fault(rt: HostRuntime) {
     let make = Maker::new(&rt, rt.alloc());
     for job in [Job::Dump, Job::Shape, Job::Picture] {
-        assert!(rt; make.end_of("upsert a 1\n", job, 1, "") == Err(TraceFault::Write));
+        assert_equal(
+            &rt,
+            make.end_of("upsert a 1\n", job, 1, ""),
+            Err(TraceFault::Write),
+        );
     }
 }
 
@@ -63,6 +68,9 @@ fn a_failed_write_of_an_end_is_a_fault(rt: HostRuntime) {
 #[test]
 fn no_end_is_no_call(rt: HostRuntime) {
     let make = Maker::new(&rt, rt.alloc());
-    assert!(rt; make.end_of("upsert a 1\n", Job::Run, 2, "new\n").is_ok());
-    assert!(rt; make.end_of("", Job::Run, 1, "").is_ok());
+    assert_that(
+        &rt,
+        make.end_of("upsert a 1\n", Job::Run, 2, "new\n").is_ok(),
+    );
+    assert_that(&rt, make.end_of("", Job::Run, 1, "").is_ok());
 }

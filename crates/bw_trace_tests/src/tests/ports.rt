@@ -1,6 +1,7 @@
 // A reader and a writer in memory.
 ghost use Rattle.std.specs.Prelude.{◌-◌, ◌^◌, None, true};
 
+use crate::tests::assertions::assert_equal;
 use bw_memory::{Alloc, Heap};
 use bw_trace::{Failed, Inlet, Outlet};
 use std::alloc::Global;
@@ -116,6 +117,6 @@ impl<'a, R: Abort> Maker<'a, R> {
     }
 
     pub fn expect_text(&self, sink: &Sink, text: &str) {
-        assert!(self.rt; sink.taken.as_slice() == text.as_bytes());
+        assert_equal(self.rt, sink.taken.as_slice(), text.as_bytes());
     }
 }

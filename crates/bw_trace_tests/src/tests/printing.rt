@@ -1,5 +1,6 @@
 // The printed texts of replies.
 use super::ports::Maker;
+use crate::tests::assertions::{assert_equal, assert_that};
 use bw_batch::{Pairs, Reply, Value};
 use bw_trace::{TraceFault, print_replies};
 use std::process::Abort;
@@ -21,7 +22,7 @@ impl<R: Abort> Maker<'_, R> {
     fn expect_reply(&self, reply: Reply, text: &str) {
         let mut out = self.sink();
         let outcome = print_replies(self.alloc, &mut out, &[reply]);
-        assert!(self.rt; outcome == Ok(()));
+        assert_equal(self.rt, outcome, Ok(()));
         self.expect_text(&out, text);
     }
 }
@@ -82,11 +83,15 @@ fn replies_are_printed_in_their_order(rt: HostRuntime) {
     let make = Maker::new(&rt, rt.alloc());
     let mut out = make.sink();
     let none: [Reply; 0] = [];
-    assert!(rt; print_replies(make.alloc, &mut out, &none) == Ok(()));
+    assert_equal(&rt, print_replies(make.alloc, &mut out, &none), Ok(()));
     make.expect_text(&out, "");
     let replies = [Reply::New, Reply::Was(make.value(b"1")), Reply::Absent];
-    assert!(rt; print_replies(make.alloc, &mut out, &replies) == Ok(()));
-    assert!(rt; print_replies(make.alloc, &mut out, &[Reply::Inserted]) == Ok(()));
+    assert_equal(&rt, print_replies(make.alloc, &mut out, &replies), Ok(()));
+    assert_equal(
+        &rt,
+        print_replies(make.alloc, &mut out, &[Reply::Inserted]),
+        Ok(()),
+    );
     make.expect_text(&out, "new\nwas 1\nnone\ninserted\n");
 }
 
@@ -101,14 +106,18 @@ fn a_long_text_is_handed_on_in_parts(rt: HostRuntime) {
         text.push_str("none\n").expect(&rt, "memory");
     }
     let mut out = make.sink();
-    assert!(rt; print_replies(make.alloc, &mut out, &replies) == Ok(()));
+    assert_equal(&rt, print_replies(make.alloc, &mut out, &replies), Ok(()));
     make.expect_text(&out, text.as_str());
-    assert!(rt; out.calls > 1);
+    assert_that(&rt, out.calls > 1);
 
     for call in 1..out.calls.saturating_add(1) {
         let mut out = make.sink_failing_at(call);
-        assert!(rt; print_replies(make.alloc, &mut out, &replies) == Err(TraceFault::Write));
-        assert!(rt; out.taken.len() < text.len());
+        assert_equal(
+            &rt,
+            print_replies(make.alloc, &mut out, &replies),
+            Err(TraceFault::Write),
+        );
+        assert_that(&rt, out.taken.len() < text.len());
     }
 }
 
@@ -132,7 +141,7 @@ fn each_growth_of_a_text_is_refused_in_turn(rt: HostRuntime) {
         match outcome {
             Ok(()) => make.expect_text(&out, text),
             Err(fault) => {
-                assert!(rt; fault == TraceFault::Memory);
+                assert_equal(&rt, fault, TraceFault::Memory);
                 assert!(rt;
                     text.as_bytes().starts_with(out.taken.as_slice()),
                     "growth {growth}"
@@ -141,7 +150,7 @@ fn each_growth_of_a_text_is_refused_in_turn(rt: HostRuntime) {
             }
         }
         if left > 0 && left <= growth {
-            assert!(rt; outcome.is_ok() && refusals > 0);
+            assert_that(&rt, outcome.is_ok() && refusals > 0);
             return;
         }
     }

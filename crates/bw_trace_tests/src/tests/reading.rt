@@ -1,5 +1,6 @@
 // A source, batch by batch, and the texts of its faults.
 use super::ports::{Maker, Pieces};
+use crate::tests::assertions::{assert_equal, assert_that};
 use bw_batch::{Key, Memory, Op, Value};
 use bw_memory::Alloc;
 use bw_trace::{Cause, Inlet, Source, TraceFault, read_batch};
@@ -24,9 +25,9 @@ impl<R: Abort> Maker<'_, R> {
     pub fn expect_batch<I: Inlet>(&self, source: &mut Source<I>, ops: &[Op]) {
         match read_batch(source) {
             Ok(Some(found)) => {
-                assert_eq!(self.rt; found.len(), ops.len());
+                assert_equal(self.rt, found.len(), ops.len());
                 for (found, op) in found.iter().zip(ops) {
-                    assert!(self.rt; *found == *op);
+                    assert_equal(self.rt, found, op);
                 }
             }
             Ok(None) => panic!(self.rt; "no batch"),
@@ -36,14 +37,14 @@ impl<R: Abort> Maker<'_, R> {
 
     pub fn expect_end<I: Inlet>(&self, source: &mut Source<I>) {
         for _ in 0..3 {
-            assert!(self.rt; matches!(read_batch(source), Ok(None)));
+            assert_that(self.rt, matches!(read_batch(source), Ok(None)));
         }
     }
 
     // The same fault again and again.
     fn expect_fault<I: Inlet>(&self, source: &mut Source<I>, fault: TraceFault) {
         for _ in 0..3 {
-            assert!(self.rt; read_batch(source).err() == Some(fault));
+            assert_equal(self.rt, read_batch(source).err(), Some(fault));
         }
     }
 }
@@ -94,12 +95,16 @@ fn a_source_keeps_its_want_of_memory(rt: HostRuntime) {
     let mut source = make.source("get a\ngo\nget b\ngo\n");
     make.expect_batch(&mut source, &[make.get("a")]);
     make.alloc.refuse(1);
-    assert!(rt; read_batch(&mut source).err() == Some(TraceFault::Memory));
+    assert_equal(&rt, read_batch(&mut source).err(), Some(TraceFault::Memory));
     make.alloc.refuse(0);
     make.expect_fault(&mut source, TraceFault::Memory);
     make.alloc.refuse(1);
     let input = make.pieces("get a", 1);
-    assert!(rt; Source::new(make.alloc, input, 1000).err() == Some(Memory));
+    assert_equal(
+        &rt,
+        Source::new(make.alloc, input, 1000).err(),
+        Some(Memory),
+    );
 }
 
 #[test]
@@ -126,7 +131,7 @@ fn faults_have_their_texts(rt: HostRuntime) {
         ),
     ] {
         let found = format!(in rt.alloc(); "{fault}").expect(&rt, "memory");
-        assert!(rt; found.as_str() == text);
+        assert_equal(&rt, found.as_str(), text);
     }
 }
 
@@ -144,6 +149,10 @@ fn refused(alloc: Alloc) -> Result<(), TraceFault> {
 #[test]
 fn want_of_memory_is_a_fault(rt: HostRuntime) {
     let make = Maker::new(&rt, rt.alloc());
-    assert!(rt; refused(make.alloc) == Err(TraceFault::Memory));
-    assert!(rt; TraceFault::from(std::alloc::AllocError) == TraceFault::Memory);
+    assert_equal(&rt, refused(make.alloc), Err(TraceFault::Memory));
+    assert_equal(
+        &rt,
+        TraceFault::from(std::alloc::AllocError),
+        TraceFault::Memory,
+    );
 }

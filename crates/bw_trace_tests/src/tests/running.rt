@@ -1,5 +1,6 @@
 // A whole trace, its counts and its status.
 use super::ports::Maker;
+use crate::tests::assertions::{assert_equal, assert_that};
 use bw_batch::Options;
 use bw_trace::{Cause, Job, Source, Summary, TraceFault, run_trace, status};
 use std::process::Abort;
@@ -20,7 +21,7 @@ impl<R: Abort + Threads + Sync> Maker<'_, R> {
             options,
             Job::Run,
         );
-        assert!(self.rt; outcome == expected);
+        assert_equal(self.rt, outcome, expected);
         self.expect_text(&out, output);
     }
 }
@@ -86,22 +87,22 @@ fn batches_without_memory_are_counted(rt: HostRuntime) {
         make.alloc.refuse(0);
         match outcome {
             Ok(summary) => {
-                assert_eq!(rt; summary.batches, 2);
-                assert_eq!(rt; summary.long, 0);
+                assert_equal(&rt, summary.batches, 2);
+                assert_equal(&rt, summary.long, 0);
                 let text = match summary.memory {
                     0 => "new\nis 1\nis 1\n",
                     _ if out.taken.starts_with(b"refused".as_slice()) => "refused memory\nnone\n",
                     _ => "new\nis 1\nrefused memory\n",
                 };
                 make.expect_text(&out, text);
-                assert!(rt; summary.memory <= 1);
+                assert_that(&rt, summary.memory <= 1);
                 refusals = refusals.saturating_add(summary.memory);
             }
-            Err(fault) => assert!(rt; fault == TraceFault::Memory),
+            Err(fault) => assert_equal(&rt, fault, TraceFault::Memory),
         }
         if left > 0 && left <= growth {
-            assert!(rt; outcome == Ok(counts(2, 0, 0)));
-            assert!(rt; refusals > 0);
+            assert_equal(&rt, outcome, Ok(counts(2, 0, 0)));
+            assert_that(&rt, refusals > 0);
             return;
         }
     }
@@ -129,6 +130,6 @@ fn each_outcome_has_its_status(rt: HostRuntime) {
             3,
         ),
     ] {
-        assert_eq!(rt; status(&outcome), expected);
+        assert_equal(&rt, status(&outcome), expected);
     }
 }

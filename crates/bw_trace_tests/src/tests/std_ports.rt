@@ -1,5 +1,6 @@
 // Readers and writers of std as sources and takers.
 use super::ports::Maker;
+use crate::tests::assertions::{assert_equal, assert_that};
 use bw_trace::{Failed, FromRead, FromWrite, Outlet, Source};
 use std::collections::VecDeque;
 use std::io;
@@ -22,14 +23,14 @@ fn a_reader_of_std_is_a_source(rt: HostRuntime) {
 fn a_writer_of_std_takes_texts(rt: HostRuntime) {
     let mut queue: VecDeque<u8> = VecDeque::new(rt.alloc());
     let mut out = FromWrite::new(&mut queue);
-    assert!(rt; out.put(b"is 1\n").is_ok());
-    assert!(rt; out.put(b"").is_ok());
-    assert!(rt; out.put(b"none\n").is_ok());
+    assert_that(&rt, out.put(b"is 1\n").is_ok());
+    assert_that(&rt, out.put(b"").is_ok());
+    assert_that(&rt, out.put(b"none\n").is_ok());
     drop(out);
     let (front, back) = queue.as_slices();
     let mut taken = front.to_vec(rt.alloc()).expect(&rt, "memory");
     taken.extend_from_slice(back).expect(&rt, "memory");
-    assert!(rt; taken.as_slice() == b"is 1\nnone\n".as_slice());
+    assert_equal(&rt, taken.as_slice(), b"is 1\nnone\n".as_slice());
 }
 
 // Holds bytes back until it is flushed.
@@ -68,8 +69,12 @@ fn each_text_is_flushed(rt: HostRuntime) {
         fails_at: 3,
     };
     for (flushes, taken) in [(1, 5), (2, 10)] {
-        assert!(rt; FromWrite::new(&mut writer).put(b"none\n").is_ok());
-        assert!(rt; (writer.flushes, writer.taken, writer.held) == (flushes, taken, 0));
+        assert_that(&rt, FromWrite::new(&mut writer).put(b"none\n").is_ok());
+        assert_equal(
+            &rt,
+            (writer.flushes, writer.taken, writer.held),
+            (flushes, taken, 0),
+        );
     }
-    assert!(rt; FromWrite::new(&mut writer).put(b"none\n") == Err(Failed));
+    assert_equal(&rt, FromWrite::new(&mut writer).put(b"none\n"), Err(Failed));
 }

@@ -2,6 +2,7 @@
 ghost use Rattle.std.specs.Prelude.{◌≡◌, None};
 
 use super::making::{has, heap, key, stands, three_leaves};
+use crate::tests::assertions::assert_equal;
 use bw_tree::Tree;
 use std::process::Abort;
 
@@ -9,7 +10,7 @@ use std::process::Abort;
 fn one_leaf_has_no_page_above(rt: HostRuntime) {
     let alloc = heap(&rt, rt.alloc());
     let tree = Tree::new(alloc).expect(&rt, "memory");
-    assert!(rt; tree.above(1, &key(&rt, alloc, b"a")) == None);
+    assert_equal(&rt, tree.above(1, &key(&rt, alloc, b"a")), None);
 }
 
 // Starts over a tree of three leaves, where its mapping words name their base pages.
@@ -26,7 +27,7 @@ fn a_tree_of_base_pages_starts_over(rt: HostRuntime) {
     let mut tree = three_leaves(&rt, alloc);
     alloc.refuse(1);
     start_over(&rt, &mut tree);
-    assert_eq!(rt; alloc.left(), 1);
+    assert_equal(&rt, alloc.left(), 1);
     alloc.refuse(0);
     stands(&rt, &tree, 3, &[0, 1, 2, 3], 0);
     has(&rt, alloc, &tree, 7, &[(b"a", Some(b"1")), (b"d", None)]);

@@ -1,5 +1,6 @@
 // Trees and scans that are dropped give their memory back. Those of an adopted batch stand in the tests of bw_post.
 use super::making::{LONG, key, three_with, value};
+use crate::tests::assertions::{assert_equal, assert_that};
 use bw_memory::{Alloc, Heap};
 use bw_model::Op;
 use bw_tree::{Scans, Tree};
@@ -15,7 +16,7 @@ fn upsert<R: Abort>(rt: &R, alloc: Alloc) -> Op {
 fn drop_tree<R: Abort>(rt: &R, alloc: Alloc) {
     let mut tree = three_with(rt, alloc, LONG);
     tree.stage(&[upsert(rt, alloc)]).expect(rt, "memory");
-    assert!(rt; alloc.used() > 0);
+    assert_that(rt, alloc.used() > 0);
     drop(tree);
 }
 
@@ -26,17 +27,17 @@ fn drop_scans<R: Abort>(rt: &R, alloc: Alloc, tree: &Tree) {
     let mut scans = Scans::new(alloc, tree);
     let pairs = scans.scan(&from, None, 9, 0).expect(rt, "memory");
     drop(pairs);
-    assert!(rt; alloc.used() > kept);
+    assert_that(rt, alloc.used() > kept);
     drop(scans);
-    assert_eq!(rt; alloc.used(), kept);
+    assert_equal(rt, alloc.used(), kept);
 }
 
 #[test]
 fn what_is_dropped_gives_its_memory_back(rt: HostRuntime) -> Result<(), Fail> {
     let alloc = Heap::within(rt.alloc(), 65536).leak(rt.alloc())?;
     drop_tree(&rt, alloc);
-    assert_eq!(rt; alloc.used(), 0);
+    assert_equal(&rt, alloc.used(), 0);
     drop_scans(&rt, alloc, &three_with(&rt, alloc, LONG));
-    assert_eq!(rt; alloc.used(), 0);
+    assert_equal(&rt, alloc.used(), 0);
     Ok(())
 }

@@ -3,6 +3,7 @@ ghost use Rattle.std.specs.Prelude.{◌≡◌, None};
 
 use super::making::{LONG, are, heap, key, split_page, three_leaves, three_with, value};
 use super::refused::was_refused;
+use crate::tests::assertions::{assert_equal, assert_that};
 use bw_key::Key;
 use bw_memory::Alloc;
 use bw_model::Op;
@@ -51,8 +52,8 @@ fn id(number: Option<u32>) -> Option<PageId> {
 
 // Compares the left neighbour of a page, and the page that names it.
 fn has_beside<R: Abort>(rt: &R, tree: &Tree, page: u32, left: Option<u32>, namer: Option<u32>) {
-    assert!(rt; tree.left_of(PageId(page)) == id(left));
-    assert!(rt; tree.namer(PageId(page)) == id(namer));
+    assert_equal(rt, tree.left_of(PageId(page)), id(left));
+    assert_equal(rt, tree.namer(PageId(page)), id(namer));
 }
 
 #[test]
@@ -69,7 +70,7 @@ fn each_page_has_its_left_neighbour_and_its_namer(rt: HostRuntime) {
     has_beside(&rt, &tree, 5, None, None);
     has_beside(&rt, &tree, 7, None, None);
     has_beside(&rt, &tree, u32::MAX, None, None);
-    assert_eq!(rt; alloc.left(), 1);
+    assert_equal(&rt, alloc.left(), 1);
 }
 
 #[test]
@@ -87,10 +88,10 @@ fn pages_without_a_record_are_plain(rt: HostRuntime) {
     let alloc = heap(&rt, rt.alloc());
     let tree = three_levels(&rt, alloc);
     for page in [1, 2, 4, 5, 6] {
-        assert!(rt; tree.is_plain(PageId(page)));
+        assert_that(&rt, tree.is_plain(PageId(page)));
     }
     for page in [0, 3, 7, u32::MAX] {
-        assert!(rt; !tree.is_plain(PageId(page)));
+        assert_that(&rt, !tree.is_plain(PageId(page)));
     }
 }
 
@@ -121,7 +122,7 @@ fn has_leaf<R: Abort>(
 ) {
     let state = tree.state(PageId(page), 0).expect(rt, "memory");
     match &state {
-        Some(Page::Leaf(leaf)) => assert!(rt; is_leaf(leaf, bounds, pairs)),
+        Some(Page::Leaf(leaf)) => assert_that(rt, is_leaf(leaf, bounds, pairs)),
         _ => panic!(rt; "page {page} is no leaf"),
     }
 }
@@ -146,7 +147,7 @@ fn has_inner<R: Abort>(
 ) {
     let state = tree.state(PageId(page), 0).expect(rt, "memory");
     match &state {
-        Some(Page::Inner(inner)) => assert!(rt; is_inner(inner, level, bounds, children)),
+        Some(Page::Inner(inner)) => assert_that(rt, is_inner(inner, level, bounds, children)),
         _ => panic!(rt; "page {page} is no inner page"),
     }
 }
@@ -166,8 +167,8 @@ fn each_page_has_its_state(rt: HostRuntime) {
     has_inner(&rt, &tree, 3, 1, (b"", Some(b"e"), Some(4)), 2);
     has_inner(&rt, &tree, 4, 1, (b"e", None, None), 1);
     has_inner(&rt, &tree, 5, 2, (b"", None, None), 2);
-    assert!(rt; is_unused(&rt, &tree, 7));
-    assert!(rt; is_unused(&rt, &tree, u32::MAX));
+    assert_that(&rt, is_unused(&rt, &tree, 7));
+    assert_that(&rt, is_unused(&rt, &tree, u32::MAX));
 }
 
 #[test]
@@ -184,7 +185,7 @@ fn state_refused<R: Abort>(rt: &R, alloc: Alloc, tree: &Tree, page: u32, growth:
     alloc.refuse(growth);
     let state = tree.state(PageId(page), 0);
     let refused = was_refused(alloc, growth);
-    assert!(rt; state.is_err() == refused);
+    assert_equal(rt, state.is_err(), refused);
     refused
 }
 
@@ -192,7 +193,7 @@ fn state_refused<R: Abort>(rt: &R, alloc: Alloc, tree: &Tree, page: u32, growth:
 fn each_refused<R: Abort>(rt: &R, alloc: Alloc, tree: &Tree, page: u32, least: u64) {
     for growth in 1..100 {
         if !state_refused(rt, alloc, tree, page, growth) {
-            assert!(rt; growth > least);
+            assert_that(rt, growth > least);
             return;
         }
     }

@@ -4,6 +4,7 @@ ghost use Rattle.bw_chain.specs.Splits.{HasNoRemovedAt};
 ghost use Rattle.bw_tree.specs.Making.{AreAbutting};
 ghost use Rattle.bw_tree.specs.Pages.{IsPlain};
 
+use crate::tests::assertions::{assert_equal, assert_that};
 use bw_fixtures::{leaf_of, pair, two};
 pub use bw_fixtures::{LONG, are};
 use bw_key::{Key, Memory};
@@ -105,10 +106,10 @@ pub fn three_leaves<R: Abort>(rt: &R, alloc: Alloc) -> Tree
 
 /// Compares the identifiers of a tree's root, its mapping words, and how many records it has. Its next stamp is 0.
 pub fn stands<R: Abort>(rt: &R, tree: &Tree, root: u32, heads: &[u64], records: usize) {
-    assert!(rt; tree.root() == PageId(root));
-    assert!(rt; tree.heads() == heads);
-    assert_eq!(rt; tree.records(), records);
-    assert_eq!(rt; tree.next_stamp(), 0);
+    assert_equal(rt, tree.root(), PageId(root));
+    assert_equal(rt, tree.heads(), heads);
+    assert_equal(rt, tree.records(), records);
+    assert_equal(rt, tree.next_stamp(), 0);
 }
 
 // Whether a value has these bytes, or there is none.
@@ -132,7 +133,7 @@ fn has_at<R: Abort>(
     let found = tree
         .value_at(&key(rt, alloc, bytes), stamp)
         .expect(rt, "memory");
-    assert!(rt; is(found.as_ref(), wanted));
+    assert_that(rt, is(found.as_ref(), wanted));
 }
 
 /// Compares the values at keys as of a stamp.

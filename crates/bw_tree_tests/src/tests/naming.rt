@@ -6,6 +6,7 @@ ghost use Rattle.bw_tree.specs.Making.{AreAbutting};
 use super::making::{are, heap, key, stands};
 use super::refused::was_refused;
 use super::splits::{FLOOR, has_entries, routes, split};
+use crate::tests::assertions::{assert_equal, assert_that};
 use bw_fixtures::key as key_of;
 use bw_key::Key;
 use bw_memory::Alloc;
@@ -56,8 +57,8 @@ fn parted<R: Abort>(rt: &R, alloc: Alloc, keys: [&[u8]; 2]) -> Tree
     ensures { result.staged ≡ None }
 {
     let mut tree = two_leaves(rt, alloc);
-    assert!(rt; split(rt, alloc, &mut tree, keys[0], 1) == Ok(PageId(3)));
-    assert!(rt; split(rt, alloc, &mut tree, keys[1], 1) == Ok(PageId(4)));
+    assert_equal(rt, split(rt, alloc, &mut tree, keys[0], 1), Ok(PageId(3)));
+    assert_equal(rt, split(rt, alloc, &mut tree, keys[1], 1), Ok(PageId(4)));
     tree
 }
 
@@ -147,7 +148,7 @@ fn holds<R: Abort>(rt: &R, alloc: Alloc, tree: &Tree) {
         (b"e", b"5"),
         (b"f", b"6"),
     ];
-    assert!(rt; are(&all, &wanted));
+    assert_that(rt, are(&all, &wanted));
 }
 
 #[test]
@@ -155,7 +156,7 @@ fn two_pages_in_the_middle_are_named_at_once(rt: HostRuntime) {
     let alloc = heap(&rt, rt.alloc());
     let mut tree = parted(&rt, alloc, [b"a", b"b"]);
     has_entries(&rt, &tree, PageId(2), 2);
-    assert!(rt; name_both(&rt, alloc, &mut tree, PageId(0)) == Ok(()));
+    assert_equal(&rt, name_both(&rt, alloc, &mut tree, PageId(0)), Ok(()));
     stands(&rt, &tree, 2, &[FLOOR, 1, 2, FLOOR + 1, 4], 4);
     has_entries(&rt, &tree, PageId(2), 4);
     routes(&rt, alloc, &tree, b"b", 3);
@@ -168,7 +169,7 @@ fn two_pages_in_the_middle_are_named_at_once(rt: HostRuntime) {
 fn two_pages_at_the_end_are_named_at_once(rt: HostRuntime) {
     let alloc = heap(&rt, rt.alloc());
     let mut tree = parted(&rt, alloc, [b"d", b"e"]);
-    assert!(rt; name_both(&rt, alloc, &mut tree, PageId(1)) == Ok(()));
+    assert_equal(&rt, name_both(&rt, alloc, &mut tree, PageId(1)), Ok(()));
     has_entries(&rt, &tree, PageId(2), 4);
     routes(&rt, alloc, &tree, b"d", 1);
     routes(&rt, alloc, &tree, b"e", 3);
@@ -180,11 +181,11 @@ fn two_pages_at_the_end_are_named_at_once(rt: HostRuntime) {
 fn two_pages_are_named_over_an_added_one(rt: HostRuntime) {
     let alloc = heap(&rt, rt.alloc());
     let mut tree = parted(&rt, alloc, [b"a", b"b"]);
-    assert!(rt; split(&rt, alloc, &mut tree, b"d", 2) == Ok(PageId(5)));
+    assert_equal(&rt, split(&rt, alloc, &mut tree, b"d", 2), Ok(PageId(5)));
     name_one(&rt, &mut tree, PageId(1));
     let heads = [FLOOR, FLOOR + 2, FLOOR + 3, FLOOR + 1, 4, 5];
     stands(&rt, &tree, 2, &heads, 4);
-    assert!(rt; name_both(&rt, alloc, &mut tree, PageId(0)) == Ok(()));
+    assert_equal(&rt, name_both(&rt, alloc, &mut tree, PageId(0)), Ok(()));
     stands(&rt, &tree, 2, &[FLOOR, FLOOR + 2, 2, FLOOR + 1, 4, 5], 6);
     has_entries(&rt, &tree, PageId(2), 5);
     routes(&rt, alloc, &tree, b"f", 5);
@@ -197,7 +198,7 @@ fn name_refused<R: Abort>(rt: &R, alloc: Alloc, growth: u64) -> bool {
     alloc.refuse(growth);
     let named = name_both(rt, alloc, &mut tree, PageId(0));
     let refused = was_refused(alloc, growth);
-    assert!(rt; named.is_err() == refused);
+    assert_equal(rt, named.is_err(), refused);
     has_entries(rt, &tree, PageId(2), if refused { 2 } else { 4 });
     holds(rt, alloc, &tree);
     refused
@@ -208,7 +209,7 @@ fn each_growth_of_two_index_entries_is_refused(rt: HostRuntime) {
     let alloc = heap(&rt, rt.alloc());
     for growth in 1..100 {
         if !name_refused(&rt, alloc, growth) {
-            assert!(rt; growth > 2);
+            assert_that(&rt, growth > 2);
             return;
         }
     }

@@ -3,6 +3,7 @@ ghost use Rattle.std.specs.List.{Contains};
 ghost use Rattle.bw_tree.specs.Levels.{row};
 
 use super::making::{are, heap, key, three_leaves};
+use crate::tests::assertions::{assert_equal, assert_that};
 use bw_memory::Alloc;
 use bw_tree::{Leaf, PageId, Tree};
 use std::process::Abort;
@@ -16,8 +17,8 @@ fn leaf_at<R: Abort>(rt: &R, alloc: Alloc, tree: &Tree, bytes: &[u8]) -> PageId
 
 // Compares the low key and pairs of a leaf's base page.
 fn is_leaf<R: Abort>(rt: &R, leaf: &Leaf, low: &[u8], wanted: &[(&'static [u8], &'static [u8])]) {
-    assert!(rt; leaf.low().bytes() == low);
-    assert!(rt; are(leaf.pairs(), wanted));
+    assert_equal(rt, leaf.low().bytes(), low);
+    assert_that(rt, are(leaf.pairs(), wanted));
 }
 
 #[test]
@@ -43,7 +44,7 @@ fn each_leaf_ends_where_the_next_begins(rt: HostRuntime) {
     ];
     for (bytes, end) in wanted {
         let page = leaf_at(&rt, alloc, &tree, bytes);
-        assert!(rt; tree.end(page).map(|key| key.bytes()) == end);
+        assert_equal(&rt, tree.end(page).map(|key| key.bytes()), end);
     }
 }
 
@@ -54,10 +55,10 @@ fn a_leaf_is_read_at_once_without_memory(rt: HostRuntime) {
     let page = leaf_at(&rt, alloc, &tree, b"d");
     alloc.refuse(1);
     let leaf = tree.leaf(alloc, page).expect(&rt, "memory");
-    assert_eq!(rt; alloc.left(), 1);
-    assert_eq!(rt; leaf.writes.len(), 0);
+    assert_equal(&rt, alloc.left(), 1);
+    assert_equal(&rt, leaf.writes.len(), 0);
     is_leaf(&rt, leaf.base, b"c", &[(b"c", b"3")]);
     let end: Option<&[u8]> = Some(b"e");
-    assert!(rt; leaf.end.map(|key| key.bytes()) == end);
-    assert!(rt; leaf.side == Some(PageId(2)));
+    assert_equal(&rt, leaf.end.map(|key| key.bytes()), end);
+    assert_equal(&rt, leaf.side, Some(PageId(2)));
 }

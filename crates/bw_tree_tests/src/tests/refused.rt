@@ -1,5 +1,6 @@
 // Each growth of memory refused in turn.
 use super::making::{LONG, has, heap, key, leaves, stands, three_leaves, three_with, value};
+use crate::tests::assertions::{assert_equal, assert_that};
 pub use bw_fixtures::was_refused;
 use bw_memory::Alloc;
 use bw_model::Op;
@@ -16,12 +17,12 @@ fn each_growth_of_a_tree_is_refused(rt: HostRuntime) {
         let refused = was_refused(alloc, growth);
         match made {
             Ok(tree) => {
-                assert!(rt; !refused);
-                assert!(rt; growth > 3);
+                assert_that(&rt, !refused);
+                assert_that(&rt, growth > 3);
                 stands(&rt, &tree, 3, &[0, 1, 2, 3], 0);
                 return;
             }
-            Err(Memory) => assert!(rt; refused),
+            Err(Memory) => assert_that(&rt, refused),
         }
     }
     panic!(rt; "no run met no refusal")
@@ -42,7 +43,7 @@ fn stage_refused<R: Abort>(rt: &R, alloc: Alloc, growth: u64) -> bool {
     alloc.refuse(growth);
     let staged = tree.stage(&ops);
     let refused = was_refused(alloc, growth);
-    assert!(rt; staged.is_err() == refused);
+    assert_equal(rt, staged.is_err(), refused);
     stands(rt, &tree, 3, &[0, 1, 2, 3], if refused { 0 } else { 2 });
     has(rt, alloc, &tree, 9, &[(b"c", Some(b"3")), (LONG, None)]);
     refused
@@ -53,7 +54,7 @@ fn each_growth_of_a_stage_is_refused(rt: HostRuntime) {
     let alloc = heap(&rt, rt.alloc());
     for growth in 1..100 {
         if !stage_refused(&rt, alloc, growth) {
-            assert!(rt; growth > 4);
+            assert_that(&rt, growth > 4);
             return;
         }
     }
@@ -69,7 +70,11 @@ fn a_refused_batch_is_staged_again(rt: HostRuntime) {
     if tree.stage(&ops).is_err() {
         alloc.refuse(0);
         let staged = tree.stage(&ops).expect(&rt, "memory");
-        assert!(rt; (staged.base, staged.floor, staged.records) == (0, 4294967296, 2));
+        assert_equal(
+            &rt,
+            (staged.base, staged.floor, staged.records),
+            (0, 4294967296, 2),
+        );
         return;
     }
     panic!(rt; "the growth was not refused")
@@ -81,12 +86,12 @@ fn the_copy_of_a_value_is_refused(rt: HostRuntime) {
     let tree = three_with(&rt, alloc, LONG);
     let at = key(&rt, alloc, b"c");
     alloc.refuse(1);
-    assert!(rt; tree.value_at(&at, 0).err() == Some(Memory));
-    assert_eq!(rt; alloc.left(), 0);
+    assert_equal(&rt, tree.value_at(&at, 0).err(), Some(Memory));
+    assert_equal(&rt, alloc.left(), 0);
     alloc.refuse(2);
     let found = tree.value_at(&at, 0).expect(&rt, "memory");
-    assert_eq!(rt; alloc.left(), 1);
+    assert_equal(&rt, alloc.left(), 1);
     alloc.refuse(0);
-    assert!(rt; found == Some(value(&rt, alloc, LONG)));
+    assert_equal(&rt, found, Some(value(&rt, alloc, LONG)));
     stands(&rt, &tree, 3, &[0, 1, 2, 3], 0);
 }

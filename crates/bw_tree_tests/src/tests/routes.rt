@@ -4,6 +4,7 @@ ghost use Rattle.bw_model.specs.Contents.{is_below_end};
 ghost use Rattle.bw_tree.specs.Making.{AreAbutting};
 
 use super::making::{heap, key, one_leaf};
+use crate::tests::assertions::{assert_equal, assert_that};
 use bw_key::Key;
 use bw_memory::Alloc;
 use bw_model::Pairs;
@@ -67,8 +68,8 @@ fn is_end(end: Option<&Key>, other: Option<&Key>) -> bool {
 fn is_found<R: Abort>(rt: &R, alloc: Alloc, tree: &Tree, routes: &mut Routes<'_>, number: u32) {
     let key = key_of(rt, alloc, number);
     let leaf = tree.route(&key);
-    assert!(rt; routes.route(&key) == leaf);
-    assert!(rt; is_end(routes.end(), tree.end(leaf)));
+    assert_equal(rt, routes.route(&key), leaf);
+    assert_that(rt, is_end(routes.end(), tree.end(leaf)));
 }
 
 #[test]
@@ -135,5 +136,5 @@ fn searches_take_no_memory(rt: HostRuntime) {
     for number in [0, 5, 10, 2500, 2501, 9, 4000] {
         is_found(&rt, alloc, &tree, &mut routes, number);
     }
-    assert_eq!(rt; alloc.left(), 1);
+    assert_equal(&rt, alloc.left(), 1);
 }

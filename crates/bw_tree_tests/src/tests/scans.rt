@@ -1,6 +1,7 @@
 // Scans over three leaves.
 use super::making::{are, heap, key, three_leaves};
 use super::refused::was_refused;
+use crate::tests::assertions::{assert_equal, assert_that};
 use bw_memory::Alloc;
 use bw_model::Pairs;
 use bw_tree::{Memory, Scans, Tree};
@@ -13,7 +14,7 @@ fn has_pairs<R: Abort>(
     wanted: &[(&'static [u8], &'static [u8])],
 ) {
     let pairs = pairs.expect(rt, "the pairs");
-    assert!(rt; are(&pairs, wanted));
+    assert_that(rt, are(&pairs, wanted));
 }
 
 #[test]
@@ -165,10 +166,10 @@ fn a_scan_of_leaves_without_writes_takes_memory_for_its_answer_alone(rt: HostRun
         let pairs = tree.scan_at(&from, None, 9, 0);
         if !was_refused(alloc, growth) {
             has_pairs(&rt, pairs, &[(b"b", b"2"), (b"c", b"3"), (b"e", b"5")]);
-            assert_eq!(rt; growth, 3);
+            assert_equal(&rt, growth, 3);
             return;
         }
-        assert!(rt; pairs.is_err());
+        assert_that(&rt, pairs.is_err());
     }
     panic!(rt; "no run met no refusal")
 }
@@ -183,10 +184,10 @@ fn a_scan_back_of_leaves_without_writes_takes_memory_for_its_answer_alone(rt: Ho
         let pairs = tree.rscan_at(&from, None, 9, 0);
         if !was_refused(alloc, growth) {
             has_pairs(&rt, pairs, &[(b"e", b"5"), (b"c", b"3"), (b"b", b"2")]);
-            assert_eq!(rt; growth, 3);
+            assert_equal(&rt, growth, 3);
             return;
         }
-        assert!(rt; pairs.is_err());
+        assert_that(&rt, pairs.is_err());
     }
     panic!(rt; "no run met no refusal")
 }

@@ -3,6 +3,7 @@ ghost use Rattle.std.specs.Prelude.{◌≡◌, None};
 
 use super::making::{LONG, heap, key, split_page, stands, three_leaves, three_with};
 use super::refused::was_refused;
+use crate::tests::assertions::{assert_equal, assert_that};
 use bw_key::Key;
 use bw_memory::Alloc;
 use bw_tree::{PageId, PageShape, Tree};
@@ -33,9 +34,9 @@ fn is(page: &PageShape, wanted: &Wanted) -> bool {
 // Compares the pages of a tree.
 fn has_pages<R: Abort>(rt: &R, tree: &Tree, wanted: &[Wanted]) {
     let pages = tree.shape().expect(rt, "the pages");
-    assert_eq!(rt; pages.len(), wanted.len());
+    assert_equal(rt, pages.len(), wanted.len());
     for (page, wanted) in pages.iter().zip(wanted) {
-        assert!(rt; is(page, wanted));
+        assert_that(rt, is(page, wanted));
     }
 }
 
@@ -93,7 +94,7 @@ fn shape_refused<R: Abort>(rt: &R, alloc: Alloc, tree: &Tree, growth: u64) -> bo
     alloc.refuse(growth);
     let pages = tree.shape();
     let refused = was_refused(alloc, growth);
-    assert!(rt; pages.is_err() == refused);
+    assert_equal(rt, pages.is_err(), refused);
     refused
 }
 
@@ -103,7 +104,7 @@ fn each_growth_of_a_list_is_refused(rt: HostRuntime) {
     let tree = three_with(&rt, alloc, LONG);
     for growth in 1..100 {
         if !shape_refused(&rt, alloc, &tree, growth) {
-            assert!(rt; growth > 5);
+            assert_that(&rt, growth > 5);
             stands(&rt, &tree, 3, &[0, 1, 2, 3], 0);
             return;
         }

@@ -3,6 +3,7 @@ ghost use Rattle.std.specs.Prelude.{◌≡◌, None};
 
 use super::making::{LONG, are, has, heap, key, long_leaf, split_page, stands, three_leaves};
 use super::refused::was_refused;
+use crate::tests::assertions::{assert_equal, assert_that};
 use bw_memory::Alloc;
 use bw_tree::{Memory, PageId, Tree};
 use std::process::Abort;
@@ -27,7 +28,7 @@ pub fn split<R: Abort>(
 
 /// Compares the leaf of a key.
 pub fn routes<R: Abort>(rt: &R, alloc: Alloc, tree: &Tree, bytes: &[u8], wanted: u32) {
-    assert!(rt; tree.route(&key(rt, alloc, bytes)) == PageId(wanted));
+    assert_equal(rt, tree.route(&key(rt, alloc, bytes)), PageId(wanted));
 }
 
 /// Compares how many entries a page has that is a base page by itself.
@@ -55,23 +56,24 @@ fn holds<R: Abort>(rt: &R, alloc: Alloc, tree: &Tree) {
     let all = tree
         .scan_at(&key(rt, alloc, b""), None, 9, 0)
         .expect(rt, "the pairs");
-    assert!(rt;
+    assert_that(
+        rt,
         are(
             &all,
-            &[(b"a", b"1"), (b"b", b"2"), (b"c", b"3"), (b"e", b"5")]
-        )
+            &[(b"a", b"1"), (b"b", b"2"), (b"c", b"3"), (b"e", b"5")],
+        ),
     );
     let back = tree
         .rscan_at(&key(rt, alloc, b""), None, 3, 0)
         .expect(rt, "the pairs");
-    assert!(rt; are(&back, &[(b"e", b"5"), (b"c", b"3"), (b"b", b"2")]));
+    assert_that(rt, are(&back, &[(b"e", b"5"), (b"c", b"3"), (b"b", b"2")]));
 }
 
 #[test]
 fn a_leaf_parts_in_two(rt: HostRuntime) {
     let alloc = heap(&rt, rt.alloc());
     let mut tree = three_leaves(&rt, alloc);
-    assert!(rt; split(&rt, alloc, &mut tree, b"a", 1) == Ok(PageId(4)));
+    assert_equal(&rt, split(&rt, alloc, &mut tree, b"a", 1), Ok(PageId(4)));
     stands(&rt, &tree, 3, &[FLOOR, 1, 2, 3, 4], 1);
     routes(&rt, alloc, &tree, b"", 0);
     routes(&rt, alloc, &tree, b"aa", 0);
@@ -90,7 +92,7 @@ fn the_left_part_is_consolidated_with_no_memory(rt: HostRuntime) {
     let left = tree.route(&key(&rt, alloc, b"a"));
     alloc.refuse(1);
     tree.consolidate(left).expect(&rt, "memory");
-    assert_eq!(rt; alloc.left(), 1);
+    assert_equal(&rt, alloc.left(), 1);
     alloc.refuse(0);
     stands(&rt, &tree, 3, &[0, 1, 2, 3, 4], 1);
     routes(&rt, alloc, &tree, b"b", 4);
@@ -104,7 +106,7 @@ fn split_refused<R: Abort>(rt: &R, alloc: Alloc, growth: u64) -> bool {
     alloc.refuse(growth);
     let parted = split(rt, alloc, &mut tree, b"a", 1);
     let refused = was_refused(alloc, growth);
-    assert!(rt; parted.is_ok() || refused);
+    assert_that(rt, parted.is_ok() || refused);
     if parted.is_err() {
         stands(rt, &tree, 3, &[0, 1, 2, 3], 0);
     }
@@ -117,7 +119,7 @@ fn each_growth_of_a_split_is_refused(rt: HostRuntime) {
     let alloc = heap(&rt, rt.alloc());
     for growth in 1..100 {
         if !split_refused(&rt, alloc, growth) {
-            assert!(rt; growth > 3);
+            assert_that(&rt, growth > 3);
             return;
         }
     }
@@ -132,12 +134,12 @@ fn consolidate_refused<R: Abort>(rt: &R, alloc: Alloc, tree: &mut Tree)
     split(rt, alloc, tree, b"a", 1).expect(rt, "memory");
     let left = tree.route(&key(rt, alloc, b"a"));
     alloc.refuse(1);
-    assert!(rt; tree.consolidate(left).is_err());
-    assert_eq!(rt; alloc.left(), 0);
+    assert_that(rt, tree.consolidate(left).is_err());
+    assert_equal(rt, alloc.left(), 0);
     stands(rt, tree, 0, &[FLOOR, 1], 1);
     alloc.refuse(2);
-    assert!(rt; tree.consolidate(left).is_ok());
-    assert_eq!(rt; alloc.left(), 1);
+    assert_that(rt, tree.consolidate(left).is_ok());
+    assert_equal(rt, alloc.left(), 1);
     alloc.refuse(0);
     stands(rt, tree, 0, &[0, 1], 1);
 }

@@ -1,5 +1,6 @@
 // Trees of one leaf and of three, and a batch that is staged and undone.
 use super::making::{has, heap, key, leaves, one_leaf, stands, three_leaves, value};
+use crate::tests::assertions::{assert_equal, assert_that};
 use bw_delta::{Action, Write};
 use bw_memory::Alloc;
 use bw_model::Op;
@@ -39,9 +40,9 @@ fn each_key_is_sought_in_the_leaf_whose_range_has_it(rt: HostRuntime) {
         (b"z", 2),
     ];
     for (bytes, page) in wanted {
-        assert!(rt; tree.route(&key(&rt, alloc, bytes)) == PageId(page));
+        assert_equal(&rt, tree.route(&key(&rt, alloc, bytes)), PageId(page));
     }
-    assert_eq!(rt; alloc.left(), 1);
+    assert_equal(&rt, alloc.left(), 1);
 }
 
 #[test]
@@ -50,7 +51,7 @@ fn one_leaf_is_the_root(rt: HostRuntime) {
     let tree = Tree::from_level(alloc, one_leaf(&rt, alloc)).expect(&rt, "memory");
     stands(&rt, &tree, 0, &[0], 0);
     has(&rt, alloc, &tree, 0, &[(b"a", Some(b"1")), (b"b", None)]);
-    assert!(rt; tree.route(&key(&rt, alloc, b"b")) == PageId(0));
+    assert_equal(&rt, tree.route(&key(&rt, alloc, b"b")), PageId(0));
 }
 
 #[test]
@@ -59,7 +60,7 @@ fn a_new_tree_is_empty(rt: HostRuntime) {
     let tree = Tree::new(alloc).expect(&rt, "memory");
     stands(&rt, &tree, 0, &[0], 0);
     has(&rt, alloc, &tree, 0, &[(b"", None), (b"a", None)]);
-    assert!(rt; tree.route(&key(&rt, alloc, b"")) == PageId(0));
+    assert_equal(&rt, tree.route(&key(&rt, alloc, b"")), PageId(0));
 }
 
 // Two writes and a scan: upsert c 9, delete e, scan % * 9.
@@ -80,35 +81,36 @@ fn a_staged_batch_is_undone(rt: HostRuntime) {
     let alloc = heap(&rt, rt.alloc());
     let mut tree = three_leaves(&rt, alloc);
     let staged = tree.stage(&batch(&rt, alloc)).expect(&rt, "memory");
-    assert!(rt;
-        staged
-            == Staged {
-                base: 0,
-                floor: 4294967296,
-                records: 2
-            }
+    assert_equal(
+        &rt,
+        staged,
+        Staged {
+            base: 0,
+            floor: 4294967296,
+            records: 2,
+        },
     );
     stands(&rt, &tree, 3, &[0, 1, 2, 3], 2);
     has(&rt, alloc, &tree, 2, &AT_FIRST);
 
     alloc.refuse(1);
     tree.undo();
-    assert_eq!(rt; alloc.left(), 1);
+    assert_equal(&rt, alloc.left(), 1);
     alloc.refuse(0);
     stands(&rt, &tree, 3, &[0, 1, 2, 3], 0);
     has(&rt, alloc, &tree, 2, &AT_FIRST);
-    assert!(rt; tree.stage(&batch(&rt, alloc)) == Ok(staged));
+    assert_equal(&rt, tree.stage(&batch(&rt, alloc)), Ok(staged));
 }
 
 #[test]
 fn a_batch_is_staged_until_it_is_undone(rt: HostRuntime) {
     let alloc = heap(&rt, rt.alloc());
     let mut tree = three_leaves(&rt, alloc);
-    assert!(rt; tree.staged().is_none());
+    assert_that(&rt, tree.staged().is_none());
     let staged = tree.stage(&batch(&rt, alloc)).expect(&rt, "memory");
-    assert!(rt; tree.staged() == Some(staged));
+    assert_equal(&rt, tree.staged(), Some(staged));
     tree.undo();
-    assert!(rt; tree.staged().is_none());
+    assert_that(&rt, tree.staged().is_none());
 }
 
 // A staged write, by its place. One that isn't staged is a fault.
@@ -134,13 +136,13 @@ fn each_staged_write_has_the_stamp_of_its_operation(rt: HostRuntime) {
         key: key(&rt, alloc, b"c"),
         action: Action::Upsert(value(&rt, alloc, b"9")),
     };
-    assert!(rt; *staged_write(&rt, &tree, 0) == upsert);
+    assert_equal(&rt, staged_write(&rt, &tree, 0), &upsert);
     let delete = Write {
         stamp: 2,
         key: key(&rt, alloc, b"e"),
         action: Action::Delete,
     };
-    assert!(rt; *staged_write(&rt, &tree, 1) == delete);
+    assert_equal(&rt, staged_write(&rt, &tree, 1), &delete);
 }
 
 #[test]
@@ -148,13 +150,14 @@ fn a_batch_of_reads_has_no_record(rt: HostRuntime) {
     let alloc = heap(&rt, rt.alloc());
     let mut tree = three_leaves(&rt, alloc);
     let staged = tree.stage(&[Op::Get(key(&rt, alloc, b"a"))]);
-    assert!(rt;
-        staged
-            == Ok(Staged {
-                base: 0,
-                floor: 4294967296,
-                records: 0
-            })
+    assert_equal(
+        &rt,
+        staged,
+        Ok(Staged {
+            base: 0,
+            floor: 4294967296,
+            records: 0,
+        }),
     );
     stands(&rt, &tree, 3, &[0, 1, 2, 3], 0);
 }
