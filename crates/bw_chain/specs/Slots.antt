@@ -43,7 +43,7 @@ left_of_slot Free = None
 abbrev pub side_of : List Slot → ℕ → Option ℕ
 side_of slots p = side_of_slot (slot_at slots p)
 
--- the left neighbour that a removed page names
+-- the page to which a removed page leads: its left neighbour, or the child of a root that went
 abbrev pub left_of : List Slot → ℕ → Option ℕ
 left_of slots p = left_of_slot (slot_at slots p)
 

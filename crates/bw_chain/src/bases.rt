@@ -97,8 +97,8 @@ impl Chains {
         self.base(number.0 as u64).is_none()
     }
 
-    /// Lets the vacant numbers behind the last base page go, and answers how many numbers are left. It takes no memory, and
-    /// costs a step for each number that goes.
+    /// Lets the vacant numbers behind the last base page go, and answers how many numbers are left. It is never refused,
+    /// and costs a step for each number that goes.
     pub fn trim_bases(&mut self) -> usize
         ensures vacant { AreVacantFrom self.old.bases result }
         ensures last { IsTakenBefore self.old.bases result }

@@ -27,10 +27,11 @@ pub enum Page {
     Gone(RemovedPage),
 }
 
-/// What is left of a page that its left neighbour took over, until nothing names it any more.
+/// What is left of a page that its left neighbour took over, or of a root that its one child replaced, until nothing leads to
+/// it any more.
 #[derive(Debug, Drop)]
 pub struct RemovedPage {
-    /// The left neighbour, where a search goes on that comes to this page.
+    /// The left neighbour, or the child, where a search goes on that comes to this page.
     pub left: PageId,
     /// The level on which it stood.
     pub level: u32,

@@ -24,12 +24,13 @@ use Rattle.bw_tree.proofs.NeighbourLemmas.{one_left}
 use Rattle.bw_tree.proofs.PageLemmas.{lowest_leaf}
 use Rattle.bw_shape.specs.Limits.{LimitsView, AreWithinBut, IsWithin}
 use Rattle.bw_shape.specs.Merges.{IsAbsorptionFinishStep, IsAbsorptionStep, IsLoweringStep}
+use Rattle.bw_shape.specs.Releasing.{AreFreed}
 use Rattle.bw_shape.specs.Steps.{IsConsolidationStep}
 use Rattle.bw_shape.specs.Tidying.{HoldsAll, KeepsWithin}
 use Rattle.bw_shape.specs.Visits.{AreFewTogether, HasRoomOn, KeepsWithinAt}
 use Rattle.bw_shape.specs.declared.steps.Did.{Did}
 use Rattle.bw_shape.specs.declared.steps.Did.TheVariants.{Done, NotNeeded}
-use Rattle.bw_shape.proofs.TidyLemmas.{KeepsTidy, few_pairs, held_at, holds_on, tidy_still}
+use Rattle.bw_shape.proofs.TidyLemmas.{KeepsTidy, few_pairs, held_at, holds_on, tidy_freed, tidy_still}
 
 -- a page above the leaves is no leaf
 pub no_leaf : (tree : TreeView) (root : ℕ) → AreLevels tree.slots root tree.levels → (p n : ℕ) → IsInLevel tree p n → 0 < n → Contains (row tree.levels 0) p → ⊥
@@ -240,3 +241,7 @@ absorbed_within limits old new page did due due' done step few is but =
 
 pub tidy_on : (first old new : TreeView) → KeepsTidy first old → KeepsTidy old new → KeepsTidy first new
 tidy_on first old new a b = record { holds = holds_on first old new a.holds b.holds; within = λ due limits but. b.within due limits (a.within due limits but) }
+
+-- what stays where the root goes, and then identifiers are given back
+pub tidy_lowered_freed : (old mid new : TreeView) (did : Did) → old.staged ≡ None → IsLoweringStep old mid did → AreFreed mid new → KeepsTidy old new
+tidy_lowered_freed old mid new did none lowered freed = tidy_on old mid new (tidy_lowered old mid did none lowered) (tidy_freed mid new freed)

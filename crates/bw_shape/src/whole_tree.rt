@@ -88,9 +88,9 @@ fn finish_merge(tree: &mut Tree, place: usize) -> Result<(), Memory>
     let Ok(number) = u32::try_from(place) else {
         return Ok(());
     };
-    let page = PageId(number);
+    let mut page = PageId(number);
     finish_absorb(tree, page)?;
-    release_run(tree, &mut PageId(number))?;
+    release_run(tree, &mut page)?;
     Ok(())
 }
 

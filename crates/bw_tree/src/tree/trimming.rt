@@ -10,7 +10,7 @@ impl Tree {
     /// Forgets the free identifiers behind the last page: their mapping words go, as if they had never been given out. All
     /// pages stay as they are. No batch is staged.
     ///
-    /// It takes no memory. It costs a look at the last identifier, and a step for each one that goes; where most of them
+    /// It is never refused. It costs a look at the last identifier, and a step for each one that goes; where most of them
     /// went, the lists that had them move to smaller blocks, if there is memory for these.
     pub fn trim(&mut self)
         requires none { self.old.staged ≡ None }
