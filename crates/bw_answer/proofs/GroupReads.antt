@@ -15,10 +15,12 @@ use Rattle.bw_tree.specs.Levels.{IsHome, row}
 use Rattle.bw_tree.specs.Reading.{base_of, value_in, writes_over}
 use Rattle.bw_tree.specs.Slots.{Slot, slot_at}
 use Rattle.bw_tree.specs.View.{TreeView, contents_at}
-use Rattle.bw_group.specs.Points.{Entry, HasKey, entries_of}
+use Rattle.bw_group.specs.Homes.{HasPageAt}
+use Rattle.bw_group.specs.Points.{Entry, HasKey, IsEntryOf, entries_of}
 use Rattle.bw_group.specs.declared.points.Point.{Point}
 use Rattle.bw_group.proofs.RunLemmas.{all_both}
-use Rattle.bw_answer.specs.Replies.{IsReadBy}
+use Rattle.bw_group.proofs.HomeReads.{pages_listed}
+use Rattle.bw_answer.specs.Replies.{IsReadBy, IsReadInTurn, ReaderView}
 
 -- What a tree holds at a key of a page is what the page's sorted writes there make of the value under them.
 pub group_read : (tree : TreeView) (p : ℕ) (key : KeyBytes) (pairs : List (KeyBytes × ValueBytes)) (found grouped writes : List WriteView) (start : Option ValueBytes) →
@@ -51,3 +53,8 @@ first_home slots levels p ps n m more bound homes = by (m - n) (omega (arith, mo
     by zero some qs left homes = absurd (omega (arith, some))
     by (suc k) some [] left homes = absurd (omega (arith, left))
     by (suc k) some (q ∷ qs) left homes = homes.0.reached.in_level
+
+-- the page of each entry, as one who has the fields of a reader knows it
+pub all_listed : (inside batch : ReaderView) → inside ≡ batch → IsReadInTurn inside → (es : List Entry) → AllByRecursion (IsEntryOf batch.ops) es → AllByRecursion (λ e. HasPageAt inside.homes e.1) es
+all_listed inside batch is read es entries =
+    subst (λ (v : ReaderView). AllByRecursion (λ e. HasPageAt v.homes e.1) es) (sym is) (pages_listed batch.tree batch.ops batch.homes (subst IsReadInTurn is read).homes es entries)

@@ -6,3 +6,4 @@ mod Gathered
 mod Placed
 mod Replied
 mod GroupReads
+mod SortedWrites

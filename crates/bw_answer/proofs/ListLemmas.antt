@@ -1,7 +1,6 @@
 -- Parts of lists.
-use Rattle.std.proofs.Common.{◌≡◌, ℕ, zero, suc, ◌+◌, ◌-◌, ◌<◌, List, [], ◌∷◌, ◌++◌, length, take, drop, get_or, slice_get, Some, refl, ap, ◌∙◌, arith, length-drop}
+use Rattle.std.proofs.Common.{◌≡◌, ℕ, zero, suc, ◌+◌, ◌<◌, List, [], ◌∷◌, ◌++◌, length, take, drop, get_or, slice_get, Some, refl, ap, ◌∙◌, arith}
 use Rattle.std.specs.List.{AllByRecursion}
-use Rattle.std.proofs.lemmas.List.{take_all}
 
 module _ {X : Type 0} (P : X → Type 0) where
   pub all_front : (xs ys : List X) → AllByRecursion P (xs ++ ys) → AllByRecursion P xs
@@ -44,7 +43,3 @@ module _ {X : Type 0} where
     where
       one : Some x ≡ Some y → x ≡ y
       one e = cc
-
--- the rest of a list, as a part that is as long as it
-pub whole_rest : {X : Type 0} (n : ℕ) (xs : List X) → take (length xs - n) (drop n xs) ≡ drop n xs
-whole_rest n xs = let size = length-drop n xs in take_all (length xs - n) (drop n xs) (omega (arith, size))

@@ -1,13 +1,15 @@
 -- Answers that are put at their places.
-use Rattle.std.proofs.Common.{◌≡◌, inl, inr, ℕ, zero, suc, ◌<◌, List, [], ◌∷◌, ◌++◌, length, get_or, slice_get, slice_set, Some, refl, sym, ap, ◌∙◌, subst, arith}
+use Rattle.std.proofs.Common.{◌≡◌, inl, inr, ℕ, zero, suc, ◌-◌, ◌<◌, ◌≤◌, take, drop, List, [], ◌∷◌, ◌++◌, length, get_or, slice_get, slice_set, Some, refl, sym, ap, ◌∙◌, subst, arith}
 use Rattle.std.specs.List.{AllByRecursion, flat_map}
 use Rattle.std.specs.declared.vec.Vec.{Vec}
 use Rattle.std.proofs.lemmas.Bool.{cases_eq}
-use Rattle.std.proofs.lemmas.List.{length-set}
+use Rattle.std.proofs.lemmas.List.{length-set, map-append, take-append-drop}
 use Rattle.bw_model.specs.declared.operations.Reply.{Reply}
 use Rattle.bw_model.specs.declared.operations.Reply.TheVariants.{Absent}
 use Rattle.bw_answer.specs.declared.batch_reader.Answer.{Answer}
-use Rattle.bw_answer.specs.Replies.{ReaderView, contents_before, replies_to, answers_to, with_answers}
+use Rattle.bw_group.specs.Points.{Entry, entries_of, places_of}
+use Rattle.bw_group.specs.declared.points.Point.{Point}
+use Rattle.bw_answer.specs.Replies.{ReaderView, answer_to, answers_to, contents_before, point_places, replies_to, with_answers}
 use Rattle.bw_group.proofs.Lists.{get_other, get_set}
 use Rattle.bw_answer.proofs.ListLemmas.{all_back, all_front, same_list}
 use Rattle.bw_answer.proofs.ReplyLemmas.{replies_length}
@@ -103,3 +105,60 @@ module _ {Z : Type 0} where
   pub none_listed : (replies : List Reply) (rest : List (Vec Answer Z)) → length rest ≡ 0 → replies ≡ with_answers replies (flat_map (λ list. list.items) rest)
   none_listed replies [] none = refl
   none_listed replies (l ∷ rest) none = absurd (omega (arith, none))
+
+-- the answers to some places, and then those to the others
+pub both_placed : (batch : ReaderView) (replies replies' : List Reply) (here more : List ℕ) → replies' ≡ with_answers replies (answers_to batch here) →
+    AllByRecursion (λ place. place < length replies) (here ++ more) →
+    (with_answers replies' (answers_to batch more) ≡ with_answers replies (answers_to batch (here ++ more))) × AllByRecursion (λ place. place < length replies') more
+both_placed batch replies replies' here more placed within =
+    let size : length replies ≡ length replies' = sym (ap length placed ∙ placed_length replies (answers_to batch here)) in (
+      ap (λ r. with_answers r (answers_to batch more)) placed
+          ∙ sym (placed_append replies (answers_to batch here) (answers_to batch more))
+          ∙ ap (with_answers replies) (sym (map-append (answer_to batch) here more)),
+      subst (λ (m : ℕ). AllByRecursion (λ place. place < m) more) size (all_back (λ place. place < length replies) here more within),
+    )
+
+-- the places of the points from one on, in two parts
+pub places_parted : (points : List Point) (n m : ℕ) → n ≤ m → point_places (drop n points) ≡ point_places (take (m - n) (drop n points)) ++ point_places (drop m points)
+places_parted points n m le =
+    ap point_places (sym (take-append-drop (m - n) (drop n points)))
+    ∙ ap (λ (l : List Point). point_places (take (m - n) (drop n points) ++ l)) (drop-drop-here n m points le)
+    ∙ ap places_of (map-append (λ (p : Point). (p.key.now, p.place)) (take (m - n) (drop n points)) (drop m points))
+    ∙ map-append (λ (e : Entry). e.1) (entries_of (take (m - n) (drop n points))) (entries_of (drop m points))
+  where
+    drop-drop-here : (n m : ℕ) (xs : List Point) → n ≤ m → drop (m - n) (drop n xs) ≡ drop m xs
+    drop-drop-here zero m xs le = ap (λ (k : ℕ). drop k xs) (from_none m)
+      where
+        from_none : (m : ℕ) → m - 0 ≡ m
+        from_none m = omega arith
+    drop-drop-here (suc n) zero xs le = absurd (omega (arith, le))
+    drop-drop-here (suc n) (suc m) [] le = none (suc m - suc n)
+      where
+        none : (k : ℕ) → ◌≡◌ {A = List Point} (drop k []) []
+        none zero = refl
+        none (suc k) = refl
+    drop-drop-here (suc n) (suc m) (x ∷ xs) le = ap (λ (k : ℕ). drop k (drop n xs)) (both_less n m) ∙ drop-drop-here n m xs (omega (arith, le))
+      where
+        both_less : (n m : ℕ) → suc m - suc n ≡ m - n
+        both_less n m = omega arith
+
+-- the answers to some points further
+pub points_placed : (batch : ReaderView) (points : List Point) (n m : ℕ) (replies replies' : List Reply) → n ≤ m → replies' ≡ with_answers replies (answers_to batch (point_places (take (m - n) (drop n points)))) →
+    AllByRecursion (λ place. place < length replies) (point_places (drop n points)) →
+    (with_answers replies' (answers_to batch (point_places (drop m points))) ≡ with_answers replies (answers_to batch (point_places (drop n points)))) × AllByRecursion (λ place. place < length replies') (point_places (drop m points))
+points_placed batch points n m replies replies' le placed within =
+    let parted = places_parted points n m le in
+    let both = both_placed batch replies replies' (point_places (take (m - n) (drop n points))) (point_places (drop m points)) placed (subst (AllByRecursion (λ place. place < length replies)) parted within) in
+    (both.0 ∙ ap (λ (l : List ℕ). with_answers replies (answers_to batch l)) (sym parted), both.1)
+
+pub points_within : (batch : ReaderView) (points : List Point) (n m size : ℕ) → n ≤ m → AllByRecursion (λ place. place < size) (point_places (drop n points)) →
+    AllByRecursion (λ (a : Answer). a.place < size) (answers_to batch (point_places (take (m - n) (drop n points))))
+points_within batch points n m size le within =
+    let here = point_places (take (m - n) (drop n points)) in
+    all_within batch size here (all_front (λ place. place < size) here (point_places (drop m points)) (subst (AllByRecursion (λ place. place < size)) (places_parted points n m le) within))
+
+pub no_points : (batch : ReaderView) (points : List Point) (n : ℕ) (replies : List Reply) → length points ≤ n → replies ≡ with_answers replies (answers_to batch (point_places (drop n points)))
+no_points batch [] zero replies past = refl
+no_points batch [] (suc n) replies past = refl
+no_points batch (p ∷ points) zero replies past = absurd (omega (arith, past))
+no_points batch (p ∷ points) (suc n) replies past = no_points batch points n replies (omega (arith, past))

@@ -1,20 +1,21 @@
 -- All replies of a batch, from the answers to its parts.
-use Rattle.std.proofs.Common.{◌≡◌, ℕ, ◌<◌, List, [], ◌∷◌, length, sym, ap, ◌∙◌, subst}
+use Rattle.std.proofs.Common.{◌≡◌, ℕ, ◌-◌, ◌<◌, List, [], ◌∷◌, ◌++◌, length, take, drop, refl, sym, ap, ◌∙◌, subst, arith}
+use Rattle.std.proofs.lemmas.List.{append-nil, take_all}
 use Rattle.std.specs.List.{AllByRecursion, flat_map}
 use Rattle.std.specs.List.Sorted.{IsSortedBy}
 use Rattle.std.specs.Ordering.{is_lt}
 use Rattle.bw_key.specs.Order.{KeyBytes, key_cmp}
 use Rattle.bw_model.specs.declared.operations.Op.{Op}
 use Rattle.bw_model.specs.declared.operations.Reply.{Reply}
-use Rattle.bw_answer.specs.Parts.{places_in, elements_in}
+use Rattle.bw_answer.specs.Parts.{Cover, places_in, elements_in}
 use Rattle.bw_group.specs.Points.{Entry, entries_at, entries_from, entries_of, places_of, scans_from, AreGrouped, GroupingView, HasRisingPlaces, IsPointOf, IsScanOf}
 use Rattle.bw_group.specs.declared.points.Point.{Point}
-use Rattle.bw_answer.specs.Replies.{ArePointsOf, ReaderView, contents_before, replies_to, answers_to, with_answers}
+use Rattle.bw_answer.specs.Replies.{ArePointsOf, ReaderView, contents_before, replies_to, answers_to, point_places, with_answers}
 use Rattle.bw_answer.specs.declared.parts.Part.{Part}
-use Rattle.bw_group.proofs.Entries.{entries_rise, places_within, rising_at, scan_within}
+use Rattle.bw_group.proofs.Entries.{entries_rise, places_length, places_within, rising_at, scan_within}
 use Rattle.bw_group.proofs.Lists.{all_same}
 use Rattle.bw_answer.proofs.PartLemmas.{in_parts, points_of_parts, scans_of_parts}
-use Rattle.bw_answer.proofs.Placed.{all_placed, all_replied, placed_length, IsAnswered}
+use Rattle.bw_answer.proofs.Placed.{all_placed, all_replied, both_placed, placed_length, IsAnswered}
 use Rattle.bw_answer.proofs.ReplyLemmas.{replies_length}
 use Rattle.bw_group.proofs.Wholes.{at_each_place, batch_entries, batch_scans}
 
@@ -60,3 +61,53 @@ parts_replied batch grouping grouped ops parts points scans replies len =
     (subst (AllByRecursion answered) points (points_of_parts answered (places_of grouping.points) grouping.scans parts placed))
     (subst (AllByRecursion answered) scans (scans_of_parts answered (places_of grouping.points) grouping.scans parts placed))
     place (subst (λ (l : List Op). place < length l) (sym ops) lt))
+
+-- The places of parts of a batch's points and scans, by the lists that a program has of them.
+module _ (grouping : GroupingView) (grouped : AreGrouped grouping) (points : List Point) (scans : List ℕ) (parts parts' : List Part) (points_are : entries_of points ≡ grouping.points) (scans_are : scans ≡ grouping.scans) (parts_are : parts' ≡ parts) where
+  listed : flat_map (places_in (point_places points) scans) parts' ≡ flat_map (places_in (places_of grouping.points) grouping.scans) parts
+  listed =
+      ap (λ (l : List Entry). flat_map (places_in (places_of l) scans) parts') points_are
+      ∙ ap (λ (l : List ℕ). flat_map (places_in (places_of grouping.points) l) parts') scans_are
+      ∙ ap (flat_map (places_in (places_of grouping.points) grouping.scans)) parts_are
+
+  pub parts_within : (n : ℕ) → n ≡ length grouping.ops → AllByRecursion (λ place. place < n) (flat_map (places_in (point_places points) scans) parts')
+  parts_within n size = subst (AllByRecursion (λ place. place < n)) (sym listed) (places_are grouping grouped n (sym size) parts)
+
+  pub listed_replied : (batch : ReaderView) → batch.ops ≡ grouping.ops → Cover (λ part. part.points) (length points) parts → Cover (λ part. part.scans) (length scans) parts →
+      (replies : List Reply) → length replies ≡ length grouping.ops → with_answers replies (answers_to batch (flat_map (places_in (point_places points) scans) parts')) ≡ replies_to batch
+  listed_replied batch ops all_points all_scans replies size =
+      ap (λ (l : List ℕ). with_answers replies (answers_to batch l)) listed
+      ∙ parts_replied batch grouping grouped (sym ops) parts
+      (all_points (places_of grouping.points) (ap (λ (l : List Entry). length (places_of l)) (sym points_are) ∙ places_length points))
+      (all_scans grouping.scans (ap length (sym scans_are))) replies (size ∙ ap length (sym ops))
+
+-- The same where one thread puts the answers to all points at their places, and then those to all scans.
+module _ (grouping : GroupingView) (grouped : AreGrouped grouping) (points : List Point) (scans : List ℕ) (points_are : entries_of points ≡ grouping.points) (scans_are : scans ≡ grouping.scans) where
+  whole : List Part
+  whole = record { points = record { start = 0; end = length points }; scans = record { start = 0; end = length scans } } ∷ []
+
+  all_of : (n : ℕ) (xs : List ℕ) → length xs ≡ n → take (n - 0) (drop 0 xs) ≡ xs
+  all_of n xs size = take_all (n - 0) xs (omega (arith, size))
+
+  all_covered : (n : ℕ) (xs : List ℕ) → length xs ≡ n → take (n - 0) (drop 0 xs) ++ [] ≡ xs
+  all_covered n xs size = append-nil (take (n - 0) (drop 0 xs)) ∙ all_of n xs size
+
+  whole_places : flat_map (places_in (point_places points) scans) whole ≡ point_places points ++ scans
+  unfolding whole
+  whole_places =
+      append-nil (take (length points - 0) (drop 0 (point_places points)) ++ take (length scans - 0) (drop 0 scans))
+      ∙ ap (λ (l : List ℕ). l ++ take (length scans - 0) (drop 0 scans)) (all_of (length points) (point_places points) (places_length points))
+      ∙ ap (λ (l : List ℕ). point_places points ++ l) (all_of (length scans) scans refl)
+
+  pub batch_within : (n : ℕ) → n ≡ length grouping.ops → AllByRecursion (λ place. place < n) (point_places points ++ scans)
+  batch_within n size = subst (AllByRecursion (λ place. place < n)) whole_places (parts_within grouping grouped points scans whole whole points_are scans_are refl n size)
+
+  pub replied_in_turn : (batch : ReaderView) → batch.ops ≡ grouping.ops → (replies replies' : List Reply) → length replies ≡ length grouping.ops → replies' ≡ with_answers replies (answers_to batch (point_places points)) →
+      (with_answers replies' (answers_to batch scans) ≡ replies_to batch) × AllByRecursion (λ place. place < length replies') scans
+  unfolding whole
+  replied_in_turn batch ops replies replies' size placed =
+      let both = both_placed batch replies replies' (point_places points) scans placed (batch_within (length replies) size) in (
+        both.0 ∙ ap (λ (l : List ℕ). with_answers replies (answers_to batch l)) (sym whole_places)
+            ∙ listed_replied grouping grouped points scans whole whole points_are scans_are refl batch ops (λ xs len. all_covered (length points) xs len) (λ xs len. all_covered (length scans) xs len) replies size,
+        both.1,
+      )

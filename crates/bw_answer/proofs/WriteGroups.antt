@@ -1,19 +1,20 @@
 -- Writes that are sorted by key, and the part of one key.
-use Rattle.std.proofs.Common.{◌≡◌, ℕ, zero, suc, ◌+◌, ◌<◌, ◌≤◌, Bool, true, false, cond, not, ◌&&◌, List, [], ◌∷◌, length, take, drop, map, get_or, refl, sym, ap, ◌∙◌, arith, length-drop, Ordering}
+use Rattle.std.proofs.Common.{◌≡◌, ℕ, zero, suc, ◌+◌, ◌-◌, ◌<◌, ◌≤◌, Bool, true, false, cond, not, ◌&&◌, List, [], ◌∷◌, length, take, drop, map, get_or, refl, sym, ap, ◌∙◌, arith, length-drop, Ordering}
 use Rattle.std.specs.Prelude.{filter}
 use Rattle.std.specs.Borrow.{Bor}
+use Rattle.std.specs.List.{AllWithin}
 use Rattle.std.specs.Ordering.{is_lt, is_le, ordering_reverse}
-use Rattle.std.specs.List.Sorted.{IsSortedBy, IsStableBy, IsPartitionedBy, IsPartitionPoint}
+use Rattle.std.specs.List.Sorted.{IsSortedBy, IsPartitionedBy, IsPartitionPoint}
 use Rattle.std.specs.declared.cmp.Ordering.TheVariants.{Less, Equal, Greater}
 use Rattle.std.proofs.lemmas.List.{get_or-map, length-map}
 use Rattle.std.proofs.lemmas.List.Sorted.{sorted_far}
 use Rattle.bw_key.specs.Order.{KeyBytes, key_cmp, key_cmp_total, key_eq}
-use Rattle.bw_model.specs.declared.operations.Action.TheVariants.{Delete}
 use Rattle.bw_page.proofs.KeyLemmas.{upto_below, upto_trans}
 use Rattle.bw_delta.specs.Writes.{WriteView}
 use Rattle.bw_delta.specs.History.{pointed_to}
 use Rattle.bw_delta.specs.Batches.{writes_to}
-use Rattle.bw_group.proofs.Groups.{filter_seen, is_below, ranks, same_of_key, sorted_seen, ties_are}
+use Rattle.bw_answer.specs.WriteGroups.{IsFirstOf}
+use Rattle.bw_group.proofs.Groups.{filter_seen, ranks, ties_are}
 use Rattle.bw_group.proofs.Lists.{in_rest, seen_rest}
 
 module _ {X : Type 0} (p : X → Bool) where
@@ -43,17 +44,6 @@ module _ {X : Type 0} (p : X → Bool) where
 -- the writes that references point to, sorted by key
 abbrev pub IsGrouped : List (Bor WriteView) → Type 0
 IsGrouped refs = IsSortedBy (λ v w. is_lt (key_cmp v.key w.key)) (pointed_to refs)
-
-pub grouped_seen : (refs : List (Bor WriteView)) → IsSortedBy (is_below (λ (r : Bor WriteView). r.now.key)) refs → IsGrouped refs
-grouped_seen refs sorted = sorted_seen (λ (r : Bor WriteView). r.now) (λ (w : WriteView). w.key) (λ w. record { ref_ptr = (0, 0); now = w }) refs sorted
-
--- a stable sort by key leaves the writes of a key in their order
-pub same_writes : (xs ys : List (Bor WriteView)) → IsStableBy (is_below (λ (r : Bor WriteView). r.now.key)) xs ys → (key : KeyBytes) → writes_to key (pointed_to ys) ≡ writes_to key (pointed_to xs)
-same_writes xs ys stable key =
-    let now = λ (r : Bor WriteView). r.now in
-    let at = λ (w : WriteView). key_eq key w.key in
-    let one : Bor WriteView = record { ref_ptr = (0, 0); now = record { stamp = 0; key = key; action = Delete } } in
-    filter_seen now at ys ∙ ap (map now) (same_of_key (λ (r : Bor WriteView). r.now.key) xs ys stable one) ∙ sym (filter_seen now at xs)
 
 -- sorted references, looked at from a place on
 pub sorted_rest : (n : ℕ) (refs : List (Bor WriteView)) → IsGrouped refs → IsGrouped (drop n refs)
@@ -138,3 +128,45 @@ one_group key refs n m le first second =
 
     past : (key k : KeyBytes) → not (is_lt (key_cmp key k)) ≡ false → key_eq key k ≡ false
     past key k upto = sym (ties_are key k) ∙ ap (λ b. b && not (is_lt (key_cmp k key))) upto
+
+abbrev is_below_key : KeyBytes → Bor WriteView → Bool
+is_below_key key r = is_lt (key_cmp r.now.key key)
+
+no_both : {b : Bool} → b ≡ true → b ≡ false → ⊥
+no_both e f = different (sym e ∙ f)
+  where
+    different : true ≡ false → ⊥
+    different e = cc
+
+-- the writes before a place are of lower keys where the last of them is
+pub before_place : (key : KeyBytes) (refs : List (Bor WriteView)) (n : ℕ) → IsGrouped refs → n ≤ length refs → (0 < n → (d : Bor WriteView) → is_below_key key (get_or refs (n - 1) d) ≡ true) →
+    AllWithin (λ r. is_below_key key r ≡ true) refs 0 n
+before_place key refs n grouped le last k d from lt = below_parted key refs grouped k (n - 1) d (omega (arith, lt)) (omega (arith, lt, le)) (last (omega (arith, lt)) d)
+
+-- the first write that isn't of a lower key
+pub first_here : (key : KeyBytes) (refs : List (Bor WriteView)) (n : ℕ) → IsGrouped refs → AllWithin (λ r. is_below_key key r ≡ true) refs 0 n → (n < length refs → (d : Bor WriteView) → is_below_key key (get_or refs n d) ≡ false) →
+    IsFirstOf key refs n
+first_here key refs n grouped before here = (
+  before,
+  λ k d le lt. elim (is_below_key key (get_or refs k d)) as (λ b. is_below_key key (get_or refs k d) ≡ b → b ≡ false) [
+    | true ↦ λ below. absurd (no_both (below_parted key refs grouped n k d le lt below) (here (omega (arith, le, lt)) d))
+    | false ↦ λ other. refl
+  ] refl,
+)
+
+-- the writes between two places, where the key's writes begin and where those of higher keys do
+pub group_between : (key : KeyBytes) (refs : List (Bor WriteView)) (n m : ℕ) → IsGrouped refs → n ≤ m → m ≤ length refs → IsFirstOf key refs n → AllWithin (λ r. is_lt (key_cmp key r.now.key) ≡ false) refs n m →
+    (m < length refs → (d : Bor WriteView) → is_lt (key_cmp key (get_or refs m d).now.key) ≡ true) → pointed_to (take (m - n) (drop n refs)) ≡ writes_to key (pointed_to refs)
+group_between key refs n m grouped le bound first upto behind =
+    let size = length-drop n refs in
+    let inside = λ (i : ℕ) (d : Bor WriteView) (from : 0 ≤ i) (lt : i < m - n).
+    ap (λ (r : Bor WriteView). is_upto key r) (in_rest refs n i d) ∙ upto_is (get_or refs (n + i) d).now.key key ∙ ap not (upto (n + i) d (omega arith) (omega (arith, lt))) in
+    let after = λ (i : ℕ) (d : Bor WriteView) (from : m - n ≤ i) (lt : i < length (drop n refs)).
+    ap (λ (r : Bor WriteView). is_upto key r) (in_rest refs n i d) ∙ past (n + i) d (omega (arith, from, le)) (omega (arith, lt, size)) in
+    one_group key refs n (m - n) (omega (arith, le, bound)) first (inside, after)
+  where
+    past : (k : ℕ) (d : Bor WriteView) → m ≤ k → k < length refs → is_upto key (get_or refs k d) ≡ false
+    past k d le lt = elim (is_upto key (get_or refs k d)) as (λ b. is_upto key (get_or refs k d) ≡ b → b ≡ false) [
+      | true ↦ λ upto. absurd (no_both (upto_parted key refs grouped m k d le lt upto) (upto_is (get_or refs m d).now.key key ∙ ap not (behind (omega (arith, le, lt)) d)))
+      | false ↦ λ other. refl
+    ] refl

@@ -1,5 +1,5 @@
 // What answers the operations of a batch whose writes stand in a tree.
-ghost use Rattle.std.specs.Prelude.{◌≡◌, ◌<◌, ◌++◌, length, IfOk, OnOk, Some, None, is_some, true, slice_get, flat_map};
+ghost use Rattle.std.specs.Prelude.{◌≡◌, ◌<◌, ◌≤◌, ◌+◌, ◌⊎◌, ◌++◌, length, IfOk, OnOk, Some, None, is_some, true, slice_get, flat_map};
 ghost use Rattle.std.specs.List.{AllByRecursion, Contains};
 ghost use Rattle.std.specs.Option.{option_copied};
 ghost use Rattle.bw_delta.specs.History.{pointed_to};
@@ -22,6 +22,9 @@ use bw_tree::{PageId, Scans, Tree};
 use rayon::prelude::*;
 use std::marker::Model;
 use std::thread::Threads;
+
+// One thread answers the points on some leaves at a time, fewer than so many besides those on the last of them.
+const TURN: usize = 4096;
 
 /// Answers the operations of a batch by reading a tree in which its writes stand: as of the stamp of an operation the
 /// tree has the map that the operations before it leave.
@@ -130,8 +133,24 @@ impl<'a> BatchReader<'a> {
         Ok(answers)
     }
 
-    // Adds the answers to operations on one key each, a run of them for each leaf.
-    fn answer_points(
+    /// Where some of the points end that begin at `start`: behind the last of those on a leaf, and behind 4,096 of them, if
+    /// there are so many.
+    pub(crate) fn turn_end(&self, points: &[Point<'_>], start: usize) -> usize
+        requires points { ArePointsOf self.now.ops points.now }
+        requires start { start < length points.now }
+        ensures more { start < result }
+        ensures bound { result ≤ length points.now }
+        ensures enough { (result ≡ length points.now) ⊎ (start + 4096 ≤ result) }
+    {
+        let mut end = start;
+        while end < points.len() && end - start < TURN {
+            end = self.homes.run_from(points, end).1;
+        }
+        end
+    }
+
+    /// Adds the answers to operations on one key each, a run of them for each leaf.
+    pub(crate) fn answer_points(
         &self,
         alloc: Alloc,
         points: &[Point<'_>],
@@ -167,13 +186,15 @@ impl<'a> BatchReader<'a> {
         let leaf = self.tree.leaf(alloc, page)?;
         let writes = writes_by_key(alloc, &leaf.writes)?;
         let mut start = 0;
+        let mut changed = 0;
         while start < points.len() {
             let end = group_end(points, start);
             let key = points[start].key;
-            let group = &points[start..end];
             let found = leaf.base.find(key);
-            self.answer_group(alloc, found, group_of(&writes, key), group, answers)?;
+            let (changes, changes_end) = group_of(&writes, changed, key);
+            self.answer_group(alloc, found, changes, &points[start..end], answers)?;
             start = end;
+            changed = changes_end;
         }
         Ok(())
     }
@@ -224,8 +245,8 @@ impl<'a> BatchReader<'a> {
         }
     }
 
-    // Adds the answers to scans. They are in the order of the batch, so the stamps of the reads rise.
-    fn answer_scans(
+    /// Adds the answers to scans. They are in the order of the batch, so the stamps of the reads rise.
+    pub(crate) fn answer_scans(
         &self,
         alloc: Alloc,
         scans: &[usize],

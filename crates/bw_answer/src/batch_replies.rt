@@ -1,14 +1,15 @@
 // The replies to a batch.
-ghost use Rattle.std.specs.Prelude.{◌≡◌, ◌+◌, ◌<◌, ◌≤◌, ◌^◌, length, IfOk, flat_map};
+ghost use Rattle.std.specs.Prelude.{◌≡◌, ◌+◌, ◌<◌, ◌≤◌, ◌^◌, length, IfOk, OnOk, flat_map};
 ghost use Rattle.std.specs.List.{AllByRecursion};
 ghost use Rattle.bw_model.specs.Model.{replies_of};
 ghost use Rattle.bw_tree.specs.View.{contents_at};
 ghost use Rattle.bw_group.specs.Homes.{AreHomes};
-ghost use Rattle.bw_answer.specs.Replies.{HasContentsInTurn, with_answers};
+ghost use Rattle.bw_group.specs.Points.{IsScanOf};
+ghost use Rattle.bw_answer.specs.Replies.{answers_to, point_places, replies_to, with_answers, ArePointsOf, HasContentsInTurn};
 
 use crate::batch_reader::{Answer, BatchReader};
 use crate::parts::{count_parts, parts};
-use bw_group::{Grouping, Homes};
+use bw_group::{Grouping, Homes, Point};
 use bw_key::Memory;
 use bw_memory::Alloc;
 use bw_model::{Replies, Reply};
@@ -46,7 +47,9 @@ pub fn replies<R: Threads + Sync>(
 }
 
 /// The replies to a batch, as `replies` gives them, where it is cut into at most so many parts, however few its
-/// operations are. With one part no thread is started.
+/// operations are. With a count of 1 no thread is started, and the answers to keys on some leaves are put at their places
+/// before those to others are made: so the list of them has fewer than 4,096 besides those to keys on one leaf. Those to scans
+/// are in one list.
 pub fn replies_in_parts<R: Threads + Sync>(
     rt: &R,
     alloc: Alloc,
@@ -68,12 +71,74 @@ pub fn replies_in_parts<R: Threads + Sync>(
         base,
         homes,
     };
-    let (points, scans) = (batch.points(), batch.scans());
-    let parts = parts(alloc, points.len(), scans.len(), count)?;
-    let lists = reader.answer_parts(rt, alloc, points, scans, &parts)?;
     let mut replies = absent_replies(alloc, batch.ops().len())?;
-    place_lists(&mut replies, lists);
+    place_replies(rt, alloc, &reader, batch, count, &mut replies)?;
     Ok(Replies::from_vec(replies))
+}
+
+// Puts the reply to each operation at its place.
+fn place_replies<R: Threads + Sync>(
+    rt: &R,
+    alloc: Alloc,
+    reader: &BatchReader<'_>,
+    batch: &Grouping<'_>,
+    count: usize,
+    replies: &mut [Reply],
+) -> Result<(), Memory>
+    requires ops { reader.now.ops ≡ batch.now.ops }
+    requires size { length replies.old ≡ length batch.now.ops }
+    requires count { 0 < count }
+    ensures { OnOk result (replies.new ≡ replies_to reader.now) }
+{
+    let (points, scans) = (batch.points(), batch.scans());
+    if count > 1 {
+        let parts = parts(alloc, points.len(), scans.len(), count)?;
+        let lists = reader.answer_parts(rt, alloc, points, scans, &parts)?;
+        place_lists(replies, lists);
+        return Ok(());
+    }
+    place_points(alloc, reader, points, replies)?;
+    place_scans(alloc, reader, scans, replies)?;
+    Ok(())
+}
+
+// Puts the answers to operations on one key each at their places, those of some leaves after another.
+fn place_points(
+    alloc: Alloc,
+    reader: &BatchReader<'_>,
+    points: &[Point<'_>],
+    replies: &mut [Reply],
+) -> Result<(), Memory>
+    requires points { ArePointsOf reader.now.ops points.now }
+    requires there { AllByRecursion (λ place. place < length replies.old) (point_places points.now) }
+    ensures { OnOk result (replies.new ≡ with_answers replies.old (answers_to reader.now (point_places points.now))) }
+{
+    let mut start = 0;
+    while start < points.len() {
+        let end = reader.turn_end(points, start);
+        let mut answers = Vec::with_capacity(alloc, end - start)?;
+        reader.answer_points(alloc, &points[start..end], &mut answers)?;
+        place_answers(replies, answers);
+        start = end;
+    }
+    Ok(())
+}
+
+// Puts the answers to scans at their places.
+fn place_scans(
+    alloc: Alloc,
+    reader: &BatchReader<'_>,
+    scans: &[usize],
+    replies: &mut [Reply],
+) -> Result<(), Memory>
+    requires scans { AllByRecursion (IsScanOf reader.now.ops) scans.now }
+    requires there { AllByRecursion (λ place. place < length replies.old) scans.now }
+    ensures { OnOk result (replies.new ≡ with_answers replies.old (answers_to reader.now scans.now)) }
+{
+    let mut answers = Vec::with_capacity(alloc, scans.len())?;
+    reader.answer_scans(alloc, scans, &mut answers)?;
+    place_answers(replies, answers);
+    Ok(())
 }
 
 // So many replies in whose places those of the batch are to be put.

@@ -8,3 +8,5 @@ mod HomeLemmas
 pub mod HomeReads
 mod NumberLemmas
 pub mod SameHomes
+pub mod SortedPoints
+mod RankLemmas

@@ -11,6 +11,7 @@ ghost use Rattle.bw_group.specs.declared.points.Point.{Point};
 ghost use Rattle.bw_model.specs.Model.{key_of};
 
 use crate::points::Point;
+use crate::ranks::sorted_by_rank;
 use bw_key::Memory;
 use bw_memory::Alloc;
 use bw_model::Op;
@@ -45,9 +46,10 @@ impl<'a> Model for Grouping<'a> {
 }
 
 impl<'a> Grouping<'a> {
-    /// Groups the operations of a batch by key, in about n log2 n comparisons of numbers for n operations, and as many
-    /// of keys for those whose keys have the same first eight bytes and more behind them. It copies no key. A batch has at
-    /// most 2^32 operations here. `Memory` is answered where a list finds none.
+    /// Groups the operations of a batch by key. From 256 to 2^16 operations on keys are sorted by numbers of eight bytes first, in
+    /// which six are of the key, in about n log2 n comparisons. Then keys are compared: each with the next one, and those among
+    /// each other whose six bytes are the same; else about n log2 n times, most of them by their first eight bytes alone. It
+    /// copies no key. A batch has at most 2^32 operations here. `Memory` is answered where a list finds none.
     pub fn new(alloc: Alloc, ops: &'a [Op]) -> Result<Grouping<'a>, Memory>
         requires { length ops.now ≤ 2 ^ 32 }
         ensures { IfOk result (λ grouping. grouping.ops ≡ ops.now) }
@@ -89,8 +91,9 @@ fn grouped_points<'a>(alloc: Alloc, ops: &'a [Op]) -> Result<Vec<Point<'a>, Allo
     ensures same { IfOk result (λ points. HaveSameOfKeys (entries_of points.items) (entries_from 0 ops.now)) }
     ensures gets { IfOk result (λ points. AllByRecursion (IsPointOf ops.now) points.items) }
 {
-    let mut points = points_of(alloc, ops)?;
-    points.sort_by(|a, b| a.by_key(b))?;
+    let points = points_of(alloc, ops)?;
+    let mut points = sorted_by_rank(alloc, points)?;
+    points.sort_unstable_by(|a, b| a.by_key_and_place(b));
     Ok(points)
 }
 

@@ -7,6 +7,7 @@
 mod grouping;
 mod homes;
 mod points;
+mod ranks;
 
 pub use grouping::{Grouping, group_end};
 pub use homes::{Homes, find_homes};

@@ -1,6 +1,7 @@
 // Operations on one key each.
 ghost use Rattle.std.specs.Prelude.{◌≡◌, ◌<◌, ◌^◌, length, not, IfSome};
 ghost use Rattle.std.specs.Option.{option_copied};
+ghost use Rattle.std.specs.Ordering.{nat_cmp, ordering_then};
 ghost use Rattle.bw_key.specs.Order.{key_cmp, key_eq};
 ghost use Rattle.bw_key.specs.Prefixes.{key_prefix, IsBytes};
 ghost use Rattle.bw_model.specs.Contents.{is_below_end};
@@ -13,7 +14,7 @@ const PREFIX_LEN: u8 = 8;
 
 /// An operation on one key: the key, and the operation's place in the batch. Sorted points lie in another order than their
 /// operations, so what is asked of each one stands here, in 24 bytes, and most keys and operations aren't read for it.
-#[derive(Drop)]
+#[derive(Clone, Copy)]
 pub struct Point<'a> {
     pub key: &'a Key,
     // The first bytes of the key, and how many it has.
@@ -66,6 +67,14 @@ impl<'a> Point<'a> {
         } else {
             compare_prefixed(self.key, self.prefix, other.key, other.prefix)
         }
+    }
+
+    /// How two points stand by their keys, and those of one key by their places.
+    pub(crate) fn by_key_and_place(&self, other: &Point<'_>) -> Ordering
+        ensures { result ≡ ordering_then (key_cmp self.now.key.now other.now.key.now)
+            (nat_cmp self.now.place other.now.place) }
+    {
+        self.by_key(other).then(self.place.cmp(&other.place))
     }
 
     // How two points of one prefix stand. Where the key of one ends within it, the lengths decide, and no key is read.

@@ -1,9 +1,13 @@
 // Operations in the order of their keys, where keys begin alike.
-use bw_fixtures::{heap, key};
+ghost use Rattle.std.specs.Prelude.{◌<◌};
+
+use crate::tests::assertions::{assert_equal, assert_that};
+use bw_fixtures::{heap, key, was_refused};
 use bw_group::Grouping;
 use bw_key::Memory;
 use bw_memory::Alloc;
 use bw_model::Op;
+use std::process::Abort;
 
 // Keys that rise: some have the same first eight bytes, or would have them with zeros behind their ends.
 const RISING: [&[u8]; 12] = [
@@ -21,10 +25,10 @@ const RISING: [&[u8]; 12] = [
     b"\x80",
 ];
 
-// A get of each key, the last of them first, and then all of them once more.
-fn falling_gets(alloc: Alloc) -> Result<Vec<Op, Alloc>, Memory> {
+// So many times a get of each key, the last of them first.
+fn falling_gets(alloc: Alloc, times: usize) -> Result<Vec<Op, Alloc>, Memory> {
     let mut ops = Vec::new(alloc);
-    for _ in 0..2 {
+    for _ in 0..times {
         for bytes in RISING.iter().rev() {
             ops.push(Op::Get(key(alloc, bytes)?))?;
         }
@@ -32,15 +36,51 @@ fn falling_gets(alloc: Alloc) -> Result<Vec<Op, Alloc>, Memory> {
     Ok(ops)
 }
 
+// Groups the gets, and looks at their keys and places.
+fn group_gets<R: Abort>(rt: &R, alloc: Alloc, times: usize)
+    requires { 0 < times }
+{
+    let ops = falling_gets(alloc, times).expect(rt, "memory");
+    assert!(rt; ops.len() < 1000);
+    let batch = Grouping::new(alloc, &ops).expect(rt, "memory");
+    assert_equal(rt, batch.points().len(), ops.len());
+    for (at, point) in batch.points().iter().enumerate() {
+        let (number, time) = (at / times, at % times);
+        assert_equal(rt, Some(point.key.bytes()), RISING.get(number).copied());
+        let first = 11usize.saturating_sub(number);
+        assert_equal(
+            rt,
+            point.place(),
+            first.saturating_add(time.saturating_mul(12)),
+        );
+    }
+}
+
 #[test]
 fn keys_that_begin_alike_are_in_order(rt: HostRuntime) {
+    group_gets(&rt, heap(rt.alloc()).expect(&rt, "memory"), 2);
+}
+
+// From 256 operations on they are sorted by rank first.
+#[test]
+fn many_keys_that_begin_alike_are_in_order(rt: HostRuntime) {
+    group_gets(&rt, heap(rt.alloc()).expect(&rt, "memory"), 25);
+}
+
+#[test]
+fn each_growth_of_a_large_grouping_is_refused(rt: HostRuntime) {
     let alloc = heap(rt.alloc()).expect(&rt, "memory");
-    let ops = falling_gets(alloc).expect(&rt, "memory");
-    assert_eq!(rt; ops.len(), 24);
-    let batch = Grouping::new(alloc, &ops).expect(&rt, "memory");
-    assert_eq!(rt; batch.points().len(), 24);
-    for (at, point) in batch.points().iter().enumerate() {
-        assert!(rt; point.key.bytes() == RISING[at / 2]);
-        assert_eq!(rt; point.place(), 11 - at / 2 + at % 2 * 12);
+    let ops = falling_gets(alloc, 25).expect(&rt, "memory");
+    assert!(rt; ops.len() < 1000);
+    for growth in 1..100 {
+        alloc.refuse(growth);
+        let batch = Grouping::new(alloc, &ops);
+        if !was_refused(alloc, growth) {
+            assert_that(&rt, batch.is_ok());
+            assert_that(&rt, growth > 3);
+            return;
+        }
+        assert_that(&rt, batch.is_err());
     }
+    panic!(rt; "no run met no refusal")
 }

@@ -113,7 +113,7 @@ pub fn replies_by_workers<R: Threads + Sync>(
 ) -> Result<Replies, Memory>
     requires quiet { (stamp : ℕ) → contents_at tree.now stamp ≡ contents_at tree.now 0 }
     requires reads { AllByRecursion (λ op. write_of op ≡ None) ops.now }
-    requires few { length ops.now ≤ 5000 }
+    requires few { length ops.now ≤ 20000 }
 {
     let batch = Grouping::new(alloc, ops)?;
     let homes = find_homes(alloc, tree, &batch)?;
@@ -130,7 +130,7 @@ pub fn replies_by_parts<R: Threads + Sync>(
 ) -> Result<Replies, Memory>
     requires quiet { (stamp : ℕ) → contents_at tree.now stamp ≡ contents_at tree.now 0 }
     requires reads { AllByRecursion (λ op. write_of op ≡ None) ops.now }
-    requires few { length ops.now ≤ 5000 }
+    requires few { length ops.now ≤ 20000 }
     requires count { 0 < count }
 {
     let batch = Grouping::new(alloc, ops)?;

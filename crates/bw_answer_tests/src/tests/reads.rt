@@ -43,7 +43,7 @@ fn each_read_is_answered_in_parts(rt: HostRuntime) {
 fn many_reads_are_answered_alike_by_any_number_of_workers(rt: HostRuntime) {
     let alloc = heap(rt.alloc()).expect(&rt, "memory");
     let tree = three(&rt, alloc);
-    let ops = reads(&rt, alloc, 5_000);
+    let ops = reads(&rt, alloc, 20_000);
     let alone = replies_by_workers(&rt, alloc, &tree, &ops, 1).expect(&rt, "memory");
     for workers in [2, 16, 64] {
         let replies = replies_by_workers(&rt, alloc, &tree, &ops, workers).expect(&rt, "memory");

@@ -1,21 +1,18 @@
-use Rattle.std.proofs.Common.{◌-◌, take, drop, sym, subst, arith}
+use Rattle.std.proofs.Common.{◌-◌, take, drop, subst, arith}
 use Rattle.std.specs.List.{AllByRecursion}
 use Rattle.bw_tree.specs.Levels.{IsHome, IsOneHome}
-use Rattle.bw_group.specs.Homes.{HasPageAt, IsPageAt}
+use Rattle.bw_group.specs.Homes.{IsPageAt}
 use Rattle.bw_group.specs.Points.{IsEntryOf, IsPointOf, entries_of}
 use Rattle.bw_answer.specs.Replies.{IsReadInTurn, ReaderView}
 use Rattle.bw_group.proofs.Entries.{part_holds, part_rises, part_sorted}
-use Rattle.bw_group.proofs.HomeReads.{pages_listed, run_at_home}
+use Rattle.bw_group.proofs.HomeReads.{run_at_home}
 use Rattle.bw_group.proofs.Lists.{all_part, all_same}
-use Rattle.bw_answer.proofs.GroupReads.{first_home}
+use Rattle.bw_answer.proofs.GroupReads.{all_listed, first_home}
 use Rattle.bw_answer.proofs.ReplyLemmas.{all_answered, answered_none, part_answered}
 use Rattle.bw_answer.proofs.batch_reader.BatchReader.answer_points.Goals as goal
 
 pub run_from-page-requires-clause-pages : goal.run_from-page-requires-clause-pages
-run_from-page-requires-clause-pages c =
-    let is = c.self.view_is in
-    subst (λ (v : ReaderView). AllByRecursion (λ e. HasPageAt v.homes e.1) (entries_of c.args.points.now)) (sym is)
-    (pages_listed c.args.self.now.tree c.args.self.now.ops c.args.self.now.homes (subst IsReadInTurn is c.self.invariant).homes (entries_of c.args.points.now) c.requires.points.entries)
+run_from-page-requires-clause-pages c = all_listed _ c.args.self.now c.self.view_is c.self.invariant (entries_of c.args.points.now) c.requires.points.entries
 
 pub answer_run-requires-clause-homes : goal.answer_run-requires-clause-homes
 answer_run-requires-clause-homes c =

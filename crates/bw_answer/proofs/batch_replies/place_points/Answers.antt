@@ -1,0 +1,44 @@
+use Rattle.std.proofs.Common.{◌-◌, ◌<◌, ◌++◌, length, take, drop, sym, subst, ◌∙◌, ap, arith}
+use Rattle.std.specs.List.{AllByRecursion}
+use Rattle.bw_group.specs.Points.{IsEntryOf, IsPointOf}
+use Rattle.bw_group.proofs.Entries.{part_holds, part_rises, part_sorted}
+use Rattle.bw_group.proofs.Lists.{all_part}
+use Rattle.bw_answer.specs.Replies.{answers_to, point_places, with_answers}
+use Rattle.bw_answer.proofs.Placed.{no_points, points_placed, points_within}
+use Rattle.bw_answer.proofs.batch_replies.place_points.Goals as goal
+
+pub answer_points-requires : goal.answer_points-requires
+answer_points-requires c =
+    let points = c.args.points.now in
+    let start = c.loop-start.start in
+    let len = c.turn_end-end.result - start in
+    record {
+      points = record {
+        sorted = part_sorted points start len c.requires.points.sorted;
+        entries = part_holds (IsEntryOf c.args.reader.now.ops) points start len c.requires.points.entries;
+        rising = part_rises points start len c.requires.points.rising;
+        gets = all_part (IsPointOf c.args.reader.now.ops) points start len c.requires.points.gets;
+      };
+    }
+
+pub place_answers-requires : goal.place_answers-requires
+place_answers-requires c =
+    let points = c.args.points.now in
+    let start = c.loop-start.start in
+    let end = c.turn_end-end.result in
+    let answered = c.in_ok-answer_points.ensures ∙ ap (λ l. l ++ answers_to c.args.reader.now (point_places (take (end - start) (drop start points)))) c.in_ok-answers.ensures.items in
+    subst (AllByRecursion (λ a. a.place < length c.loop-start.replies)) (sym answered)
+    (points_within c.args.reader.now points start end (length c.loop-start.replies) (omega (arith, c.turn_end-end.ensures.more)) c.loop-start.invariant.within)
+
+pub loop-start-preserved : goal.loop-start-preserved
+loop-start-preserved c =
+    let points = c.args.points.now in
+    let start = c.loop-start.start in
+    let end = c.turn_end-end.result in
+    let answered = c.in_ok-answer_points.ensures ∙ ap (λ l. l ++ answers_to c.args.reader.now (point_places (take (end - start) (drop start points)))) c.in_ok-answers.ensures.items in
+    let next = points_placed c.args.reader.now points start end c.loop-start.replies c.place_answers.new.replies (omega (arith, c.turn_end-end.ensures.more))
+    (c.place_answers.ensures ∙ ap (with_answers c.loop-start.replies) answered) c.loop-start.invariant.within in
+    record { same = next.0 ∙ c.loop-start.invariant.same; within = next.1 }
+
+pub returns : goal.returns
+returns c = no_points c.args.reader.now c.args.points.now c.loop-start.start c.loop-start.replies c.loop-start-test.false ∙ c.loop-start.invariant.same
