@@ -5,6 +5,7 @@ use Rattle.std.specs.List.Sorted.{IsPermutation}
 use Rattle.std.specs.FinMap.{find, get}
 use Rattle.bw_key.specs.Order.{KeyBytes, key_cmp, key_eq}
 use Rattle.bw_model.specs.Values.{ValueBytes}
+use Rattle.bw_model.specs.declared.operations.Op.{Op}
 use Rattle.bw_page.proofs.Search.{same_keys}
 use Rattle.bw_delta.specs.Writes.{WriteView}
 use Rattle.bw_delta.specs.Batches.{writes_to}
@@ -16,11 +17,13 @@ use Rattle.bw_tree.specs.Reading.{base_of, value_in, writes_over}
 use Rattle.bw_tree.specs.Slots.{Slot, slot_at}
 use Rattle.bw_tree.specs.View.{TreeView, contents_at}
 use Rattle.bw_group.specs.Homes.{HasPageAt}
-use Rattle.bw_group.specs.Points.{Entry, HasKey, IsEntryOf, entries_of}
+use Rattle.bw_group.specs.Points.{Entry, HasKey, IsEntryOf, IsPointOf, entries_of}
 use Rattle.bw_group.specs.declared.points.Point.{Point}
+use Rattle.bw_group.proofs.Entries.{part_holds, part_rises, part_sorted}
+use Rattle.bw_group.proofs.Lists.{all_part}
 use Rattle.bw_group.proofs.RunLemmas.{all_both}
 use Rattle.bw_group.proofs.HomeReads.{pages_listed}
-use Rattle.bw_answer.specs.Replies.{IsReadBy, IsReadInTurn, ReaderView}
+use Rattle.bw_answer.specs.Replies.{ArePointsOf, IsReadBy, IsReadInTurn, ReaderView}
 
 -- What a tree holds at a key of a page is what the page's sorted writes there make of the value under them.
 pub group_read : (tree : TreeView) (p : ℕ) (key : KeyBytes) (pairs : List (KeyBytes × ValueBytes)) (found grouped writes : List WriteView) (start : Option ValueBytes) →
@@ -58,3 +61,12 @@ first_home slots levels p ps n m more bound homes = by (m - n) (omega (arith, mo
 pub all_listed : (inside batch : ReaderView) → inside ≡ batch → IsReadInTurn inside → (es : List Entry) → AllByRecursion (IsEntryOf batch.ops) es → AllByRecursion (λ e. HasPageAt inside.homes e.1) es
 all_listed inside batch is read es entries =
     subst (λ (v : ReaderView). AllByRecursion (λ e. HasPageAt v.homes e.1) es) (sym is) (pages_listed batch.tree batch.ops batch.homes (subst IsReadInTurn is read).homes es entries)
+
+-- some of the points of a batch that follow one another
+pub points_part : (ops : List Op) (ps : List Point) (n k : ℕ) → ArePointsOf ops ps → ArePointsOf ops (take k (drop n ps))
+points_part ops ps n k points = record {
+  sorted = part_sorted ps n k points.sorted;
+  entries = part_holds (IsEntryOf ops) ps n k points.entries;
+  rising = part_rises ps n k points.rising;
+  gets = all_part (IsPointOf ops) ps n k points.gets;
+}

@@ -6,4 +6,3 @@ mod Gathered
 mod Placed
 mod Replied
 mod GroupReads
-mod SortedWrites

@@ -1,5 +1,6 @@
 // What answers the operations of a batch whose writes stand in a tree.
-ghost use Rattle.std.specs.Prelude.{◌≡◌, ◌<◌, ◌≤◌, ◌+◌, ◌⊎◌, ◌++◌, length, IfOk, OnOk, Some, None, is_some, true, slice_get, flat_map};
+ghost use Rattle.std.specs.Prelude.{◌≡◌, ◌<◌, ◌≤◌, ◌+◌, ◌⊎◌, ◌++◌, Some, None, IfOk, OnOk};
+ghost use Rattle.std.specs.Prelude.{flat_map, is_some, length, slice_get, true};
 ghost use Rattle.std.specs.List.{AllByRecursion, Contains};
 ghost use Rattle.std.specs.Option.{option_copied};
 ghost use Rattle.bw_delta.specs.History.{pointed_to};
@@ -12,8 +13,8 @@ ghost use Rattle.bw_answer.specs.Parts.{IsPartOf, places_in};
 ghost use Rattle.bw_answer.specs.Replies.{answers_to, point_places, ArePointsOf, IsReadBy, IsReplyThere};
 
 use crate::parts::Part;
-use crate::write_groups::{group_of, writes_by_key};
-use bw_delta::{Reading, Write};
+use crate::write_groups::group_of;
+use bw_delta::{Reading, Write, writes_by_key};
 use bw_group::{Homes, Point, group_end};
 use bw_key::Memory;
 use bw_memory::Alloc;
@@ -59,8 +60,7 @@ pub(crate) struct Answer {
 }
 
 impl<'a> BatchReader<'a> {
-    /// The answers to the points and scans of each part, in lists of their own. The parts are shared out among threads; one
-    /// that is alone is answered here.
+    /// The answers to the points and scans of each part, in lists of their own. The parts are shared out among threads.
     pub(crate) fn answer_parts<R: Threads + Sync>(
         &self,
         rt: &R,
@@ -75,9 +75,6 @@ impl<'a> BatchReader<'a> {
         ensures { let places = flat_map (places_in (point_places points.now) scans.now) parts.now in
             IfOk result (λ lists. flat_map (λ list. list.items) lists.items ≡ answers_to self.now places) }
     {
-        if let [part] = parts {
-            return self.answer_alone(alloc, points, scans, *part);
-        }
         parts
             .par_iter()
             .with_min_len(1)
@@ -91,24 +88,6 @@ impl<'a> BatchReader<'a> {
                 { self.answer_part(alloc, points, scans, *part) },
             )
             .collect::<Result<Vec<Vec<Answer, Alloc>, Alloc>, Memory>>(rt, alloc)?
-    }
-
-    // The list of the answers to a part that is alone.
-    fn answer_alone(
-        &self,
-        alloc: Alloc,
-        points: &[Point<'_>],
-        scans: &[usize],
-        part: Part,
-    ) -> Result<Vec<Vec<Answer, Alloc>, Alloc>, Memory>
-        requires points { ArePointsOf self.now.ops points.now }
-        requires scans { AllByRecursion (IsScanOf self.now.ops) scans.now }
-        requires within { IsPartOf (length points.now) (length scans.now) part }
-        ensures { let places = places_in (point_places points.now) scans.now part in
-            IfOk result (λ lists. flat_map (λ list. list.items) lists.items ≡ answers_to self.now places) }
-    {
-        let answers = self.answer_part(alloc, points, scans, part)?;
-        Ok(vec![in alloc; answers]?)
     }
 
     // The answers to the points and the scans of a part.
@@ -133,8 +112,8 @@ impl<'a> BatchReader<'a> {
         Ok(answers)
     }
 
-    /// Where some of the points end that begin at `start`: behind the last of those on a leaf, and behind 4,096 of them, if
-    /// there are so many.
+    /// Where some of the points end that begin at `start`: behind the last of those on a leaf, and behind 4,096 of
+    /// them, if there are so many.
     pub(crate) fn turn_end(&self, points: &[Point<'_>], start: usize) -> usize
         requires points { ArePointsOf self.now.ops points.now }
         requires start { start < length points.now }
@@ -227,7 +206,8 @@ impl<'a> BatchReader<'a> {
         Ok(())
     }
 
-    // The reply to an operation on one key, where the key has this value. A get's is the value: that operation isn't read.
+    // The reply to an operation on one key, where the key has this value. A get's is the value: that operation isn't
+    // read.
     fn reply_to(
         &self,
         alloc: Alloc,

@@ -5,7 +5,8 @@ ghost use Rattle.bw_model.specs.Model.{replies_of};
 ghost use Rattle.bw_tree.specs.View.{contents_at};
 ghost use Rattle.bw_group.specs.Homes.{AreHomes};
 ghost use Rattle.bw_group.specs.Points.{IsScanOf};
-ghost use Rattle.bw_answer.specs.Replies.{answers_to, point_places, replies_to, with_answers, ArePointsOf, HasContentsInTurn};
+ghost use Rattle.bw_answer.specs.Replies.{ArePointsOf, HasContentsInTurn};
+ghost use Rattle.bw_answer.specs.Replies.{answers_to, point_places, replies_to, with_answers};
 
 use crate::batch_reader::{Answer, BatchReader};
 use crate::parts::{count_parts, parts};
@@ -26,8 +27,8 @@ use std::thread::Threads;
 /// `homes` are the pages of the batch's keys, so that no leaf is searched for again but by scans. In a part the writes
 /// over each leaf that has a key of it are sorted by key, and each key's are then passed once, beside the operations on
 /// the key. So the cost doesn't depend on how many of them are on one key. The scans of a part are read one after
-/// another, and the writes of a leaf have their effects once for all of them (`Scans`). A leaf that lies in several parts
-/// has its writes sorted in each. `Memory` is answered where a list, a map or a reply finds none, in any part.
+/// another, and the writes of a leaf have their effects once for all of them (`Scans`). A leaf that lies in several
+/// parts has its writes sorted in each. `Memory` is answered where a list, a map or a reply finds none, in any part.
 pub fn replies<R: Threads + Sync>(
     rt: &R,
     alloc: Alloc,
@@ -47,9 +48,9 @@ pub fn replies<R: Threads + Sync>(
 }
 
 /// The replies to a batch, as `replies` gives them, where it is cut into at most so many parts, however few its
-/// operations are. With a count of 1 no thread is started, and the answers to keys on some leaves are put at their places
-/// before those to others are made: so the list of them has fewer than 4,096 besides those to keys on one leaf. Those to scans
-/// are in one list.
+/// operations are. With a count of 1 no thread is started, and the answers to keys on some leaves are put at their
+/// places before those to others are made: so the list of them has fewer than 4,096 besides those to keys on one leaf.
+/// Those to scans are in one list.
 pub fn replies_in_parts<R: Threads + Sync>(
     rt: &R,
     alloc: Alloc,

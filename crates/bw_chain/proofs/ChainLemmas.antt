@@ -52,6 +52,14 @@ linked records word q e = there (record_at records word) refl e
     there None at read = absurd (no_next read)
     there (Some r) at read = (r, at, same_next read)
 
+-- and where there is none, there is no record
+pub no_record_there : (records : Records) (word : ℕ) → link_of records word ≡ None → record_at records word ≡ None
+no_record_there records word e = there (record_at records word) refl e
+  where
+    there : (o : Option (Delta × ℕ)) → record_at records word ≡ o → linked_word o ≡ None → record_at records word ≡ None
+    there None at read = at
+    there (Some r) at read = absurd (no_next (sym read))
+
 -- a word that leads to a base page has the page's state with the records on the way
 pub slot_of_way : (bases : Bases) (records : Records) (word : ℕ) (ws : List ℕ) (e : ℕ) → Leads (link_of records) word ws e → length ws ≤ length records →
     slot_of_word bases records word ≡ changed bases (deltas_at records ws) (based (slice_get bases e))
@@ -164,11 +172,11 @@ write_over (Removed left) ds shaped more = absurd shaped
 write_over (AddChild k child) ds shaped more = absurd (more shaped)
 write_over (DropChild k) ds shaped more = absurd (more shaped)
 
--- so under a record that lies over another one is the rest of the chain
-pub over_record : (bases : Bases) (records : Records) (word under_it : ℕ) → Ends bases records word → link_of records word ≡ Some under_it → 4294967296 ≤ under_it → UnderPut bases records word under_it
-over_record bases records word under_it ends link from = by ends.0 ends.1.0 ends.1.1
+-- so a record that lies over another one is a write
+pub put_over : (bases : Bases) (records : Records) (word under_it : ℕ) → Ends bases records word → link_of records word ≡ Some under_it → 4294967296 ≤ under_it → (w : WriteView) × (record_at records word ≡ Some (Put w, under_it))
+put_over bases records word under_it ends link from = by ends.0 ends.1.0 ends.1.1
   where
-    by : (ws : List ℕ) (e : ℕ) → EndsAt bases records word ws e → UnderPut bases records word under_it
+    by : (ws : List ℕ) (e : ℕ) → EndsAt bases records word ws e → (w : WriteView) × (record_at records word ≡ Some (Put w, under_it))
     by [] e h = absurd (no_next (sym h.way.1 ∙ link))
     by (w ∷ []) e h = absurd (omega (arith, from, h.limit, same_next (sym h.way.1.1 ∙ link), h.way.1.2.0))
     by (w ∷ v ∷ ws) e h =
@@ -176,7 +184,13 @@ over_record bases records word under_it ends link from = by ends.0 ends.1.0 ends
         let listed : deltas_at records (w ∷ v ∷ ws) ≡ there.0.0 ∷ deltas_at records (v ∷ ws) = ap (λ o. delta_in o (deltas_at records (v ∷ ws))) (ap (record_at records) h.way.0 ∙ there.1) in
         let more : deltas_at records (v ∷ ws) ≡ [] → ⊥ = λ none. omega (arith, ap length (none_on records h.way.1.0 (v ∷ ws) e h.way.1.2 none)) in
         let put = write_over there.0.0 (deltas_at records (v ∷ ws)) (subst IsShaped listed h.shaped) more in
-        under_put bases records word under_it there.0.0 put.0 ends (there.1 ∙ ap (λ n. Some (there.0.0, n)) there.2) put.1
+        (put.0, there.1 ∙ ap (λ n. Some (there.0.0, n)) there.2 ∙ ap (λ (d : Delta). Some (d, under_it)) put.1)
+
+-- and under it is the rest of the chain
+pub over_record : (bases : Bases) (records : Records) (word under_it : ℕ) → Ends bases records word → link_of records word ≡ Some under_it → 4294967296 ≤ under_it → UnderPut bases records word under_it
+over_record bases records word under_it ends link from =
+    let p = put_over bases records word under_it ends link from in
+    under_put bases records word under_it (Put p.0) p.0 ends p.1 refl
 
 -- under any other change lies a base page
 pub under_other : (bases : Bases) (records : Records) (word under_it : ℕ) (d : Delta) → Ends bases records word → record_at records word ≡ Some (d, under_it) → ((w : WriteView) → d ≡ Put w → ⊥) →

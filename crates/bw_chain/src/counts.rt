@@ -1,23 +1,23 @@
 // How much a page has: writes over its base page, and entries under them.
-ghost use Rattle.std.specs.Prelude.{◌≡◌, ℕ, ◌≤◌, ◌^◌, true, T, length};
+ghost use Rattle.std.specs.Prelude.{◌≡◌, ℕ, ◌<◌, ◌≤◌, ◌^◌, Some, T, length, true};
 ghost use Rattle.std.specs.FinMap.{is_sorted, put};
 ghost use Rattle.bw_key.specs.Order.{key_cmp};
 ghost use Rattle.bw_page.specs.Pages.{below};
-ghost use Rattle.bw_chain.specs.Chains.{Bases, IsChain, change, page_at, plain};
+ghost use Rattle.bw_chain.specs.Chains.{Bases, IsChain, change, floor_word, link_of, page_at, plain};
 ghost use Rattle.bw_chain.specs.Reading.{writes_on};
 ghost use Rattle.bw_chain.specs.Slots.{is_leaf};
 ghost use Rattle.bw_chain.specs.Splits.{slot_entries};
 ghost use Rattle.bw_chain.specs.Turns.{IsOther};
 ghost use Rattle.bw_delta.specs.declared.deltas.Delta.TheVariants.{AddChild, Split};
 
-use crate::chains::Chains;
+use crate::chains::{Chains, FLOOR};
 use bw_delta::Delta;
 use bw_key::Key;
 use bw_page::{Leaf, Page, PageId, place};
 
 impl Chains {
-    /// How many writes a page has over its base page; an inner page has none. It costs a walk along them, and takes no
-    /// memory. There are at most 2^32 records.
+    /// How many writes a page has over its base page; an inner page has none. It costs a walk along the links of its chain,
+    /// and takes no memory. There are at most 2^32 records.
     pub fn count_writes(&self, head: u64) -> usize
         requires ends { IsChain self.now head }
         requires few { length self.now.records ≤ 2 ^ 32 }
@@ -29,7 +29,7 @@ impl Chains {
         }
     }
 
-    // The same of a leaf.
+    // The same of a leaf. Of its records the lowest alone is looked at.
     fn count_puts(&self, head: u64) -> usize
         requires ends { IsChain self.now head }
         requires leaf { is_leaf (page_at self.now head) ≡ true }
@@ -38,14 +38,31 @@ impl Chains {
     {
         let mut count = 0;
         let mut word = head;
-        while let Some((delta, under)) = self.record(word) {
-            match delta {
-                Delta::Put(_) => count += 1,
-                _ => return count,
+        while let Some(under) = self.link(word) {
+            if under < FLOOR {
+                return count + self.count_lowest(word);
             }
+            count += 1;
             word = under;
         }
         count
+    }
+
+    // How many writes a leaf's chain of one record has: one or none.
+    fn count_lowest(&self, word: u64) -> usize
+        requires ends { IsChain self.now word }
+        requires leaf { is_leaf (page_at self.now word) ≡ true }
+        requires last { (under : ℕ) → link_of self.now.records word ≡ Some under → under < floor_word }
+        ensures count { result ≡ length (writes_on self.now word) }
+        ensures few { result ≤ 1 }
+    {
+        let Some((delta, _)) = self.record(word) else {
+            return 0;
+        };
+        match delta {
+            Delta::Put(_) => 1,
+            _ => 0,
+        }
     }
 
     /// How many entries a page has under its writes: pairs, or children. A page that was removed has none. It costs a walk

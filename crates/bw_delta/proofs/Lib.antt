@@ -11,4 +11,5 @@ pub mod Replays
 pub mod Stagings
 pub mod Merges
 pub mod Changes
+pub mod SortedWrites
 pub mod Dues

@@ -9,3 +9,4 @@ pub mod Batches
 pub mod ContentsAsOf
 pub mod Pairs
 pub mod Merging
+pub mod SortedWrites

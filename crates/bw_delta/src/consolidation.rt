@@ -1,5 +1,6 @@
 // The pairs of a page as of a stamp.
-ghost use Rattle.std.specs.Prelude.{◌≡◌, ◌<◌, ◌++◌, T, [], ◌∷◌, length, slice_index_or, filter, IfOk, OnOk, Option, Some, if◌then◌else◌};
+ghost use Rattle.std.specs.Prelude.{◌≡◌, ◌<◌, ◌++◌, T, [], ◌∷◌, Option, Some, IfOk, OnOk};
+ghost use Rattle.std.specs.Prelude.{filter, length, map, slice_index_or, if◌then◌else◌};
 ghost use Rattle.std.specs.Option.{option_copied, option_or};
 ghost use Rattle.std.specs.FinMap.{find, is_sorted};
 ghost use Rattle.std.specs.BTreeMap as tree;
@@ -12,6 +13,7 @@ ghost use Rattle.bw_delta.specs.Merging.{after_writes, is_due, AreFrom};
 ghost use Rattle.bw_delta.specs.Pairs.{ArePairsAsOf, parts_of, value_in_parts};
 
 use crate::merging::merged;
+use crate::sorted_writes::{KeyedWrite, in_key_order, keyed_write};
 use crate::writes::Write;
 use bw_key::{Key, Memory};
 use bw_memory::Alloc;
@@ -80,20 +82,19 @@ fn due_by_key<'a>(
         after_writes start (writes_to q (pointed_to due.items)) ≡ (if is_in_range low.now (option_copied high.entry) q
         then history start (action_at (writes_to q (pointed_to writes.now))) stamp else start)) }
 {
-    let mut due = due_writes(alloc, writes, low, high, stamp)?;
-    due.sort_unstable_by(|a, b| a.key.cmp(&b.key).then(a.stamp.cmp(&b.stamp)));
-    Ok(due)
+    let due = due_writes(alloc, writes, low, high, stamp)?;
+    in_key_order(alloc, due)
 }
 
-// The writes of a range below a stamp.
+// The writes of a range below a stamp, each with the first bytes of its key.
 fn due_writes<'a>(
     alloc: Alloc,
     writes: &[&'a Write],
     low: &Key,
     high: Option<&Key>,
     stamp: u64,
-) -> Result<Vec<&'a Write, Alloc>, Memory>
-    ensures { IfOk result (λ due. pointed_to due.items
+) -> Result<Vec<KeyedWrite<'a>, Alloc>, Memory>
+    ensures { IfOk result (λ due. map (λ k. k.write.now) due.items
         ≡ filter (is_due low.now (option_copied high.entry) stamp) (pointed_to writes.now)) }
 {
     let mut due = Vec::with_capacity(alloc, writes.len())?;
@@ -105,17 +106,17 @@ fn due_writes<'a>(
 
 // Adds a write, where it is below a stamp and its key in a range.
 fn push_due<'a>(
-    due: &mut Vec<&'a Write, Alloc>,
+    due: &mut Vec<KeyedWrite<'a>, Alloc>,
     write: &'a Write,
     low: &Key,
     high: Option<&Key>,
     stamp: u64,
 ) -> Result<(), Memory>
-    ensures { OnOk result (pointed_to due.new.items ≡ pointed_to due.old.items
+    ensures { OnOk result (map (λ k. k.write.now) due.new.items ≡ map (λ k. k.write.now) due.old.items
         ++ filter (is_due low.now (option_copied high.entry) stamp) (write.now ∷ [])) }
 {
     if write.stamp < stamp && is_within(&write.key, low, high) {
-        due.push(write)?;
+        due.push(keyed_write(write))?;
     }
     Ok(())
 }

@@ -14,8 +14,8 @@ pub enum Delta {
         sep: Key,
         to: PageId,
     },
-    /// The right neighbour, whose range began at the separator, was taken over: its base page is named by a mapping
-    /// word, and its upper end and right neighbour are this page's now.
+    /// The right neighbour, whose range began at the separator, was taken over: its base page had this number, and its
+    /// upper end and right neighbour are this page's now.
     Absorb {
         sep: Key,
         base: u64,

@@ -14,6 +14,7 @@ mod present;
 mod range_reads;
 mod reading;
 mod replay;
+mod sorted_writes;
 mod writes;
 
 pub use arena::Arena;
@@ -22,6 +23,7 @@ pub use deltas::Delta;
 pub use laws::{batch_is_read_in_turn, contents_are_history};
 pub use reading::{Reading, in_order, value_as_of};
 pub use replay::Replay;
+pub use sorted_writes::writes_by_key;
 pub use writes::Write;
 
 /// The operations of a batch, the replies to them, and what a write does.

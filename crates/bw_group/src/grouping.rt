@@ -46,10 +46,11 @@ impl<'a> Model for Grouping<'a> {
 }
 
 impl<'a> Grouping<'a> {
-    /// Groups the operations of a batch by key. From 256 to 2^16 operations on keys are sorted by numbers of eight bytes first, in
-    /// which six are of the key, in about n log2 n comparisons. Then keys are compared: each with the next one, and those among
-    /// each other whose six bytes are the same; else about n log2 n times, most of them by their first eight bytes alone. It
-    /// copies no key. A batch has at most 2^32 operations here. `Memory` is answered where a list finds none.
+    /// Groups the operations of a batch by key. From 256 to 2^16 operations on keys are sorted by numbers of eight
+    /// bytes first, in which six are of the key, in about n log2 n comparisons. Then keys are compared: each with the
+    /// next one, and those among each other whose six bytes are the same; else about n log2 n times, most of them by
+    /// their first eight bytes alone. It copies no key. A batch has at most 2^32 operations here. `Memory` is answered
+    /// where a list finds none.
     pub fn new(alloc: Alloc, ops: &'a [Op]) -> Result<Grouping<'a>, Memory>
         requires { length ops.now ≤ 2 ^ 32 }
         ensures { IfOk result (λ grouping. grouping.ops ≡ ops.now) }

@@ -21,9 +21,9 @@ use bw_memory::Alloc;
 use bw_tree::{PageId, Routes, Tree};
 use std::marker::Model;
 
-/// The homes of a batch: the pages of its keys, in the order of the keys and none twice, and for each operation that has a
-/// key the number of its page among them. So whoever works on the pages of a batch has lists as long as the batch, and none
-/// as long as the index.
+/// The homes of a batch: the pages of its keys, in the order of the keys and none twice, and for each operation that
+/// has a key the number of its page among them. So whoever works on the pages of a batch has lists as long as the
+/// batch, and none as long as the index.
 pub struct Homes {
     pages: Vec<PageId, Alloc>,
     numbers: Vec<usize, Alloc>,
@@ -103,8 +103,8 @@ impl Homes {
 
 /// Finds the page of each operation's key: the tree's `route`.
 ///
-/// It searches for each leaf once that has a key of the batch, in the order of the keys, so that a search goes on from the
-/// separator of the one before it (`Routes`). `Memory` is answered where a list finds none.
+/// It searches for each leaf once that has a key of the batch, in the order of the keys, so that a search goes on from
+/// the separator of the one before it (`Routes`). `Memory` is answered where a list finds none.
 pub fn find_homes(alloc: Alloc, tree: &Tree, batch: &Grouping<'_>) -> Result<Homes, Memory>
     ensures { IfOk result (AreHomes tree.now batch.now.ops) }
 {
@@ -143,8 +143,8 @@ fn set_numbers(numbers: &mut [usize], points: &[Point<'_>], number: usize)
     }
 }
 
-// The run of points that begins at `start`: their page, on which they all are at home, and where the run ends. It costs a
-// search for the page, and for each point of the run a comparison of its key with the page's end, mostly of numbers.
+// The run of points that begins at `start`: their page, on which they all are at home, and where the run ends. It costs
+// a search for the page, and for each point of the run a comparison of its key with the page's end, mostly of numbers.
 fn find_run(
     tree: &Tree,
     routes: &mut Routes<'_>,

@@ -1,5 +1,5 @@
 // Operations on one key each.
-ghost use Rattle.std.specs.Prelude.{◌≡◌, ◌<◌, ◌^◌, length, not, IfSome};
+ghost use Rattle.std.specs.Prelude.{◌≡◌, ◌<◌, ◌≤◌, ◌^◌, length, not, Decides, IfSome};
 ghost use Rattle.std.specs.Option.{option_copied};
 ghost use Rattle.std.specs.Ordering.{nat_cmp, ordering_then};
 ghost use Rattle.bw_key.specs.Order.{key_cmp, key_eq};
@@ -12,8 +12,9 @@ use std::cmp::Ordering;
 // So many bytes of a key are in its prefix.
 const PREFIX_LEN: u8 = 8;
 
-/// An operation on one key: the key, and the operation's place in the batch. Sorted points lie in another order than their
-/// operations, so what is asked of each one stands here, in 24 bytes, and most keys and operations aren't read for it.
+/// An operation on one key: the key, and the operation's place in the batch. Sorted points lie in another order than
+/// their operations, so what is asked of each one stands here, in 24 bytes, and most keys and operations aren't read
+/// for it.
 #[derive(Clone, Copy)]
 pub struct Point<'a> {
     pub key: &'a Key,
@@ -56,6 +57,13 @@ impl<'a> Point<'a> {
         ensures { result ≡ self.now.is_get }
     {
         self.is_get
+    }
+
+    /// Whether the prefix has all bytes of the key.
+    pub(crate) fn is_short(&self) -> bool
+        ensures { Decides result (length self.now.key.now ≤ 8) }
+    {
+        self.len <= PREFIX_LEN
     }
 
     /// How two points stand by their keys: most are told apart by their prefixes.

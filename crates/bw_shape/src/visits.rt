@@ -38,7 +38,8 @@ pub(crate) fn visit(
     ensures finished { OnOk result (due.new.unfinished ≡ None) }
 {
     tree.know_levels();
-    if is_calm(tree, limits, page) && !due.has_begun(page) {
+    let leaf_is_due = is_due(tree, limits, page, due.has_begun(page));
+    if !leaf_is_due && has_writes(tree, page) {
         due.pass();
         return Ok(());
     }
@@ -53,21 +54,20 @@ pub(crate) fn visit(
     if stands > 0 {
         return look(tree, limits, due, counts, page, stands);
     }
-    visit_leaf(tree, limits, due, counts, page)
+    if !leaf_is_due {
+        due.pass();
+        return Ok(());
+    }
+    visit_due(tree, limits, due, counts, page)
 }
 
-// Whether a page is a leaf that is over no limit and has writes, as those have that a batch has written. It costs no search.
-fn is_calm(tree: &Tree, limits: &Limits, page: PageId) -> bool
-    ensures { result ≡ true → Contains (row tree.now.levels 0) page → IsWithin limits.now (slot_at tree.now.slots page) }
-{
-    if is_over(tree, limits, page) {
-        return false;
-    }
+// Whether a page is a leaf with writes, as those have that a batch has written. It costs no search.
+fn has_writes(tree: &Tree, page: PageId) -> bool {
     (page.0 as usize) < tree.heads().len() && tree.count_writes(page) > 0
 }
 
-// Looks at the next page, a leaf: where it is due, it's consolidated, and split or merged, if need be.
-fn visit_leaf(
+// Consolidates the next page, a leaf that is due, and splits or merges it, if need be.
+fn visit_due(
     tree: &mut Tree,
     limits: &Limits,
     due: &mut Due,
@@ -84,10 +84,6 @@ fn visit_leaf(
     ensures less { OnOk result (length due.new.pages < length due.old.pages) }
     ensures finished { OnOk result (due.new.unfinished ≡ None) }
 {
-    if !is_due(tree, limits, page, due.has_begun(page)) {
-        due.pass();
-        return Ok(());
-    }
     due.begin_leaf(page)?;
     bare(tree, counts, page, 0)?;
     tree.know_records();

@@ -61,15 +61,15 @@ fn read_leaf<R: Abort>(rt: &R, alloc: Alloc, growth: u64, parts: usize) -> Resul
 #[test]
 fn each_growth_of_a_leaf_is_refused(rt: HostRuntime) {
     let alloc = heap(rt.alloc()).expect(&rt, "memory");
-    for growth in 1..=3 {
+    for growth in 1..=4 {
         assert_that(&rt, read_leaf(&rt, alloc, growth, 1).is_err());
         assert_that(&rt, was_refused(alloc, growth));
     }
     // The last two give back room that the pairs don't need. Where one is refused, that stays.
-    for growth in 4..=6 {
+    for growth in 5..=7 {
         let left = read_leaf(&rt, alloc, growth, 1).expect(&rt, "memory");
         assert_equal(&rt, left.len(), 2);
-        assert_equal(&rt, was_refused(alloc, growth), growth < 6);
+        assert_equal(&rt, was_refused(alloc, growth), growth < 7);
     }
 }
 

@@ -1,5 +1,5 @@
 // Consolidation of one page in its place.
-ghost use Rattle.std.specs.Prelude.{◌≡◌, ◌<◌, is_some, None, length, IfOk, OnOk, OnErr};
+ghost use Rattle.std.specs.Prelude.{◌≡◌, ◌<◌, None, length, IfOk, OnOk, OnErr};
 ghost use Rattle.std.specs.Bool.{MatchBool};
 ghost use Rattle.std.specs.List.{Contains};
 ghost use Rattle.std.specs.Option.{option_copied};
@@ -44,8 +44,7 @@ impl Tree {
         ensures ok { OnOk result (IsConsolidated self.old self.new page) }
         ensures err { OnErr result (self.new ≡ self.old) }
     {
-        let (_, side) = self.chains.end(self.heads[page.0 as usize]);
-        let leaf = self.consolidated_leaf(page, side)?;
+        let leaf = self.leaf_as_of(page, self.next)?;
         self.put_leaf(page, leaf);
         Ok(())
     }
@@ -64,20 +63,6 @@ impl Tree {
         };
         self.heads[page.0 as usize] = word;
         Ok(true)
-    }
-
-    // A leaf's range with what the leaf holds as of the next stamp, and this right neighbour.
-    fn consolidated_leaf(&self, page: PageId, side: Option<PageId>) -> Result<Leaf, Memory>
-        requires leaf { Contains (row self.now.levels 0) page }
-        requires linked { is_some side ≡ is_some (side_of self.now.slots page) }
-        ensures { IfOk result (λ leaf. leaf ≡ consolidated_leaf self.now page side) }
-    {
-        self.know_levels();
-        let alloc = *self.heads.allocator();
-        let leaf = self.leaf(alloc, page)?;
-        let low = leaf.base.low();
-        let pairs = leaf.pairs_as_of(alloc, low, leaf.end, self.next)?;
-        Ok(Leaf::from_pairs(low.copy()?, copy_end(leaf.end)?, side, pairs))
     }
 
     // Puts a consolidated leaf in the place of its chain.

@@ -108,8 +108,8 @@ impl Tree {
         Ok(Some(Page::Inner(self.inner_page(page)?)))
     }
 
-    // A leaf as of a stamp.
-    fn leaf_as_of(&self, page: PageId, stamp: u64) -> Result<Leaf, Memory>
+    /// A leaf as of a stamp: one walk along its chain, the sorting of its writes, and a copy of its pairs.
+    pub(super) fn leaf_as_of(&self, page: PageId, stamp: u64) -> Result<Leaf, Memory>
         requires { Contains (row self.now.levels 0) page }
         ensures { IfOk result (λ leaf. leaf ≡ leaf_as_of self.now page stamp) }
     {

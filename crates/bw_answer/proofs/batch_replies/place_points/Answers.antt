@@ -1,25 +1,14 @@
 use Rattle.std.proofs.Common.{◌-◌, ◌<◌, ◌++◌, length, take, drop, sym, subst, ◌∙◌, ap, arith}
 use Rattle.std.specs.List.{AllByRecursion}
-use Rattle.bw_group.specs.Points.{IsEntryOf, IsPointOf}
-use Rattle.bw_group.proofs.Entries.{part_holds, part_rises, part_sorted}
-use Rattle.bw_group.proofs.Lists.{all_part}
 use Rattle.bw_answer.specs.Replies.{answers_to, point_places, with_answers}
+use Rattle.bw_answer.proofs.GroupReads.{points_part}
 use Rattle.bw_answer.proofs.Placed.{no_points, points_placed, points_within}
 use Rattle.bw_answer.proofs.batch_replies.place_points.Goals as goal
 
 pub answer_points-requires : goal.answer_points-requires
 answer_points-requires c =
-    let points = c.args.points.now in
     let start = c.loop-start.start in
-    let len = c.turn_end-end.result - start in
-    record {
-      points = record {
-        sorted = part_sorted points start len c.requires.points.sorted;
-        entries = part_holds (IsEntryOf c.args.reader.now.ops) points start len c.requires.points.entries;
-        rising = part_rises points start len c.requires.points.rising;
-        gets = all_part (IsPointOf c.args.reader.now.ops) points start len c.requires.points.gets;
-      };
-    }
+    record { points = points_part c.args.reader.now.ops c.args.points.now start (c.turn_end-end.result - start) c.requires.points }
 
 pub place_answers-requires : goal.place_answers-requires
 place_answers-requires c =

@@ -1,21 +1,29 @@
-use Rattle.std.proofs.Common.{List, subst, rules}
-use Rattle.std.proofs.lemmas.List.Sorted.{answers_always, IsPermutation-map}
-use Rattle.std.specs.Borrow.{Bor}
+use Rattle.std.proofs.Common.{List, [], sym, subst}
+use Rattle.std.proofs.lemmas.Result.{IfOk-weaker}
 use Rattle.std.specs.List.Sorted.{IsPermutation}
 use Rattle.std.specs.Option.{option_copied}
-use Rattle.bw_delta.specs.History.{pointed_to}
+use Rattle.bw_delta.specs.History.{pointed_to, HasDistinctStamps}
+use Rattle.bw_delta.specs.Merging.{is_due}
 use Rattle.bw_delta.specs.Writes.{WriteView}
-use Rattle.bw_delta.proofs.Dues.{is_before, ranks, from_sorted, due_values}
+use Rattle.bw_delta.proofs.Dues.{due_values}
+use Rattle.bw_delta.proofs.Filters.{distinct_filter}
+use Rattle.bw_delta.proofs.Maps.{both_ok}
+use Rattle.bw_delta.proofs.Replays.{none_below_least}
+use Rattle.bw_delta.proofs.SortedWrites.{from_sorted}
 use Rattle.bw_delta.proofs.consolidation.due_by_key.Goals as goal
+
+pub in_key_order-requires : goal.in_key_order-requires
+in_key_order-requires c =
+    subst HasDistinctStamps (sym c.in_ok-due.ensures) (distinct_filter (is_due c.args.low.now (option_copied c.args.high) c.args.stamp) (pointed_to c.args.writes.now) c.requires)
 
 pub returns-clause-ordered : goal.returns-clause-ordered
 returns-clause-ordered c =
-    from_sorted c.sort_unstable_by.new.self.items (c.sort_unstable_by.ensures.sorted is_before ranks (answers_always _ _ _ (λ f a r f' k. search rules)))
+    IfOk-weaker c.in_key_order.result _ _ (λ due sorted. from_sorted [] (pointed_to due.items) (λ d lt. none_below_least _) sorted) c.in_key_order.ensures.grouped
 
 pub returns-clause-values : goal.returns-clause-values
-returns-clause-values c q start =
+returns-clause-values c =
     let all = pointed_to c.args.writes.now in
-    let refs = c.sort_unstable_by.new.self.items in
-    let moved = subst (λ (l : List WriteView). IsPermutation l (pointed_to refs)) c.in_ok-due.ensures (IsPermutation-map (λ (r : Bor WriteView). r.now) c.in_ok-due.due.items refs c.sort_unstable_by.ensures.permutation) in
-    due_values c.args.low.now (option_copied c.args.high) c.args.stamp start q all refs c.requires moved
-    (c.sort_unstable_by.ensures.sorted is_before ranks (answers_always _ _ _ (λ f a r f' k. search rules)))
+    both_ok c.in_key_order.result
+    (λ due moved rising q start. due_values c.args.low.now (option_copied c.args.high) c.args.stamp start q all (pointed_to due.items) c.requires
+    (subst (λ (l : List WriteView). IsPermutation l (pointed_to due.items)) c.in_ok-due.ensures moved) (rising q))
+    c.in_key_order.ensures.same c.in_key_order.ensures.rising

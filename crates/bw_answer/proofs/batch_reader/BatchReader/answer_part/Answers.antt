@@ -1,23 +1,12 @@
 use Rattle.std.proofs.Common.{◌-◌}
-use Rattle.bw_group.specs.Points.{IsEntryOf, IsPointOf}
-use Rattle.bw_group.proofs.Entries.{part_holds, part_rises, part_sorted}
-use Rattle.bw_group.proofs.Lists.{all_part}
 use Rattle.bw_answer.proofs.Gathered.{both_answered}
+use Rattle.bw_answer.proofs.GroupReads.{points_part}
 use Rattle.bw_answer.proofs.batch_reader.BatchReader.answer_part.Goals as goal
 
 pub answer_points-requires : goal.answer_points-requires
 answer_points-requires c =
-    let points = c.args.points.now in
     let start = c.args.part.points.start in
-    let len = c.args.part.points.end - start in
-    record {
-      points = record {
-        sorted = part_sorted points start len c.requires.points.sorted;
-        entries = part_holds (IsEntryOf c.args.self.now.ops) points start len c.requires.points.entries;
-        rising = part_rises points start len c.requires.points.rising;
-        gets = all_part (IsPointOf c.args.self.now.ops) points start len c.requires.points.gets;
-      };
-    }
+    record { points = points_part c.args.self.now.ops c.args.points.now start (c.args.part.points.end - start) c.requires.points }
 
 pub returns : goal.returns
 returns c =

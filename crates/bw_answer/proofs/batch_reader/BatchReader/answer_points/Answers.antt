@@ -2,12 +2,12 @@ use Rattle.std.proofs.Common.{◌-◌, take, drop, subst, arith}
 use Rattle.std.specs.List.{AllByRecursion}
 use Rattle.bw_tree.specs.Levels.{IsHome, IsOneHome}
 use Rattle.bw_group.specs.Homes.{IsPageAt}
-use Rattle.bw_group.specs.Points.{IsEntryOf, IsPointOf, entries_of}
+use Rattle.bw_group.specs.Points.{IsEntryOf, entries_of}
 use Rattle.bw_answer.specs.Replies.{IsReadInTurn, ReaderView}
-use Rattle.bw_group.proofs.Entries.{part_holds, part_rises, part_sorted}
+use Rattle.bw_group.proofs.Entries.{part_holds}
 use Rattle.bw_group.proofs.HomeReads.{run_at_home}
-use Rattle.bw_group.proofs.Lists.{all_part, all_same}
-use Rattle.bw_answer.proofs.GroupReads.{all_listed, first_home}
+use Rattle.bw_group.proofs.Lists.{all_same}
+use Rattle.bw_answer.proofs.GroupReads.{all_listed, first_home, points_part}
 use Rattle.bw_answer.proofs.ReplyLemmas.{all_answered, answered_none, part_answered}
 use Rattle.bw_answer.proofs.batch_reader.BatchReader.answer_points.Goals as goal
 
@@ -33,15 +33,8 @@ answer_run-requires-clause-leaf c =
 
 pub answer_run-requires-clause-points : goal.answer_run-requires-clause-points
 answer_run-requires-clause-points c =
-    let points = c.args.points.now in
     let start = c.loop-start.start in
-    let len = c.run_from-page.result.1 - start in
-    record {
-      sorted = part_sorted points start len c.requires.points.sorted;
-      entries = part_holds (IsEntryOf c.args.self.now.ops) points start len c.requires.points.entries;
-      rising = part_rises points start len c.requires.points.rising;
-      gets = all_part (IsPointOf c.args.self.now.ops) points start len c.requires.points.gets;
-    }
+    points_part c.args.self.now.ops c.args.points.now start (c.run_from-page.result.1 - start) c.requires.points
 
 pub loop-start-init : goal.loop-start-init
 loop-start-init c = answered_none c.args.self.now c.args.points.now c.args.answers.now.items

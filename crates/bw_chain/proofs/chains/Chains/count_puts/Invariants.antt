@@ -5,12 +5,12 @@ use Rattle.bw_chain.specs.LeafChains.{LeadsToSame}
 use Rattle.bw_chain.specs.Reading.{writes_over}
 use Rattle.bw_chain.proofs.chains.Chains.count_puts.Given as goal
 
-abbrev pub invariant-loop-delta : goal.invariant-loop-delta
-invariant-loop-delta l = record {
+abbrev pub invariant-loop-under : goal.invariant-loop-under
+invariant-loop-under l = record {
   under : LeadsToSame l.self l.fn.head l.word;
   counted : l.count + length (writes_over (slot_of_word l.self.bases l.self.records l.word)) ≡ length (writes_over (slot_of_word l.self.bases l.self.records l.fn.head));
   bound : l.count + length (walked (link_of l.self.records) (length l.self.records) l.word) ≤ length l.self.records;
 }
 
-abbrev pub decreases-loop-delta : goal.decreases-loop-delta
-decreases-loop-delta l = length (walked (link_of l.self.records) (length l.self.records) l.word)
+abbrev pub decreases-loop-under : goal.decreases-loop-under
+decreases-loop-under l = length (walked (link_of l.self.records) (length l.self.records) l.word)

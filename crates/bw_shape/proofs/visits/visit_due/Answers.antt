@@ -2,14 +2,7 @@ use Rattle.std.proofs.Common.{[], ◌∷◌, length, sym, subst, ap, arith}
 use Rattle.std.proofs.lemmas.List.{length-append}
 use Rattle.bw_shape.specs.Limits.{AreWithinBut}
 use Rattle.bw_shape.proofs.TidyLemmas.{within_bare, within_pass}
-use Rattle.bw_shape.proofs.visits.visit_leaf.Goals as goal
-
-pub returns-then-not-is_due-clause-within : goal.returns-then-not-is_due-clause-within
-returns-then-not-is_due-clause-within c =
-    within_pass c.args.limits.now c.args.tree.now c.args.due.now.pages c.pass.new.self.pages c.args.page (c.pass.ensures.pages c.args.page c.requires.next) (c.is_due.ensures.no c.if-not-is_due.true) c.requires.within
-
-pub returns-then-not-is_due-clause-less : goal.returns-then-not-is_due-clause-less
-returns-then-not-is_due-clause-less c = omega (arith, ap length (c.pass.ensures.pages c.args.page c.requires.next), length-append c.pass.new.self.pages (c.args.page ∷ []))
+use Rattle.bw_shape.proofs.visits.visit_due.Goals as goal
 
 pub look-requires-clause-within : goal.look-requires-clause-within
 look-requires-clause-within c =
