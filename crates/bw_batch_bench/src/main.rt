@@ -34,6 +34,8 @@ use workload::{Kind, Order, Random, answer, drawn, leaves_for, upserts};
 // Operations of the longest batch.
 const BATCH: u64 = 65_536;
 
+const WORKERS_MAX: u64 = 64;
+
 /// How many keys there are, how many operations a batch has, and how many batches of a kind are run.
 #[derive(Clone, Copy)]
 struct Load {
@@ -243,18 +245,25 @@ fn print_kind<R: Threads + Clock + Sync + Print>(
     Ok(())
 }
 
-// The batches that a request asks for.
+// The batches that a request asks for, if its numbers are within their limits.
 fn load_of(request: &Request) -> Result<Load>
     ensures { IfOk result (λ load. 0 < load.keys) }
 {
     let Request {
         keys,
+        workers,
         batch,
         batches,
         ..
     } = *request;
-    if keys == 0 || batch == 0 || batches == 0 {
-        bail!("keys, batch and batches are 1 or more");
+    if keys == 0 || batches == 0 {
+        bail!("keys and batches are 1 or more");
+    }
+    if batch == 0 || batch > BATCH {
+        bail!("batch is 1 to 65536");
+    }
+    if workers == 0 || workers > WORKERS_MAX {
+        bail!("workers is 1 to 64");
     }
     Ok(Load {
         keys,
@@ -281,8 +290,11 @@ fn print_run<R: Threads + Clock + Sync + Print>(
     rt: &R,
     alloc: Alloc,
     request: &Request,
-) -> Result<()> {
-    let mut runs = runs_of(rt, alloc, request, load_of(request)?)?;
+    load: Load,
+) -> Result<()>
+    requires { 0 < load.keys }
+{
+    let mut runs = runs_of(rt, alloc, request, load)?;
     let Request {
         keys,
         workers,
@@ -566,9 +578,13 @@ fn print_request<R: Threads + Clock + Sync + Print>(
     alloc: Alloc,
     request: &Request,
 ) -> Result<()> {
+    let load = load_of(request)?;
     match request.job {
         Job::Check => print_brief(rt, alloc),
-        Job::Run => print_run(rt, alloc, request),
+        Job::Run => {
+            print_run(rt, alloc, request, load)?;
+            print_bytes(rt, global, alloc, request)
+        }
         Job::Bytes => print_bytes(rt, global, alloc, request),
         Job::Time => {
             print_load(rt, alloc, SMALL, true)?;

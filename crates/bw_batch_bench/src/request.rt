@@ -95,7 +95,7 @@ static KINDS: [&str; 3] = ["gets", "upserts", "scans"];
 
 const AFTER: &str = "The jobs:
   check   compares the replies of an index and of a map over few keys, and times nothing
-  run     times the batches that the options describe
+  run     times the batches that the options describe, and then does what `bytes` does
   bytes   prints how many bytes a key an index and a map of so many keys have in use
   time    times all kinds of batches of 65536, over 10000 keys and 1000000, with 1, 2 and 4 workers
   small   times batches of 1, 8, 64 and 1024 gets, and of gets and upserts
@@ -105,6 +105,9 @@ const AFTER: &str = "The jobs:
   picture writes a picture of times to standard output, an SVG text: what `run` times with 1, 2
           and 4 workers, by batches of 1, 8, 64, 1024 and 65536 operations, or over 10000, 100000
           and 1000000 keys, as --by says; of small batches as many as have 8192 operations
+
+--keys, --workers and --kind are read by `run`, `bytes` and `picture`, --batch, --batches and --seed
+by `run` and `picture`, and --by by `picture`.
 
 The kinds: gets; upserts, half of them gets; scans, of 32 pairs, half of them upserts.";
 
