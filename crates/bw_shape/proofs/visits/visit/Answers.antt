@@ -33,9 +33,9 @@ look-requires-clause-short c =
     let tree = c.args.tree.now in
     λ leaf. absurd (no_leaf tree tree.root c.know_levels.ensures.lawful c.args.page c.in-Some.stands c.in-Some.ensures.level (omega (arith, c.if-stands-gt0.true)) leaf)
 
-pub returns-then-not-leaf_is_due-clause-within : goal.returns-then-not-leaf_is_due-clause-within
-returns-then-not-leaf_is_due-clause-within c =
-    within_pass c.args.limits.now c.args.tree.now c.args.due.now.pages c.pass-2.new.self.pages c.args.page (c.pass-2.ensures.pages c.args.page c.requires.next) (c.is_due-leaf_is_due.ensures.no c.if-not-leaf_is_due-2.true) c.requires.within
+pub returns-then-not-leaf_is_due-2-clause-within : goal.returns-then-not-leaf_is_due-2-clause-within
+returns-then-not-leaf_is_due-2-clause-within c =
+    within_pass c.args.limits.now c.args.tree.now c.args.due.now.pages c.pass-then-not-leaf_is_due-2.new.self.pages c.args.page (c.pass-then-not-leaf_is_due-2.ensures.pages c.args.page c.requires.next) (c.is_due-leaf_is_due.ensures.no c.if-not-leaf_is_due-2.true) c.requires.within
 
-pub returns-then-not-leaf_is_due-clause-less : goal.returns-then-not-leaf_is_due-clause-less
-returns-then-not-leaf_is_due-clause-less c = omega (arith, ap length (c.pass-2.ensures.pages c.args.page c.requires.next), length-append c.pass-2.new.self.pages (c.args.page ∷ []))
+pub returns-then-not-leaf_is_due-2-clause-less : goal.returns-then-not-leaf_is_due-2-clause-less
+returns-then-not-leaf_is_due-2-clause-less c = omega (arith, ap length (c.pass-then-not-leaf_is_due-2.ensures.pages c.args.page c.requires.next), length-append c.pass-then-not-leaf_is_due-2.new.self.pages (c.args.page ∷ []))
