@@ -126,5 +126,5 @@ from_sorted low [] first sorted = tt
 from_sorted low (w ∷ ws) first sorted = (
   first w (omega arith),
   from_sorted w.key ws (λ d lt. sorted 0 d (omega arith) (omega (arith, lt))) (λ k d from up.
-  sym (ap (λ i. is_lt (key_cmp (get_or (w ∷ ws) i d).key (get_or ws k d).key)) (next k)) ∙ sorted (suc k) d (omega arith) (omega (arith, up))),
+      sym (ap (λ i. is_lt (key_cmp (get_or (w ∷ ws) i d).key (get_or ws k d).key)) (next k)) ∙ sorted (suc k) d (omega arith) (omega (arith, up))),
 )

@@ -4,6 +4,8 @@ mod assertions;
 mod cuts;
 mod drops;
 mod inners;
+mod kept;
+mod largest;
 mod leaves;
 mod making;
 mod refused;

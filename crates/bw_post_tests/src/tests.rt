@@ -1,4 +1,5 @@
 // Batches posted to the pages of a tree, adopted, and then accepted or undone.
+mod all_words;
 mod assertions;
 mod consolidation;
 mod half_done;

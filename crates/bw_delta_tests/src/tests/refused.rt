@@ -77,13 +77,13 @@ fn each_growth_of_a_leaf_is_refused(rt: HostRuntime) {
 fn each_growth_of_two_parts_is_refused(rt: HostRuntime) {
     let alloc = heap(rt.alloc()).expect(&rt, "memory");
     // A value, a map and two lists for one part, and then what one part takes.
-    for growth in 1..=7 {
+    for growth in 1..=8 {
         assert_that(&rt, read_leaf(&rt, alloc, growth, 2).is_err());
         assert_that(&rt, was_refused(alloc, growth));
     }
-    for growth in 8..=10 {
+    for growth in 9..=11 {
         let left = read_leaf(&rt, alloc, growth, 2).expect(&rt, "memory");
         assert_equal(&rt, left.len(), 2);
-        assert_equal(&rt, was_refused(alloc, growth), growth < 10);
+        assert_equal(&rt, was_refused(alloc, growth), growth < 11);
     }
 }

@@ -1,11 +1,12 @@
 // Indexes that lose all their keys.
-use super::numbers::{count_absent, delete, held, run, upsert};
+use super::numbers::{count_absent, delete, held, run, scan_one, upsert};
 use super::trees::working;
 use crate::tests::assertions::{assert_equal, assert_that};
-use bw_batch::{Index, Op, OpenGate};
+use bw_batch::{Index, Op, OpenGate, Options};
 use bw_fixtures::heap;
-use bw_memory::Alloc;
+use bw_memory::{Alloc, Heap};
 use std::process::Abort;
+use std::test::Fail;
 use std::thread::Threads;
 
 // How many keys there are.
@@ -38,8 +39,13 @@ fn upserts<R: Abort>(
 }
 
 // An index of all keys, put by batches of 10,000.
-fn filled<R: Abort + Threads + Sync>(rt: &R, alloc: Alloc, is_scattered: bool) -> Index {
-    let mut index = Index::new(alloc, working(rt, 1, 64)).expect(rt, "an index");
+fn filled<R: Abort + Threads + Sync>(
+    rt: &R,
+    alloc: Alloc,
+    options: Options,
+    is_scattered: bool,
+) -> Index {
+    let mut index = Index::new(alloc, options).expect(rt, "an index");
     for batch in 0..10u32 {
         let from = batch * 10_000;
         let ops = upserts(rt, alloc, from, from + 10_000, is_scattered);
@@ -109,7 +115,7 @@ fn is_one_empty_leaf<R: Abort>(rt: &R, index: &Index) {
 #[test]
 fn rising_keys_go_by_small_batches_and_leave_one_leaf(rt: HostRuntime) {
     let alloc = heap(rt.alloc()).expect(&rt, "a heap");
-    let mut index = filled(&rt, alloc, false);
+    let mut index = filled(&rt, alloc, working(&rt, 1, 64), false);
     assert_equal(&rt, drain(&rt, alloc, &mut index, 64, false), 0);
     is_one_empty_leaf(&rt, &index);
 }
@@ -118,7 +124,7 @@ fn rising_keys_go_by_small_batches_and_leave_one_leaf(rt: HostRuntime) {
 #[test]
 fn scattered_keys_go_and_leave_one_leaf_once_all_are_written_to(rt: HostRuntime) {
     let alloc = heap(rt.alloc()).expect(&rt, "a heap");
-    let mut index = filled(&rt, alloc, true);
+    let mut index = filled(&rt, alloc, working(&rt, 1, 64), true);
     assert_equal(&rt, drain(&rt, alloc, &mut index, 10_000, true), 0);
     assert_that(&rt, index.is_empty());
     assert_that(&rt, pages(&rt, &index) < 100);
@@ -128,4 +134,48 @@ fn scattered_keys_go_and_leave_one_leaf_once_all_are_written_to(rt: HostRuntime)
         KEYS as usize,
     );
     is_one_empty_leaf(&rt, &index);
+}
+
+// Options with which a sweep is due before any batch of 10,000 operations that finds a record.
+fn sweeping<R: Abort>(rt: &R) -> Options {
+    Options::new(1, 64, 8, 64, 16, 10_000, 10_000).expect(rt, "options")
+}
+
+// Runs a batch of 10,000 scans, before which a sweep is due, and which leaves no record.
+fn sweep<R: Abort + Threads + Sync>(rt: &R, alloc: Alloc, index: &mut Index) {
+    let mut ops = Vec::new(alloc);
+    for number in 0..10_000u32 {
+        ops.push(scan_one(rt, alloc, number)).expect(rt, "memory");
+    }
+    assert_that(rt, index.tree().records() > 0);
+    index.run(rt, &ops, &OpenGate).expect(rt, "memory");
+    assert_equal(rt, index.tree().records(), 0);
+}
+
+// What a new index keeps of a heap.
+fn kept_by_new<R: Abort>(rt: &R, alloc: Alloc) -> u64 {
+    let before = alloc.used();
+    let index = Index::new(alloc, sweeping(rt)).expect(rt, "an index");
+    let kept = alloc.used().saturating_sub(before);
+    drop(index);
+    kept
+}
+
+// What two segments of 1,024 entries take: one of records, each of 168 bytes and with a link of 8, and one of base pages, each of
+// 192. A list in segments keeps one of them at most, and both lists have had more than one.
+const SEGMENTS: u64 = 1024 * (168 + 8 + 192);
+
+// Beside those segments at most twice what a new index has: the names of the segments that have gone took some room, and so did
+// the words of pages that have gone.
+#[test]
+fn a_drained_index_keeps_little_behind_a_sweep(rt: HostRuntime) -> Result<(), Fail> {
+    let alloc = Heap::within(rt.alloc(), 1 << 30).leak(rt.alloc())?;
+    let new = kept_by_new(&rt, alloc);
+    let mut index = filled(&rt, alloc, sweeping(&rt), false);
+    assert_equal(&rt, drain(&rt, alloc, &mut index, 64, false), 0);
+    sweep(&rt, alloc, &mut index);
+    is_one_empty_leaf(&rt, &index);
+    let most = SEGMENTS.saturating_add(new.saturating_mul(2));
+    assert_that(&rt, alloc.used() <= most);
+    Ok(())
 }

@@ -141,12 +141,23 @@ fn inner_refused<R: Abort>(rt: &R, alloc: Alloc, inner: &mut Inner, growth: u64)
     has_children(rt, inner, &[(b"", 0), (LONG, 5), (b"c", 1)]);
 }
 
+// Cuts it where only the room that the children leave isn't given back.
+fn inner_keeps_room<R: Abort>(rt: &R, alloc: Alloc, growth: u64) {
+    let mut inner = three_children(rt, alloc);
+    assert!(rt; inner.children().len() == 3);
+    alloc.refuse(growth);
+    assert_that(rt, inner.cut(1).is_ok());
+    assert_that(rt, was_refused(alloc, growth));
+    has_children(rt, &inner, &[(b"", 0)]);
+}
+
 #[test]
 fn an_inner_page_is_whole_after_each_growth_of_a_cut_that_is_refused(rt: HostRuntime) {
     let alloc = heap(rt.alloc()).expect(&rt, "memory");
     let mut inner = three_children(&rt, alloc);
     inner_refused(&rt, alloc, &mut inner, 1);
     inner_refused(&rt, alloc, &mut inner, 2);
+    inner_keeps_room(&rt, alloc, 3);
 }
 
 #[test]

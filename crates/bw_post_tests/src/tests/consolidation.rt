@@ -95,13 +95,13 @@ fn a_batch_is_posted_over_a_consolidated_leaf(rt: HostRuntime) {
 }
 
 // Consolidates a leaf where this growth is refused, and compares the tree after that. Whether it was: behind the first
-// four growths two only give room back, and the leaf is consolidated without them.
+// five growths two only give room back, and the leaf is consolidated without them.
 fn consolidation_refused<R: Abort + Threads + Sync>(rt: &R, alloc: Alloc, growth: u64) -> bool {
     let mut tree = written(rt, alloc);
     alloc.refuse(growth);
     let consolidated = consolidate(rt, alloc, &mut tree, b"c");
     let refused = was_refused(alloc, growth);
-    assert_equal(rt, consolidated.is_err(), refused && growth <= 4);
+    assert_equal(rt, consolidated.is_err(), refused && growth <= 5);
     if consolidated.is_err() {
         stands(rt, &tree, &[0, FLOOR, FLOOR + 1, 3], 2, 3);
     }
@@ -114,7 +114,7 @@ fn each_growth_of_a_consolidation_is_refused(rt: HostRuntime) {
     let alloc = heap(rt.alloc()).expect(&rt, "memory");
     for growth in 1..100 {
         if !consolidation_refused(&rt, alloc, growth) {
-            assert_equal(&rt, growth, 7);
+            assert_equal(&rt, growth, 8);
             return;
         }
     }

@@ -6,13 +6,16 @@ use super::half_done::{
 };
 use super::making::{has, holds};
 use super::shapes::has_pages;
-use super::tidying::{five_tidied, tidy_does};
+use super::tidying::{five_tidied, run, tidy_does};
 use crate::tests::assertions::{assert_equal, assert_that};
 use bw_fixtures::{are, heap, key};
 use bw_memory::Alloc;
+use bw_model::Op;
 use bw_page::PageId;
 use bw_post::Tree;
-use bw_shape::{Did, absorb, consolidate, drop_root, finish_absorb, grow_root, split, sweep};
+use bw_shape::{
+    Did, Limits, Tidy, absorb, consolidate, drop_root, finish_absorb, grow_root, split, sweep, tidy,
+};
 use std::process::Abort;
 use std::thread::Threads;
 
@@ -204,4 +207,28 @@ fn a_batch_is_posted_below_a_merged_page(rt: HostRuntime) {
             (2, 1, b"", None, 2, 0),
         ],
     );
+}
+
+// A batch leaves one pair of the right leaf. Where a leaf has two at least, tidying of all pages merges it into the left one,
+// which is the root then.
+#[test]
+fn a_leaf_that_a_batch_left_too_small_is_merged(rt: HostRuntime) {
+    let alloc = heap(rt.alloc()).expect(&rt, "memory");
+    let mut tree = five_tidied(&rt, alloc);
+    assert_equal(&rt, consolidate(&mut tree, PageId(0)), Ok(Did::Done));
+    let ops = [
+        Op::Delete(key(alloc, b"d").expect(&rt, "a key")),
+        Op::Delete(key(alloc, b"e").expect(&rt, "a key")),
+    ];
+    run(&rt, alloc, &mut tree, &ops, &[PageId(1)]);
+    let wanted = Tidy {
+        consolidated: 1,
+        splits: 0,
+        merges: 1,
+        stopped: false,
+    };
+    assert_equal(&rt, tidy(&mut tree, &Limits::new(1, 4, 2)), wanted);
+    has_pages(&rt, &tree, &[(0, 0, b"", None, 3, 0)]);
+    let left: [(&[u8], &[u8]); 3] = [(b"a", b"1"), (b"b", b"2"), (b"c", b"3")];
+    holds(&rt, alloc, &tree, 7, &left);
 }

@@ -39,13 +39,13 @@ fn a_leaf_has_its_state_as_of_each_stamp(rt: HostRuntime) {
     assert_that(&rt, !tree.is_plain(PageId(1)));
 }
 
-// Asks for the state of a leaf with a write where this growth is refused. Whether it was: behind the first four growths two
+// Asks for the state of a leaf with a write where this growth is refused. Whether it was: behind the first five growths two
 // only give room back, and the state is told without them.
 fn state_refused<R: Abort>(rt: &R, alloc: Alloc, tree: &Tree, growth: u64) -> bool {
     alloc.refuse(growth);
     let state = tree.state(PageId(1), 3);
     let refused = was_refused(alloc, growth);
-    assert_equal(rt, state.is_err(), refused && growth <= 4);
+    assert_equal(rt, state.is_err(), refused && growth <= 5);
     refused
 }
 
@@ -55,7 +55,7 @@ fn each_growth_of_a_state_is_refused(rt: HostRuntime) {
     let tree = adopted(&rt, alloc);
     for growth in 1..100 {
         if !state_refused(&rt, alloc, &tree, growth) {
-            assert_equal(&rt, growth, 7);
+            assert_equal(&rt, growth, 8);
             return;
         }
     }

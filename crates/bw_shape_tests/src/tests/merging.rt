@@ -90,36 +90,6 @@ pub fn two_leaves<R: Abort>(rt: &R, alloc: Alloc) -> Tree
     tree
 }
 
-// A leaf goes, its index entry after it, and then the root; the leaf that is left is split again.
-#[test]
-fn two_leaves_become_one(rt: HostRuntime) {
-    let alloc = heap(rt.alloc()).expect(&rt, "memory");
-    let mut tree = of_two_pairs(&rt, alloc);
-    assert_equal(&rt, tree.root(), PageId(2));
-    absorb_does(&rt, &mut tree, 1, Did::Done);
-    assert_equal(
-        &rt,
-        tree.route(&key(alloc, b"c").expect(&rt, "a key")),
-        PageId(0),
-    );
-    has_two_pairs(&rt, alloc, &tree);
-    forget_does(&rt, &mut tree, 1, Did::Done);
-    forget_does(&rt, &mut tree, 1, Did::NotNeeded);
-    has_two_pairs(&rt, alloc, &tree);
-    drop_does(&rt, &mut tree, Did::Done);
-    drop_does(&rt, &mut tree, Did::NotNeeded);
-    has_pages(&rt, &tree, &[(0, 0, b"", None, 2, 0)]);
-    has_two_pairs(&rt, alloc, &tree);
-    consolidate_does(&rt, &mut tree, 0, Did::Done);
-    split_does(&rt, &mut tree, 0, 1, Did::Done);
-    has_pages(
-        &rt,
-        &tree,
-        &[(0, 0, b"", Some(b"c"), 1, 0), (3, 0, b"c", None, 1, 0)],
-    );
-    has_two_pairs(&rt, alloc, &tree);
-}
-
 // A merge was left where the page above still names the leaf. Tidying all pages finishes it, and the root goes.
 #[test]
 fn a_merge_that_was_left_is_finished(rt: HostRuntime) {
@@ -258,6 +228,7 @@ fn no_page_begins_with_a_removed_one(rt: HostRuntime) {
     stands(&rt, alloc, &tree, 2, &[FLOOR + 2, 1, FLOOR + 3]);
 }
 
+// And the root doesn't go: it has one child, and a right neighbour.
 #[test]
 fn leaves_under_two_pages_are_not_merged(rt: HostRuntime) {
     let alloc = heap(rt.alloc()).expect(&rt, "memory");
@@ -265,6 +236,7 @@ fn leaves_under_two_pages_are_not_merged(rt: HostRuntime) {
     split_does(&rt, &mut tree, 2, 1, Did::Done);
     absorb_does(&rt, &mut tree, 1, Did::NotNeeded);
     absorb_does(&rt, &mut tree, 3, Did::NotNeeded);
+    drop_does(&rt, &mut tree, Did::NotNeeded);
     stands(&rt, alloc, &tree, 2, &[0, 1, FLOOR + 1, 3]);
 }
 

@@ -7,7 +7,7 @@ use super::merging::{
 };
 use super::shapes::has_pages;
 use crate::tests::assertions::{assert_equal, assert_that};
-use bw_fixtures::{heap, was_refused};
+use bw_fixtures::{heap, key, was_refused};
 use bw_memory::Alloc;
 use bw_shape::{Did, Memory, PageId, Tree, release};
 use std::process::Abort;
@@ -18,6 +18,37 @@ fn release_does<R: Abort>(rt: &R, tree: &mut Tree, page: u32, wanted: Did)
     ensures { tree.new.staged ≡ None }
 {
     assert_equal(rt, release(tree, PageId(page)), Ok(wanted));
+}
+
+// A leaf goes, its index entry after it, then its identifier, and then the root. The leaf that is left is split again, and the
+// new page takes the identifier.
+#[test]
+fn two_leaves_become_one_and_part_again(rt: HostRuntime) {
+    let alloc = heap(rt.alloc()).expect(&rt, "memory");
+    let mut tree = of_two_pairs(&rt, alloc);
+    assert_equal(&rt, tree.root(), PageId(2));
+    absorb_does(&rt, &mut tree, 1, Did::Done);
+    let removed = key(alloc, b"c").expect(&rt, "a key");
+    assert_equal(&rt, tree.route(&removed), PageId(0));
+    has_two_pairs(&rt, alloc, &tree);
+    release_does(&rt, &mut tree, 1, Did::NotNeeded);
+    forget_does(&rt, &mut tree, 1, Did::Done);
+    forget_does(&rt, &mut tree, 1, Did::NotNeeded);
+    release_does(&rt, &mut tree, 1, Did::Done);
+    release_does(&rt, &mut tree, 1, Did::NotNeeded);
+    has_two_pairs(&rt, alloc, &tree);
+    drop_does(&rt, &mut tree, Did::Done);
+    drop_does(&rt, &mut tree, Did::NotNeeded);
+    has_pages(&rt, &tree, &[(0, 0, b"", None, 2, 0)]);
+    has_two_pairs(&rt, alloc, &tree);
+    consolidate_does(&rt, &mut tree, 0, Did::Done);
+    split_does(&rt, &mut tree, 0, 1, Did::Done);
+    has_pages(
+        &rt,
+        &tree,
+        &[(0, 0, b"", Some(b"c"), 1, 0), (1, 0, b"c", None, 1, 0)],
+    );
+    has_two_pairs(&rt, alloc, &tree);
 }
 
 // A leaf that was removed gives its identifier back once no index entry names it, and so does the root that went. The

@@ -2,9 +2,13 @@
 use super::making::{
     FLOOR, consolidate_does, finds, finish_does, five, grow_does, named_once, split_does, stands,
 };
-use crate::tests::assertions::assert_equal;
-use bw_fixtures::heap;
-use bw_shape::{Did, PageId};
+use super::shapes::{Wanted, has_pages};
+use crate::tests::assertions::{assert_equal, assert_that};
+use bw_fixtures::{are, heap, key};
+use bw_memory::Alloc;
+use bw_page::Page;
+use bw_shape::{Did, PageId, Tree};
+use std::process::Abort;
 
 #[test]
 fn a_leaf_of_five_pairs_parts_and_the_root_grows(rt: HostRuntime) {
@@ -60,14 +64,51 @@ fn an_inner_page_parts_too(rt: HostRuntime) {
     finds(&rt, alloc, &tree, 0, b"b", Some(5));
 }
 
+// Compares the pairs of a leaf.
+fn has_leaf<R: Abort>(rt: &R, tree: &Tree, page: u32, pairs: &[(&'static [u8], &'static [u8])]) {
+    let state = tree.state(PageId(page), 0).expect(rt, "memory");
+    match &state {
+        Some(Page::Leaf(leaf)) => assert_that(rt, are(leaf.pairs(), pairs)),
+        _ => panic!(rt; "page {page} is no leaf"),
+    }
+}
+
+// Compares the leaf that has a key in its range.
+fn routes_to<R: Abort>(rt: &R, alloc: Alloc, tree: &Tree, bytes: &[u8], wanted: u32) {
+    let at = key(alloc, bytes).expect(rt, "a key");
+    assert_equal(rt, tree.route(&at), PageId(wanted));
+}
+
+// What five pairs become where their leaf is split, and a root comes over the halves.
+const HALVES: [Wanted; 3] = [
+    (0, 0, b"", Some(b"c"), 2, 0),
+    (1, 0, b"c", None, 3, 0),
+    (2, 1, b"", None, 2, 0),
+];
+
+// What those become where the right leaf is split, too.
+const THREE: [Wanted; 4] = [
+    (0, 0, b"", Some(b"c"), 2, 0),
+    (1, 0, b"c", Some(b"d"), 1, 0),
+    (3, 0, b"d", None, 2, 0),
+    (2, 1, b"", None, 3, 0),
+];
+
+// The root that comes over the halves of a leaf names both. What comes of the right half's split it names by a record, until
+// it is consolidated.
 #[test]
-fn a_split_is_finished_once(rt: HostRuntime) {
+fn a_leaf_parts_and_then_its_right_half(rt: HostRuntime) {
     let alloc = heap(rt.alloc()).expect(&rt, "memory");
     let mut tree = five(&rt, alloc);
     split_does(&rt, &mut tree, 0, 2, Did::Done);
+    has_leaf(&rt, &tree, 1, &[(b"c", b"3"), (b"d", b"4"), (b"e", b"5")]);
     finish_does(&rt, &mut tree, 0, Did::NotNeeded);
     grow_does(&rt, &mut tree, Did::Done);
+    grow_does(&rt, &mut tree, Did::NotNeeded);
     finish_does(&rt, &mut tree, 0, Did::NotNeeded);
+    routes_to(&rt, alloc, &tree, b"a", 0);
+    routes_to(&rt, alloc, &tree, b"c", 1);
+    has_pages(&rt, &tree, &HALVES);
     split_does(&rt, &mut tree, 1, 1, Did::Done);
     stands(&rt, alloc, &tree, 2, &[FLOOR, FLOOR + 1, 2, 3]);
     finish_does(&rt, &mut tree, 1, Did::Done);
@@ -75,8 +116,12 @@ fn a_split_is_finished_once(rt: HostRuntime) {
     finish_does(&rt, &mut tree, 1, Did::NotNeeded);
     finish_does(&rt, &mut tree, 3, Did::NotNeeded);
     grow_does(&rt, &mut tree, Did::NotNeeded);
-    finds(&rt, alloc, &tree, 0, b"c", Some(1));
-    finds(&rt, alloc, &tree, 0, b"d", Some(3));
+    consolidate_does(&rt, &mut tree, 2, Did::Done);
+    consolidate_does(&rt, &mut tree, 2, Did::NotNeeded);
+    routes_to(&rt, alloc, &tree, b"c", 1);
+    routes_to(&rt, alloc, &tree, b"d", 3);
+    has_pages(&rt, &tree, &THREE);
+    stands(&rt, alloc, &tree, 2, &[FLOOR, FLOOR + 1, 2, 3]);
 }
 
 #[test]

@@ -10,7 +10,7 @@ use super::tidying::{A, BEHIND_Q, FIVE, SEVENTEEN, did, four_pairs};
 use crate::tests::assertions::{assert_equal, assert_that};
 use bw_fixtures::{heap, was_refused};
 use bw_memory::Alloc;
-use bw_shape::{Did, Tidy, Tree, tidy};
+use bw_shape::{Did, Limits, PageId, Tidy, Tree, tidy};
 use std::process::Abort;
 
 // What the pairs of the 17 keys from `a` to `q` become, where they were split into 8, 4 and 5 before.
@@ -64,6 +64,15 @@ const NAMED: [Wanted; 7] = [
     (6, 1, b"b", Some(b"c"), 1, 0),
     (3, 1, b"c", None, 1, 0),
     (4, 2, b"", None, 3, 0),
+];
+
+// What those become where inner pages have two children at least: the second and the third one go into the first one, which
+// is the root then.
+const MERGED: [Wanted; 4] = [
+    (0, 0, b"", Some(b"b"), 1, 0),
+    (5, 0, b"b", Some(b"c"), 1, 0),
+    (1, 0, b"c", None, 3, 0),
+    (2, 1, b"", None, 3, 0),
 ];
 
 // Tidies a whole tree, and compares what that did.
@@ -152,6 +161,25 @@ fn a_split_inner_page_that_was_left_is_named(rt: HostRuntime) {
     stands(&rt, alloc, &tree, 4, &behind);
     has_pages(&rt, &tree, &NAMED);
     finish_does(&rt, &mut tree, 2, Did::NotNeeded);
+}
+
+// Inner pages with too few children are merged. The leaves of one pair have no writes, and stay.
+#[test]
+fn inner_pages_of_one_child_are_merged_where_two_are_the_least(rt: HostRuntime) {
+    let alloc = heap(rt.alloc()).expect(&rt, "memory");
+    let mut tree = unnamed(&rt, alloc);
+    let limits = Limits::new(1, 4, 2);
+    let wanted = Tidy {
+        merges: 2,
+        ..did(0, 0)
+    };
+    assert_equal(&rt, tidy(&mut tree, &limits), wanted);
+    has_pages(&rt, &tree, &MERGED);
+    assert_equal(&rt, tree.root(), PageId(2));
+    assert_equal(&rt, tree.heads().len(), 6);
+    reads_all(&rt, alloc, &tree);
+    assert_equal(&rt, tidy(&mut tree, &limits), did(0, 0));
+    has_pages(&rt, &tree, &MERGED);
 }
 
 // Tidies a tree of 17 pairs where this growth is refused, and where it was, once more. The pages come out as they do without
