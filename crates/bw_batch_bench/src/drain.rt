@@ -3,8 +3,8 @@ ghost use Rattle.std.specs.Prelude.{◌<◌};
 
 use crate::workload::{Order, Random, deletes, numbers, upserts};
 use crate::{
-    BATCH, Both, Heaps, Load, RECORDS_DEFAULT, Runs, SEED, counting_heap, longest, no_runs,
-    one_heap, print_times, run_batch,
+    BATCH, Both, Heaps, Load, RECORDS_DEFAULT, Runs, SEED, counting_heap, no_runs, one_heap,
+    print_longest, run_batch,
 };
 use anyhow::Result;
 use bw_batch::{Index, Options};
@@ -88,9 +88,7 @@ pub fn print_drain<R: Threads + Clock + Sync + Print>(
         runs.same
     )?;
     if is_timed {
-        let (index_longest, map_longest) = (longest(&runs.index), longest(&runs.map));
-        print_times(rt, &mut runs, operations)?;
-        println!(rt; "    longest {index_longest:.2} ms / {map_longest:.2} ms")?;
+        print_longest(rt, &mut runs, operations)?;
     }
     Ok(())
 }

@@ -441,6 +441,14 @@ fn longest(times: &[Duration]) -> f64 {
         * 1e3
 }
 
+// Prints the times of batches, and the longest ones.
+fn print_longest<R: Print>(rt: &R, runs: &mut Runs, operations: u64) -> Result<()> {
+    let (index, map) = (longest(&runs.index), longest(&runs.map));
+    print_times(rt, runs, operations)?;
+    println!(rt; "    longest {index:.2} ms / {map:.2} ms")?;
+    Ok(())
+}
+
 // Puts keys in one order, and prints what came of it.
 fn print_inserts<R: Threads + Clock + Sync + Print>(
     rt: &R,
@@ -458,9 +466,7 @@ fn print_inserts<R: Threads + Clock + Sync + Print>(
     let mut runs = inserted(rt, alloc, order, load, record_max)?;
     println!(rt; "  {} of {} replies are the map's", runs.same, load.keys)?;
     if is_timed {
-        let (index_longest, map_longest) = (longest(&runs.index), longest(&runs.map));
-        print_times(rt, &mut runs, load.operations)?;
-        println!(rt; "    longest {index_longest:.2} ms / {map_longest:.2} ms")?;
+        print_longest(rt, &mut runs, load.operations)?;
     }
     Ok(())
 }

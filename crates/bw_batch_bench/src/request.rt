@@ -163,42 +163,47 @@ fn number_in(matches: &ArgMatches<'_>, id: &str) -> u64 {
 
 // The command line as clap knows it.
 fn program<'a>(global: Global) -> Result<Command<'a>, AllocError> {
-    let job = Arg::new(global, "JOB")
-        .default_value("check")
-        .value_parser(JOBS.as_slice())
-        .help("What is done");
-    let kind = Arg::new(global, "kind")
-        .long("kind")
-        .default_value("gets")
-        .value_parser(KINDS.as_slice())
-        .help("What a batch is made of");
-    let by = Arg::new(global, "by")
-        .long("by")
-        .default_value("workers")
-        .value_parser(BYS.as_slice())
-        .help("What has several values in a picture");
-    Command::new(global, "bw_batch_bench")
+    let command = Command::new(global, "bw_batch_bench")
         .about("Times batches on an index of many leaves beside an ordered map.")
         .after_help(AFTER)
         .no_binary_name(true)
-        .arg(job)?
-        .arg(kind)?
+        .arg(job_argument(global))?
+        .arg(kind_option(global))?;
+    with_numbers(global, command)?.arg(by_option(global))
+}
+
+fn job_argument<'a>(global: Global) -> Arg<'a> {
+    Arg::new(global, "JOB")
+        .default_value("check")
+        .value_parser(JOBS.as_slice())
+        .help("What is done")
+}
+
+fn kind_option<'a>(global: Global) -> Arg<'a> {
+    Arg::new(global, "kind")
+        .long("kind")
+        .default_value("gets")
+        .value_parser(KINDS.as_slice())
+        .help("What a batch is made of")
+}
+
+fn by_option<'a>(global: Global) -> Arg<'a> {
+    Arg::new(global, "by")
+        .long("by")
+        .default_value("workers")
+        .value_parser(BYS.as_slice())
+        .help("What has several values in a picture")
+}
+
+fn with_numbers<'a>(global: Global, command: Command<'a>) -> Result<Command<'a>, AllocError> {
+    let workers = "How many workers the index has, 1 to 64";
+    let batch = "How many operations a batch has, 1 to 65536";
+    command
         .arg(number(global, "keys", "1000000", "How many keys there are"))?
-        .arg(number(
-            global,
-            "workers",
-            "1",
-            "How many workers the index has, 1 to 64",
-        ))?
-        .arg(number(
-            global,
-            "batch",
-            "65536",
-            "How many operations a batch has, 1 to 65536",
-        ))?
+        .arg(number(global, "workers", "1", workers))?
+        .arg(number(global, "batch", "65536", batch))?
         .arg(number(global, "batches", "15", "How many batches are timed"))?
-        .arg(number(global, "seed", "20130408", "Where drawn numbers begin"))?
-        .arg(by)
+        .arg(number(global, "seed", "20130408", "Where drawn numbers begin"))
 }
 
 // An option whose value is a number.

@@ -41,8 +41,8 @@ impl Model for Board {
     ghost view = { λ b. board_view b.table.shared.table_id b.table.shared.key.heads.items b.floor b.records b.piece
         b.table.shared.key.spares.items };
 
-    ghost invariant = { λ b. IsBoard (board_view b.table.shared.table_id b.table.shared.key.heads.items b.floor b.records
-        b.piece b.table.shared.key.spares.items) b.pages b.table.shared.key b.origin };
+    ghost invariant = { λ b. IsBoard (board_view b.table.shared.table_id b.table.shared.key.heads.items b.floor
+        b.records b.piece b.table.shared.key.spares.items) b.pages b.table.shared.key b.origin };
 }
 
 /// The right to step on a board, and what its owner owns, posted and saw there.

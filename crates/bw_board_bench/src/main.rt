@@ -141,8 +141,15 @@ fn print_counts<R: Threads + Clock + Sync + Print>(rt: &R, alloc: Alloc, load: L
     Ok(())
 }
 
-/// How long each way takes a record, and how much longer a post is.
-fn print_times<R: Threads + Clock + Sync + Print>(rt: &R, alloc: Alloc, load: Load) -> Result<()>
+/// The runs in the middle, one for each way.
+struct Middles {
+    board: Timed,
+    links: Timed,
+    heads: Timed,
+}
+
+// Posts a load each way in turn, and again.
+fn timed_in_turn<R: Threads + Clock + Sync>(rt: &R, alloc: Alloc, load: Load) -> Result<Middles>
     requires { load.records ≤ 2 ^ 32 }
 {
     let mut boards = Vec::new(alloc);
@@ -153,28 +160,39 @@ fn print_times<R: Threads + Clock + Sync + Print>(rt: &R, alloc: Alloc, load: Lo
         links.push(run(rt, alloc, Way::Links, load)?)?;
         heads.push(run(rt, alloc, Way::Heads, load)?)?;
     }
-    let board = middle(&mut boards)?;
-    let links = middle(&mut links)?;
-    let heads = middle(&mut heads)?;
-    let (post, link, head) = (
-        board.nanoseconds(),
-        links.nanoseconds(),
-        heads.nanoseconds(),
-    );
+    Ok(Middles {
+        board: middle(&mut boards)?,
+        links: middle(&mut links)?,
+        heads: middle(&mut heads)?,
+    })
+}
+
+/// How long each way takes a record, and how much longer a post is.
+fn print_times<R: Threads + Clock + Sync + Print>(rt: &R, alloc: Alloc, load: Load) -> Result<()>
+    requires { load.records ≤ 2 ^ 32 }
+{
+    let Middles {
+        board,
+        links,
+        heads,
+    } = timed_in_turn(rt, alloc, load)?;
+    let post = board.nanoseconds();
     println!(rt; "{load}, nanoseconds a record (lost exchanges a record):")?;
     println!(rt;
         "  post                 {post:7.1} ({:.2})",
         board.lost_each()
     )?;
+    print_ratio(rt, "link and exchange", &links, post)?;
+    print_ratio(rt, "exchange         ", &heads, post)
+}
+
+/// How long another way takes, and how much longer a post does.
+fn print_ratio<R: Print>(rt: &R, way: &str, run: &Timed, post: f64) -> Result<()> {
+    let time = run.nanoseconds();
+    let lost = run.lost_each();
     println!(rt;
-        "  link and exchange    {link:7.1} ({:.2}), post / this {:.2}",
-        links.lost_each(),
-        post / link
-    )?;
-    println!(rt;
-        "  exchange             {head:7.1} ({:.2}), post / this {:.2}",
-        heads.lost_each(),
-        post / head
+        "  {way}    {time:7.1} ({lost:.2}), post / this {:.2}",
+        post / time
     )?;
     Ok(())
 }

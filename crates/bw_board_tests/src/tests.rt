@@ -1,14 +1,19 @@
 // Boards of a few records step by step, each allocation refused in turn, and several threads at once.
-ghost use Rattle.std.specs.Prelude.{◌≡◌, ◌≤◌, ◌+◌, ℕ, true};
-ghost use Rattle.bw_core.specs.World.{owns, posts_in};
+ghost use Rattle.std.specs.Prelude.{◌≡◌, ◌≢◌, ◌≤◌, ◌<◌, ◌+◌, ℕ, None, true, length, slice_index_or};
+ghost use Rattle.bw_core.specs.World.{owns, tries_in};
+ghost use Rattle.bw_board.specs.Working.{HasLeft, HasPostedAll, SameWork};
 
+mod assertions;
 mod sizes;
 mod storms;
 
-use bw_board::{Board, Replaced, Seat};
+use crate::tests::assertions::{assert_equal, assert_that};
+use crate::tests::storms::merged;
+use bw_board::{Board, Closed, Replaced, Seat};
 use bw_key::Memory;
 use bw_memory::{Alloc, Heap};
 use std::alloc::Global;
+use std::ops::Range;
 use std::process::Abort;
 
 pub(crate) const FLOOR: u64 = 1 << 32;
@@ -17,28 +22,112 @@ pub(crate) fn counted(alloc: Global) -> Result<Alloc, Memory> {
     Ok(Heap::counted(alloc).leak(alloc)?)
 }
 
-// One seat of two that have posted all that they own.
-fn joined(board: &Board, first: Seat, second: Seat) -> Seat
-    requires board { (first.board ≡ board.now) × (second.board ≡ board.now) }
-    requires first { (r : ℕ) → owns r first.book ≤ posts_in r first.book.posted }
-    requires second { (r : ℕ) → owns r second.book ≤ posts_in r second.book.posted }
-    ensures board { result.board ≡ board.now }
-    ensures width { result.book.width ≡ first.book.width + second.book.width }
-    ensures told { first.book.told ≡ true → result.book.told ≡ true }
-    ensures posted { (r : ℕ) → owns r result.book ≤ posts_in r result.book.posted }
+// Compares what a board was closed with: head words, links, and the pages whose first word was replaced.
+fn is_closed<R: Abort>(
+    rt: &R,
+    closed: &Closed,
+    heads: &[u64],
+    links: &[u64],
+    swapped: &[u64],
+) {
+    assert_that(rt, closed.heads() == heads);
+    assert_that(rt, closed.links() == links);
+    assert_that(rt, closed.swapped() == swapped);
+}
+
+// Compares the records of a page's chain, the newest first.
+fn has_chain<R: Abort>(rt: &R, board: &Board, seat: &mut Seat, page: u64, records: &[u64])
+    requires board { seat.old.board ≡ board.now }
+    requires page { page < length board.now.first }
+    ensures { SameWork seat.old seat.new }
 {
-    board.join(first, second)
+    let chain = board.peek(seat, page).expect(rt, "memory");
+    assert_that(rt, chain.as_slice() == records);
+}
+
+// Compares the head word of the first page, whose chain the seat has seen then.
+fn has_head<R: Abort>(rt: &R, board: &Board, seat: &mut Seat, head: u64)
+    requires board { seat.old.board ≡ board.now }
+    requires page { 0 < length board.now.first }
+    ensures { SameWork seat.old seat.new }
+{
+    assert_equal(rt, board.look(seat, 0), head);
+}
+
+// Claims a piece of one record, which has this number.
+fn claim_one<R: Abort>(rt: &R, board: &Board, seat: &mut Seat, number: u64)
+    requires board { seat.old.board ≡ board.now }
+    requires posted { HasPostedAll seat.old }
+    ensures board { seat.new.board ≡ board.now }
+    ensures width { seat.new.book.width ≡ seat.old.book.width }
+    ensures swaps { seat.new.book.swaps ≡ seat.old.book.swaps }
+    ensures left { HasLeft seat.new number (number + 1) }
+    ensures once { (r : ℕ) → owns r seat.new.book ≤ 1 }
+{
+    let Some(span) = board.claim(seat) else {
+        panic!(rt; "nothing to claim")
+    };
+    assert!(rt; span.start == number);
+    assert!(rt; span.end - span.start == 1);
+}
+
+// Posts the record of that number, which the seat claimed, to the first page. It loses at most so many exchanges.
+fn post_one<R: Abort>(rt: &R, board: &Board, seat: &mut Seat, number: u64, most: u64)
+    requires board { seat.old.board ≡ board.now }
+    requires page { 0 < length board.now.first }
+    requires left { HasLeft seat.old number (number + 1) }
+    requires once { (r : ℕ) → owns r seat.old.book ≤ 1 }
+    ensures board { seat.new.board ≡ board.now }
+    ensures width { seat.new.book.width ≡ seat.old.book.width }
+    ensures swaps { seat.new.book.swaps ≡ seat.old.book.swaps }
+    ensures posted { HasPostedAll seat.new }
+{
+    let lost = board.post(seat, number, 0).lost;
+    assert_that(rt, lost <= most);
+}
+
+// Compares what becomes of a try to replace the first word of the first page, which has a spare.
+fn is_replaced<R: Abort>(rt: &R, board: &Board, seat: &mut Seat, wanted: Replaced)
+    requires board { seat.old.board ≡ board.now }
+    requires page { 0 < length board.now.first }
+    requires spare { slice_index_or board.now.spares 0 None ≢ None }
+    requires untried { tries_in 0 seat.old.book.swaps ≡ 0 }
+    ensures { SameWork seat.old seat.new }
+{
+    assert_equal(rt, board.replace(seat, 0), wanted);
+}
+
+// The seat is told that no record is left.
+fn is_told<R: Abort>(rt: &R, board: &Board, seat: &mut Seat)
+    requires board { seat.old.board ≡ board.now }
+    requires posted { HasPostedAll seat.old }
+    ensures board { seat.new.board ≡ board.now }
+    ensures width { seat.new.book.width ≡ seat.old.book.width }
+    ensures told { seat.new.book.told ≡ true }
+    ensures posted { HasPostedAll seat.new }
+{
+    if board.claim(seat).is_some() {
+        panic!(rt; "one record more")
+    }
+}
+
+// Compares what a claim gets.
+fn claims<R: Abort>(rt: &R, board: &Board, seat: &mut Seat, wanted: Option<Range<u64>>)
+    requires { seat.old.board ≡ board.now }
+    ensures { seat.new.board ≡ board.now }
+{
+    assert_that(rt, board.claim(seat) == wanted);
 }
 
 #[test]
 fn five_records_are_claimed_by_twos(rt: HostRuntime) {
     let alloc = counted(rt.alloc()).expect(&rt, "memory");
     let (board, mut seat) = Board::open(alloc, &[7], FLOOR, 5, 2, &[]).expect(&rt, "memory");
-    assert!(rt; board.claim(&mut seat) == Some(0..2));
-    assert!(rt; board.claim(&mut seat) == Some(2..4));
-    assert!(rt; board.claim(&mut seat) == Some(4..5));
-    assert!(rt; board.claim(&mut seat) == None);
-    assert!(rt; board.claim(&mut seat) == None);
+    claims(&rt, &board, &mut seat, Some(0..2));
+    claims(&rt, &board, &mut seat, Some(2..4));
+    claims(&rt, &board, &mut seat, Some(4..5));
+    claims(&rt, &board, &mut seat, None);
+    claims(&rt, &board, &mut seat, None);
 }
 
 #[test]
@@ -51,7 +140,7 @@ fn a_seat_is_split_ten_times(rt: HostRuntime) {
             Err(_seat) => panic!(rt; "split {time} was refused"),
         }
     }
-    assert!(rt; board.split(seat).is_err());
+    assert_that(&rt, board.split(seat).is_err());
 }
 
 #[test]
@@ -61,28 +150,17 @@ fn two_seats_post_one_after_the_other(rt: HostRuntime) {
     let Ok((mut first, mut second)) = board.split(seat) else {
         panic!(rt; "not split")
     };
-    let Some(span) = board.claim(&mut first) else {
-        panic!(rt; "nothing to claim")
-    };
-    assert!(rt; span == (0..1));
-    assert!(rt; board.post(&mut first, span.start, 0).lost == 0);
-    let Some(span) = board.claim(&mut second) else {
-        panic!(rt; "nothing to claim")
-    };
-    assert!(rt; span == (1..2));
-    assert!(rt; board.post(&mut second, span.start, 0).lost == 0);
-    let chain = board.peek(&mut second, 0).expect(&rt, "memory");
-    assert!(rt; chain.as_slice() == [1, 0].as_slice());
-    let chain = board.peek(&mut first, 0).expect(&rt, "memory");
-    assert!(rt; chain.as_slice() == [1, 0].as_slice());
-    if board.claim(&mut first).is_some() || board.claim(&mut second).is_some() {
-        panic!(rt; "a third record")
-    }
-    let seat = joined(&board, first, second);
+    claim_one(&rt, &board, &mut first, 0);
+    post_one(&rt, &board, &mut first, 0, 0);
+    claim_one(&rt, &board, &mut second, 1);
+    post_one(&rt, &board, &mut second, 1, 0);
+    has_chain(&rt, &board, &mut second, 0, &[1, 0]);
+    has_chain(&rt, &board, &mut first, 0, &[1, 0]);
+    is_told(&rt, &board, &mut first);
+    is_told(&rt, &board, &mut second);
+    let seat = merged(&board, first, second);
     let closed = board.close(seat).expect(&rt, "memory");
-    assert!(rt; closed.heads() == [FLOOR + 1].as_slice());
-    assert!(rt; closed.links() == [7, FLOOR].as_slice());
-    assert!(rt; closed.swapped().is_empty());
+    is_closed(&rt, &closed, &[FLOOR + 1], &[7, FLOOR], &[]);
 }
 
 #[test]
@@ -92,29 +170,21 @@ fn a_seat_that_looked_posts_after_another(rt: HostRuntime) {
     let Ok((mut first, mut second)) = board.split(seat) else {
         panic!(rt; "not split")
     };
-    let Some(zero) = board.claim(&mut first) else {
-        panic!(rt; "nothing to claim")
-    };
-    let Some(one) = board.claim(&mut second) else {
-        panic!(rt; "nothing to claim")
-    };
-    assert!(rt; zero == (0..1));
-    assert!(rt; one == (1..2));
-    assert!(rt; board.look(&mut first, 0) == 7);
-    assert!(rt; board.post(&mut second, one.start, 0).lost == 0);
-    assert!(rt; board.post(&mut first, zero.start, 0).lost <= 1);
-    let chain = board.peek(&mut first, 0).expect(&rt, "memory");
-    assert!(rt; chain.as_slice() == [0, 1].as_slice());
-    assert!(rt; board.look(&mut second, 0) == FLOOR);
-    if board.claim(&mut first).is_some() || board.claim(&mut second).is_some() {
-        panic!(rt; "a third record")
-    }
-    let seat = joined(&board, first, second);
+    has_head(&rt, &board, &mut first, 7);
+    claim_one(&rt, &board, &mut first, 0);
+    claim_one(&rt, &board, &mut second, 1);
+    post_one(&rt, &board, &mut second, 1, 0);
+    post_one(&rt, &board, &mut first, 0, 1);
+    has_chain(&rt, &board, &mut first, 0, &[0, 1]);
+    has_head(&rt, &board, &mut second, FLOOR);
+    is_told(&rt, &board, &mut first);
+    is_told(&rt, &board, &mut second);
+    let seat = merged(&board, first, second);
     let closed = board.close(seat).expect(&rt, "memory");
     let (heads, links, swapped) = closed.into_parts();
-    assert!(rt; heads.as_slice() == [FLOOR].as_slice());
-    assert!(rt; links.as_slice() == [FLOOR + 1, 7].as_slice());
-    assert!(rt; swapped.is_empty());
+    assert_that(&rt, heads.as_slice() == [FLOOR].as_slice());
+    assert_that(&rt, links.as_slice() == [FLOOR + 1, 7].as_slice());
+    assert_that(&rt, swapped.is_empty());
 }
 
 #[test]
@@ -124,12 +194,9 @@ fn a_board_without_records(rt: HostRuntime) {
     let (board, mut seat) = Board::open(alloc, &heads, FLOOR, 0, 1, &[None, None]).expect(
         &rt, "memory",
     );
-    if board.claim(&mut seat).is_some() {
-        panic!(rt; "a record")
-    }
+    is_told(&rt, &board, &mut seat);
     let closed = board.close(seat).expect(&rt, "memory");
-    assert!(rt; closed.heads() == heads.as_slice());
-    assert!(rt; closed.links().is_empty() && closed.swapped().is_empty());
+    is_closed(&rt, &closed, &heads, &[], &[]);
 }
 
 // The second page is behind the end of the spares, and has none.
@@ -139,18 +206,12 @@ fn a_word_is_replaced_before_a_post(rt: HostRuntime) {
     let (board, mut seat) = Board::open(alloc, &[FLOOR, 9], FLOOR + 1, 1, 1, &[Some(5)]).expect(
         &rt, "memory",
     );
-    assert!(rt; board.replace(&mut seat, 0) == Replaced::Won);
-    let Some(span) = board.claim(&mut seat) else {
-        panic!(rt; "nothing to claim")
-    };
-    assert!(rt; board.post(&mut seat, span.start, 0).lost == 0);
-    if board.claim(&mut seat).is_some() {
-        panic!(rt; "a second record")
-    }
+    is_replaced(&rt, &board, &mut seat, Replaced::Won);
+    claim_one(&rt, &board, &mut seat, 0);
+    post_one(&rt, &board, &mut seat, 0, 0);
+    is_told(&rt, &board, &mut seat);
     let closed = board.close(seat).expect(&rt, "memory");
-    assert!(rt; closed.heads() == [FLOOR + 1, 9].as_slice());
-    assert!(rt; closed.links() == [5].as_slice());
-    assert!(rt; closed.swapped() == [0].as_slice());
+    is_closed(&rt, &closed, &[FLOOR + 1, 9], &[5], &[0]);
 }
 
 #[test]
@@ -159,18 +220,12 @@ fn a_replacement_comes_late(rt: HostRuntime) {
     let (board, mut seat) = Board::open(alloc, &[FLOOR], FLOOR + 1, 1, 1, &[Some(5)]).expect(
         &rt, "memory",
     );
-    let Some(span) = board.claim(&mut seat) else {
-        panic!(rt; "nothing to claim")
-    };
-    assert!(rt; board.post(&mut seat, span.start, 0).lost == 0);
-    assert!(rt; board.replace(&mut seat, 0) == Replaced::Late);
-    if board.claim(&mut seat).is_some() {
-        panic!(rt; "a second record")
-    }
+    claim_one(&rt, &board, &mut seat, 0);
+    post_one(&rt, &board, &mut seat, 0, 0);
+    is_replaced(&rt, &board, &mut seat, Replaced::Late);
+    is_told(&rt, &board, &mut seat);
     let closed = board.close(seat).expect(&rt, "memory");
-    assert!(rt; closed.heads() == [FLOOR + 1].as_slice());
-    assert!(rt; closed.links() == [FLOOR].as_slice());
-    assert!(rt; closed.swapped().is_empty());
+    is_closed(&rt, &closed, &[FLOOR + 1], &[FLOOR], &[]);
 }
 
 // The calls that take memory.
@@ -193,6 +248,24 @@ fn is_open_refused(rt: &impl Abort, alloc: Alloc, growth: u64, has_spare: bool) 
     has_come(rt, alloc, growth, is_err)
 }
 
+// Peeks at a page with one record, where one growth is refused, and once more. Answers whether it was.
+fn is_peek_refused(
+    rt: &impl Abort,
+    alloc: Alloc,
+    growth: u64,
+    board: &Board,
+    seat: &mut Seat,
+) -> bool
+    requires board { seat.old.board ≡ board.now }
+    requires page { 0 < length board.now.first }
+{
+    alloc.refuse(growth);
+    let is_err = board.peek(seat, 0).is_err();
+    let found = has_come(rt, alloc, growth, is_err);
+    has_chain(rt, board, seat, 0, &[0]);
+    found
+}
+
 // Opens a board, posts its one record over a spare and closes it, up to this call, in which one growth is refused. Answers
 // whether it was.
 fn is_refused(rt: &impl Abort, alloc: Alloc, growth: u64, call: Call) -> bool {
@@ -200,22 +273,13 @@ fn is_refused(rt: &impl Abort, alloc: Alloc, growth: u64, call: Call) -> bool {
         return is_open_refused(rt, alloc, growth, call == Call::Open);
     }
     let (board, mut seat) = Board::open(alloc, &[7], FLOOR, 1, 1, &[Some(5)]).expect(rt, "memory");
-    assert!(rt; board.replace(&mut seat, 0) == Replaced::Won);
-    let Some(span) = board.claim(&mut seat) else {
-        panic!(rt; "nothing to claim")
-    };
-    board.post(&mut seat, span.start, 0);
+    is_replaced(rt, &board, &mut seat, Replaced::Won);
+    claim_one(rt, &board, &mut seat, 0);
+    post_one(rt, &board, &mut seat, 0, 0);
     if call == Call::Peek {
-        alloc.refuse(growth);
-        let chain = board.peek(&mut seat, 0);
-        let found = has_come(rt, alloc, growth, chain.is_err());
-        let chain = board.peek(&mut seat, 0).expect(rt, "memory");
-        assert!(rt; chain.as_slice() == [0].as_slice());
-        return found;
+        return is_peek_refused(rt, alloc, growth, &board, &mut seat);
     }
-    if board.claim(&mut seat).is_some() {
-        panic!(rt; "a second record")
-    }
+    is_told(rt, &board, &mut seat);
     alloc.refuse(growth);
     let closed = board.close(seat);
     has_come(rt, alloc, growth, closed.is_err())
@@ -225,7 +289,7 @@ fn is_refused(rt: &impl Abort, alloc: Alloc, growth: u64, call: Call) -> bool {
 fn has_come(rt: &impl Abort, alloc: Alloc, growth: u64, is_err: bool) -> bool {
     let found = alloc.left() == 0 || alloc.left() > growth;
     alloc.refuse(0);
-    assert!(rt; found == is_err);
+    assert_equal(rt, found, is_err);
     found
 }
 
@@ -243,8 +307,9 @@ fn count_refused(rt: &impl Abort, alloc: Alloc, call: Call) -> u64 {
 fn each_growth_is_refused_in_turn(rt: HostRuntime) {
     let alloc = counted(rt.alloc()).expect(&rt, "memory");
     let opened = count_refused(&rt, alloc, Call::Open);
-    assert!(rt; opened > 2);
-    assert!(rt; count_refused(&rt, alloc, Call::OpenWithoutSpares) == opened - 1);
-    assert!(rt; count_refused(&rt, alloc, Call::Peek) == 1);
-    assert!(rt; count_refused(&rt, alloc, Call::Close) == 3);
+    assert_that(&rt, opened > 2);
+    let without_spares = count_refused(&rt, alloc, Call::OpenWithoutSpares);
+    assert_equal(&rt, without_spares.checked_add(1), Some(opened));
+    assert_equal(&rt, count_refused(&rt, alloc, Call::Peek), 1);
+    assert_equal(&rt, count_refused(&rt, alloc, Call::Close), 3);
 }

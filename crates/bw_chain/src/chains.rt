@@ -21,7 +21,7 @@ use std::marker::Model;
 pub const FLOOR: u64 = 1 << 32;
 
 /// What mapping words name: base pages by their numbers, and records. A vacant number has no page.
-#[derive(Debug, Drop)]
+#[derive(Drop)]
 pub struct Chains {
     pub(crate) bases: Segmented<Option<Page>>,
     pub(crate) arena: Arena,

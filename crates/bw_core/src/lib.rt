@@ -1,19 +1,11 @@
-//! Posting to the mapping table of a Bw-tree, as a state machine without threads.
+//! Posting to the mapping table of a Bw-tree, as a state machine without threads: its events, its state, and its laws.
 //!
 //! Workers post their records to the chains of pages by compare-and-exchange, as in the Bw-tree (ICDE 2013, OpenBw-Tree:
-//! SIGMOD 2018). Here each atomic step of a worker is one `Event`, and a `World` plays events in any order. Its law, and that
-//! every event keeps it, are stated over plain lists, for the table of atomic words that is built on them.
+//! SIGMOD 2018). Here each atomic step of a worker is one `Event`. When the state is lawful, and that every event keeps it so,
+//! are stated over plain lists, for the table of atomic words that is built on them, and for a program that plays events.
 #![tactic(auto)]
 
-mod book;
-mod copies;
 pub mod laws;
-mod state;
-mod transitions;
-mod world;
-
-pub use book::Book;
-pub use world::World;
 
 /// Record numbers from `from` on, below `to`.
 #[derive(Clone, Copy, Debug, PartialEq, Eq)]

@@ -13,7 +13,6 @@ use std::marker::Model;
 ///
 /// The links lie in a list of their own, so that a walk along a chain touches 8 bytes a record. Both lists grow by segments,
 /// so that no record that stands is moved for one that is added.
-#[derive(Debug)]
 pub struct Arena {
     deltas: Segmented<Delta>,
     links: Segmented<u64>,

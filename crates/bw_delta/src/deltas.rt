@@ -5,7 +5,7 @@ use bw_page::PageId;
 
 /// A delta record: a change of a page, which is put before the page's former state (ICDE 2013). A page's chain is its
 /// records, the newest first, down to its base page.
-#[derive(Debug, Drop, PartialEq, Eq)]
+#[derive(PartialEq, Eq)]
 pub enum Delta {
     /// A write at a key of a leaf.
     Put(Write),
@@ -35,4 +35,26 @@ pub enum Delta {
     DropChild {
         sep: Key,
     },
+}
+
+// Not derived, as for `Write`.
+impl Drop for Delta {
+    fn drop(self) {
+        match self {
+            Delta::Put(_write) => {}
+            Delta::Split { sep: _sep, to: _to } => {}
+            Delta::Absorb {
+                sep: _sep,
+                base: _base,
+                high: _high,
+                side: _side,
+            } => {}
+            Delta::Removed { left: _left } => {}
+            Delta::AddChild {
+                sep: _sep,
+                child: _child,
+            } => {}
+            Delta::DropChild { sep: _sep } => {}
+        }
+    }
 }

@@ -27,7 +27,7 @@ use std::collections::btree_map::Range;
 ///
 /// A write that changes a value costs up to two searches among the changes and two on the base, and a copy of its key and
 /// of the value that it leaves; one that changes none, a search in each.
-#[derive(Debug, Drop)]
+#[derive(Drop)]
 pub(crate) struct Present<'a> {
     base: Base<'a>,
     // each key that a write changed, with its value now; without one where it is deleted, if the base has it
@@ -35,7 +35,7 @@ pub(crate) struct Present<'a> {
 }
 
 /// The leaf that lies under the changes.
-#[derive(Debug, Drop)]
+#[derive(Drop)]
 pub(crate) enum Base<'a> {
     Lent(&'a Leaf),
     // of several parts

@@ -14,7 +14,7 @@ use std::marker::Model;
 
 /// The value at a key as of a stamp that rises, read from the key's writes in the order of their stamps. It copies
 /// nothing, and passes each write once.
-#[derive(Debug, Drop)]
+#[derive(Drop)]
 pub struct Reading<'a> {
     stamp: u64,
     value: Option<&'a [u8]>,

@@ -23,7 +23,6 @@ use std::marker::Model;
 ///
 /// The pairs of one part are read where they stand, and of the keys that writes changed the values now are kept in an
 /// ordered map. So a write costs searches and a copy of its key and value, and none of the pairs beside it.
-#[derive(Debug)]
 pub struct Replay<'a> {
     stamp: u64,
     present: Present<'a>,

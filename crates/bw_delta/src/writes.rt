@@ -7,11 +7,22 @@ use bw_model::{Action, Op};
 use std::marker::Model;
 
 /// A write at a key. No two writes have one stamp.
-#[derive(Debug, Drop, PartialEq, Eq)]
+#[derive(PartialEq, Eq)]
 pub struct Write {
     pub stamp: u64,
     pub key: Key,
     pub action: Action,
+}
+
+// Not derived: whoever drops one calls this, and its proof is spared the parts.
+impl Drop for Write {
+    fn drop(self) {
+        let Write {
+            stamp: _stamp,
+            key: _key,
+            action: _action,
+        } = self;
+    }
 }
 
 impl Model for Write {

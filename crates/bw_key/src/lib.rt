@@ -212,6 +212,3 @@ impl Ord for Key {
         compare_prefixed(self, self.prefix(), other, other.prefix())
     }
 }
-
-#[cfg(test)]
-mod tests;

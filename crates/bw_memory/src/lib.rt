@@ -242,6 +242,3 @@ unsafe impl<B: Allocator> Allocator for Heap<B> {
         }
     }
 }
-
-#[cfg(test)]
-mod tests;

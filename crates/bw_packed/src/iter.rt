@@ -4,7 +4,7 @@ use crate::runs::Run;
 use std::marker::Model;
 
 /// The pairs of a list or of a run that are still to be told, as keys and values. Contracts see the list of them.
-#[derive(Debug, Drop)]
+#[derive(Drop)]
 pub struct Iter<'a> {
     pub(crate) rest: Run<'a>,
 }

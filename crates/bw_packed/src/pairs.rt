@@ -142,7 +142,8 @@ impl Pairs {
     pub fn bytes_in(&self, range: Range<usize>) -> usize
         requires ordered { range.start ≤ range.end }
         requires within { range.end ≤ length self.now }
-        ensures value { result ≡ sum_by (λ pair. length pair.0 + length pair.1) (slice_range self.now range.start range.end) }
+        ensures value { let pairs = slice_range self.now range.start range.end in
+            result ≡ sum_by (λ pair. length pair.0 + length pair.1) pairs }
         ensures limit { result < 2 ^ 32 }
     {
         self.entries.bytes_in(range)
@@ -207,7 +208,8 @@ impl Pairs {
         requires ordered { range.start ≤ range.end }
         requires within { range.end ≤ length self.now }
         ensures bound { result ≤ range.end - range.start }
-        ensures parts { EndsAt (λ pair. is_lt (key_cmp pair.0 key.now)) (slice_range self.now range.start range.end) result }
+        ensures parts { let pairs = slice_range self.now range.start range.end in
+            EndsAt (λ pair. is_lt (key_cmp pair.0 key.now)) pairs result }
     {
         self.entries.place(range, key)
     }

@@ -15,7 +15,7 @@ use std::ops::Range;
 
 /// Pairs that stand one behind the other in a list, to look at: what a slice is of a vector. It copies nothing, and
 /// contracts see the list of these pairs.
-#[derive(Debug, Drop)]
+#[derive(Drop)]
 pub struct Run<'a> {
     pairs: &'a Pairs,
     start: usize,
@@ -161,7 +161,8 @@ impl<'a> Run<'a> {
     fn is_same_at(&self, other: &Run<'_>, place: usize) -> bool
         requires here { place < length self.now }
         requires there { place < length other.now }
-        ensures { (d : List ℕ × List ℕ) → result ≡ pair_eq (slice_index_or self.now place d) (slice_index_or other.now place d) }
+        ensures { (d : List ℕ × List ℕ) →
+            result ≡ pair_eq (slice_index_or self.now place d) (slice_index_or other.now place d) }
     {
         self.key_at(place) == other.key_at(place) && self.value_at(place) == other.value_at(place)
     }

@@ -20,7 +20,8 @@ impl<E: Keyed> Packed<E> {
     /// The key of the entry at a place.
     pub fn key_at(&self, place: usize) -> &[u8]
         requires { place < length self.now }
-        ensures { (d : List ℕ × E) → result.now ≡ E.key (slice_index_or self.now place d).1 (slice_index_or self.now place d).0 }
+        ensures { (d : List ℕ × E) →
+            let entry = slice_index_or self.now place d in result.now ≡ E.key entry.1 entry.0 }
     {
         self.tag_at(place).key(self.bytes_at(place))
     }

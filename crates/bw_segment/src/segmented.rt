@@ -17,7 +17,6 @@ pub const SEGMENTS_MAX: usize = 1 << 32;
 ///
 /// An entry that was added stays where it is in memory, but for the first ones: the first segment grows as a `Vec` does, so
 /// that a short list takes little. Each further segment is made at once. Entries are found by their places in constant time.
-#[derive(Debug)]
 pub struct Segmented<T> {
     full: Vec<Vec<T, Alloc>, Alloc>,
     last: Vec<T, Alloc>,

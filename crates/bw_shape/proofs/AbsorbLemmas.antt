@@ -10,26 +10,26 @@ use Rattle.bw_chain.specs.Levels.{AreLevels, row}
 use Rattle.bw_chain.specs.Merges.{bodies_joined, level_merged, without_page}
 use Rattle.bw_chain.specs.Reading.{body_pairs, body_writes, pairs_under, writes_over}
 use Rattle.bw_chain.specs.Searches.{IsInLevels}
-use Rattle.bw_chain.specs.Slots.{Slot, Body, Pairs, Children, Free, Gone, Live, is_leaf, side_of, slot_at, slot_level}
+use Rattle.bw_chain.specs.Slots.{Slot, Body, Pairs, Children, Free, Gone, Live, is_leaf, slot_at, slot_level}
 use Rattle.bw_chain.specs.Splits.{slot_entries}
 use Rattle.bw_chain.proofs.AboveLemmas.{own_level}
-use Rattle.bw_tree.specs.Consolidation.{IsConsolidated, IsRebased, consolidated_leaf}
+use Rattle.bw_tree.specs.Consolidation.{IsConsolidated, IsRebased}
 use Rattle.bw_tree.specs.Freeing.{IsTrimmed}
 use Rattle.bw_tree.specs.Merges.{HasLostChild, HasMerged, IsLowered, MayMerge}
-use Rattle.bw_tree.specs.Pages.{IsLeft}
+use Rattle.bw_tree.specs.Pages.{IsLeft, leaf_as_of}
 use Rattle.bw_tree.specs.Routing.{IsInLevel}
 use Rattle.bw_tree.specs.Shapes.{pairs_on}
 use Rattle.bw_tree.specs.View.{TreeView}
 use Rattle.bw_tree.proofs.NeighbourLemmas.{one_left}
 use Rattle.bw_tree.proofs.PageLemmas.{lowest_leaf}
 use Rattle.bw_shape.specs.Limits.{LimitsView, AreWithinBut, IsWithin}
-use Rattle.bw_shape.specs.Merges.{IsAbsorptionFinishStep, IsAbsorptionStep, IsLoweringStep}
-use Rattle.bw_shape.specs.Releasing.{AreFreed}
-use Rattle.bw_shape.specs.Steps.{IsConsolidationStep}
+use Rattle.bw_steps.specs.Merges.{IsAbsorptionFinishStep, IsAbsorptionStep, IsLoweringStep}
+use Rattle.bw_steps.specs.Releasing.{AreFreed}
+use Rattle.bw_steps.specs.Steps.{IsConsolidationStep}
 use Rattle.bw_shape.specs.Tidying.{HoldsAll, KeepsWithin}
 use Rattle.bw_shape.specs.Visits.{AreFewTogether, HasRoomOn, KeepsWithinAt}
-use Rattle.bw_shape.specs.declared.steps.Did.{Did}
-use Rattle.bw_shape.specs.declared.steps.Did.TheVariants.{Done, NotNeeded}
+use Rattle.bw_steps.specs.declared.steps.Did.{Did}
+use Rattle.bw_steps.specs.declared.steps.Did.TheVariants.{Done, NotNeeded}
 use Rattle.bw_shape.proofs.TidyLemmas.{KeepsTidy, few_pairs, held_at, holds_on, tidy_freed, tidy_still}
 
 -- a page above the leaves is no leaf
@@ -176,7 +176,7 @@ fewer_levels old new child some h = omega (arith, some, ap length h.levels, leng
 -- a leaf that was consolidated and has room for what it holds is within the limits
 leaf_within : (limits : LimitsView) (old new : TreeView) (p : ℕ) → is_leaf (slot_at old.slots p) ≡ true → HasRoomOn limits old p → IsConsolidated old new p → IsWithin limits (slot_at new.slots p)
 leaf_within limits old new p leaf room k =
-    let few = subst (λ b. cond b (length (consolidated_leaf old p (side_of old.slots p)).pairs) (slot_entries (slot_at old.slots p)) ≤ limits.page_max) leaf room in
+    let few = subst (λ b. cond b (length (leaf_as_of old p old.next).pairs) (slot_entries (slot_at old.slots p)) ≤ limits.page_max) leaf room in
     subst (IsWithin limits) (sym k.page) (omega arith, omega (arith, few))
 
 consolidated_within : (limits : LimitsView) (old new : TreeView) (p : ℕ) → is_leaf (slot_at old.slots p) ≡ true → HasRoomOn limits old p → IsConsolidated old new p → KeepsWithinAt limits old new

@@ -1,11 +1,5 @@
-pub mod FinishLemmas
-pub mod TakenLemmas
-pub mod FreedLemmas
 pub mod SweepLemmas
-pub mod NamingLemmas
 pub mod PartLemmas
 pub mod TidyLemmas
 pub mod WholeLemmas
-pub mod PlainLemmas
-pub mod MergeLemmas
 pub mod AbsorbLemmas

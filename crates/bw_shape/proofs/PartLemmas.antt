@@ -16,8 +16,9 @@ use Rattle.bw_tree.specs.Splits.{IsSplittable}
 use Rattle.bw_tree.specs.View.{TreeView}
 use Rattle.bw_tree.proofs.PageLemmas.{lowest_leaf}
 use Rattle.bw_shape.specs.Tidying.{DueView}
-use Rattle.bw_shape.specs.Visits.{HasPassed, IsBare, IsHalved, IsNextBefore, IsPart, StandBefore, half_of, taken_count, work_left}
-use Rattle.bw_shape.proofs.TakenLemmas.{taken_more, taken_split}
+use Rattle.bw_shape.specs.Visits.{HasPassed, IsBare, IsHalved, IsNextBefore, IsPart, StandBefore, half_of, work_left}
+use Rattle.bw_steps.specs.Releasing.{taken_count}
+use Rattle.bw_steps.proofs.TakenLemmas.{taken_more, taken_split}
 
 -- the pages of a row stand in it still, and the new one does
 still_there : (p q r : ℕ) (ps : List ℕ) → Contains ps r → Contains (put_behind p q ps) r

@@ -13,15 +13,15 @@ use Rattle.bw_chain.specs.Searches.{IsInLevels}
 use Rattle.bw_chain.specs.Slots.{Slot, Free, side_of_slot, slot_at}
 use Rattle.bw_tree.specs.Consolidation.{IsConsolidated, IsRebased}
 use Rattle.bw_tree.specs.View.{TreeView, contents_at}
-use Rattle.bw_shape.specs.Steps.{HasLostChain, IsConsolidationStep}
+use Rattle.bw_steps.specs.Steps.{HasLostChain, IsConsolidationStep}
 use Rattle.bw_shape.specs.Limits.{LimitsView, IsWithin}
-use Rattle.bw_shape.specs.Releasing.{AreFreed, FreesUnreached, HasNoneToFree}
+use Rattle.bw_steps.specs.Releasing.{AreFreed, FreesUnreached, HasNoneToFree}
 use Rattle.bw_shape.specs.Sweeps.{ArePlainBelow, HasAllRecorded, HasSameBounds, HaveSameBounds, HaveSameBoundsTaken, HoldsButFreed, HoldsSame, IsPlainAt, IsSwept, KeepsPlain, KeepsPlainTaken}
 use Rattle.bw_shape.specs.Tidying.{HasBoth, KeepsWithin}
-use Rattle.bw_shape.specs.declared.steps.Did.{Did}
-use Rattle.bw_shape.specs.declared.steps.Did.TheVariants.{Done, NotNeeded}
-use Rattle.bw_shape.proofs.FreedLemmas.{freed_itself}
-use Rattle.bw_shape.proofs.TakenLemmas.{cases_free, taken_but}
+use Rattle.bw_steps.specs.declared.steps.Did.{Did}
+use Rattle.bw_steps.specs.declared.steps.Did.TheVariants.{Done, NotNeeded}
+use Rattle.bw_steps.proofs.FreedLemmas.{freed_itself}
+use Rattle.bw_steps.proofs.TakenLemmas.{cases_free, taken_but}
 
 bounds_same : (old new : Slot) → new ≡ old → HasSameBounds old new
 bounds_same old new is = record { low = ap low_of is; high = ap high_of is; side = ap side_of_slot is }

@@ -20,17 +20,17 @@ use Rattle.bw_tree.specs.Roots.{HasNewRoot}
 use Rattle.bw_tree.specs.Splits.{IsSplit, IsSplittable}
 use Rattle.bw_tree.specs.View.{TreeView, contents_at}
 use Rattle.bw_shape.specs.Limits.{LimitsView, AreWithinBut, IsWithin}
-use Rattle.bw_shape.specs.Naming.{AreFinished}
-use Rattle.bw_shape.specs.Releasing.{AreFreed}
+use Rattle.bw_steps.specs.Naming.{AreFinished}
+use Rattle.bw_steps.specs.Releasing.{AreFreed}
 use Rattle.bw_shape.specs.Sweeps.{HoldsSame}
 use Rattle.bw_shape.specs.Tidying.{HoldsAll, KeepsWithin}
 use Rattle.bw_shape.specs.Visits.{IsBare, IsNext, IsSplitNext}
-use Rattle.bw_shape.specs.Steps.{HasLostChain, IsFinishStep, IsFinished, IsRootStep, IsSameOver}
+use Rattle.bw_steps.specs.Steps.{HasLostChain, IsFinishStep, IsFinished, IsRootStep, IsSameOver}
 use Rattle.bw_tree.specs.Consolidation.{IsRebased}
-use Rattle.bw_shape.specs.declared.steps.Did.{Did}
-use Rattle.bw_shape.specs.declared.steps.Did.TheVariants.{Done, NotNeeded}
+use Rattle.bw_steps.specs.declared.steps.Did.{Did}
+use Rattle.bw_steps.specs.declared.steps.Did.TheVariants.{Done, NotNeeded}
 use Rattle.bw_shape.proofs.SweepLemmas.{chain_plain, free_within, still_plain}
-use Rattle.bw_shape.proofs.TakenLemmas.{cases_free}
+use Rattle.bw_steps.proofs.TakenLemmas.{cases_free}
 
 -- what the tree holds
 pub holds_itself : (tree : TreeView) → tree.staged ≡ None → HoldsAll tree tree

@@ -6,7 +6,7 @@ use Rattle.bw_chain.specs.Reading.{writes_over}
 use Rattle.bw_chain.specs.Scans.{high_of}
 use Rattle.bw_chain.specs.Slots.{Slot, Free, side_of_slot, slot_at}
 use Rattle.bw_tree.specs.View.{TreeView, contents_at}
-use Rattle.bw_shape.specs.Releasing.{FreesUnreached, HasNoneToFree}
+use Rattle.bw_steps.specs.Releasing.{FreesUnreached, HasNoneToFree}
 
 -- a page begins and ends where it did, and has the same right neighbour
 pub record HasSameBounds (old new : Slot) : Type 0 where

@@ -3,6 +3,10 @@ use Rattle.std.specs.Prelude.{◌≡◌, ℕ, ◌≤◌, ◌⊎◌, List, [], Op
 use Rattle.std.specs.List.{Contains, concat}
 use Rattle.bw_chain.specs.Levels.{row}
 use Rattle.bw_tree.specs.View.{TreeView, contents_at}
+use Rattle.bw_tree.specs.Children.{HasNoUnnamed}
+use Rattle.bw_steps.specs.Naming.{AreFinished}
+use Rattle.bw_steps.specs.Steps.{IsRootStep}
+use Rattle.bw_steps.specs.declared.steps.Did.{Did}
 use Rattle.bw_shape.specs.Limits.{LimitsView, AreWithinBut}
 
 -- The pages that are to be looked at, the next one last; the inner pages to look at behind those, the first one first;
@@ -42,3 +46,10 @@ HasNoneDue due = HasNoPage due × (due.unfinished ≡ None)
 abbrev pub AreAllPages : TreeView → DueView → Type 0
 AreAllPages tree due =
     due ≡ record { pages = reverse (row tree.levels 0); above = concat (drop 1 tree.levels); unfinished = None }
+
+-- The splits of p are finished: its right neighbours have their index entries on a page that is due, or none of them lacked
+-- one, and a root that was split has a root above it.
+abbrev pub HasFinished : TreeView → TreeView → List ℕ → ℕ → Type 0
+HasFinished old new due p =
+    ((parent : ℕ) × AreFinished old new p parent × Contains due parent)
+    ⊎ (HasNoUnnamed old p × ((did : Did) × IsRootStep old new did))

@@ -3,12 +3,13 @@ use Rattle.std.specs.Prelude.{◌≡◌, ℕ, Bool, true, false, ◌+◌, ◌*�
 use Rattle.std.specs.List.{Contains}
 use Rattle.bw_chain.specs.Levels.{row}
 use Rattle.bw_chain.specs.Reading.{pairs_under, writes_over}
-use Rattle.bw_chain.specs.Slots.{Slot, Free, Gone, Live, slot_at}
+use Rattle.bw_chain.specs.Slots.{Slot, slot_at}
 use Rattle.bw_chain.specs.Splits.{slot_entries}
 use Rattle.bw_tree.specs.Routing.{IsInLevel}
 use Rattle.bw_tree.specs.Shapes.{pairs_on}
 use Rattle.bw_tree.specs.Splits.{IsSplit, IsSplittable}
 use Rattle.bw_tree.specs.View.{TreeView}
+use Rattle.bw_steps.specs.Releasing.{taken_count}
 use Rattle.bw_shape.specs.Limits.{LimitsView, AreWithinBut}
 use Rattle.bw_shape.specs.Sweeps.{HoldsSame}
 use Rattle.bw_shape.specs.Tidying.{DueView}
@@ -51,16 +52,6 @@ KeepsWithinAt limits old new = (due : List ℕ) → AreWithinBut limits old due 
 abbrev pub HasAbsorbed : TreeView → TreeView → DueView → DueView → Bool → Type 0
 HasAbsorbed old new due due' true = (length due'.pages < length due.pages) × (due'.unfinished ≡ None)
 HasAbsorbed old new due due' false = (new ≡ old) × (due'.pages ≡ due.pages)
-
--- how many identifiers aren't free
-abbrev pub one_if_taken : Slot → ℕ
-one_if_taken Free = 0
-one_if_taken (Gone l) = 1
-one_if_taken (Live s) = 1
-
-abbrev pub taken_count : List Slot → ℕ
-taken_count [] = 0
-taken_count (slot ∷ slots) = one_if_taken slot + taken_count slots
 
 -- what is left to do among the halves of a page: a split takes an identifier, and is worth three pages that are looked at
 abbrev pub work_left : TreeView → DueView → ℕ

@@ -15,11 +15,10 @@ ghost use Rattle.bw_shape.specs.Visits.{AreFewTogether, HasAbsorbed, HasRoomOn, 
 use crate::due::Due;
 use crate::halving::{bare, part_all};
 use crate::limits::Limits;
-use crate::merges::{absorb, are_under_one};
 use crate::outcome::Tidy;
-use crate::steps::{Did, consolidate};
 use bw_key::Memory;
 use bw_page::{Page, PageId};
+use bw_steps::{Did, absorb, are_under_one, consolidate};
 use bw_tree::Tree;
 
 /// Merges the next page, which has too few entries, into its left neighbour, where one page above names both, and the two have

@@ -2,24 +2,20 @@
 ghost use Rattle.std.specs.Prelude.{◌≡◌, ℕ, ◌+◌, ◌<◌, ◌≤◌, ◌^◌, true, false, [], ◌∷◌, ◌++◌, None, Some, length, reverse, slice_index, MatchOption, IfOk, OnOk, OnErr};
 ghost use Rattle.std.specs.List.{Contains};
 ghost use Rattle.bw_tree.specs.Splits.{IsSplittable};
-ghost use Rattle.bw_shape.specs.Naming.{HasFinished};
-ghost use Rattle.bw_shape.specs.Releasing.{AreFreed, IsLeftOut, IsLeftToFree};
-ghost use Rattle.bw_shape.specs.Tidying.{HasBoth, HasNoPage, HoldsAll, KeepsWithin};
+ghost use Rattle.bw_steps.specs.Releasing.{AreFreed, IsLeftOut, IsLeftToFree};
+ghost use Rattle.bw_shape.specs.Tidying.{HasBoth, HasFinished, HasNoPage, HoldsAll, KeepsWithin};
 ghost use Rattle.bw_shape.specs.Visits.{IsNext, IsNextBefore, IsSplitNext};
 
-use crate::merges::finish_absorb;
 use crate::page_lists::{first_below, least_level, mark, pages_on, pages_over, sort_by_low_key};
-use crate::release_runs::release_run;
-use crate::right_neighbours::name_rights;
-use crate::steps::grow_root;
 use bw_key::Memory;
 use bw_memory::Alloc;
 use bw_page::PageId;
+use bw_steps::{finish_absorb, grow_root, name_rights, release_run};
 use bw_tree::Tree;
 use std::marker::Model;
 
 /// The pages that are due: those that a batch has written, and those that tidying didn't come to.
-#[derive(Debug, Drop)]
+#[derive(Drop)]
 pub struct Due {
     // the next one last, so that what a split adds is looked at next
     pages: Vec<PageId, Alloc>,

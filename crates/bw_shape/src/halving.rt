@@ -10,10 +10,10 @@ ghost use Rattle.bw_shape.specs.Visits.{HasPassed, IsBare, IsHalved, IsNext, IsP
 use crate::due::Due;
 use crate::limits::Limits;
 use crate::outcome::Tidy;
-use crate::steps::{lose_chain, may_part};
 use crate::visits::is_over;
 use bw_key::Memory;
 use bw_page::PageId;
+use bw_steps::{lose_chain, may_part};
 use bw_tree::Tree;
 
 /// Splits the next page, which has no record, into halves until none has too many entries, and finishes the splits. The

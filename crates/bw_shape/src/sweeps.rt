@@ -6,10 +6,9 @@ ghost use Rattle.bw_shape.specs.Sweeps.{ArePlainBelow, HoldsButFreed, HoldsSame,
 
 use crate::due::Due;
 use crate::page_lists::recorded_pages;
-use crate::release_runs::release_all;
-use crate::steps::consolidate;
 use bw_key::Memory;
 use bw_page::PageId;
+use bw_steps::{consolidate, release_all};
 use bw_tree::Tree;
 
 /// Starts records and stamps over: every chain is consolidated, there is no record any more, and the next stamp is 0. What

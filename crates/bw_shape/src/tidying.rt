@@ -5,11 +5,10 @@ ghost use Rattle.bw_shape.specs.Tidying.{HasNoneDue, HoldsAll, KeepsWithin};
 
 use crate::due::Due;
 use crate::limits::Limits;
-use crate::merges::drop_root;
 use crate::outcome::Tidy;
-use crate::steps::Did;
 use crate::visits::visit;
 use bw_key::Memory;
+use bw_steps::{Did, drop_root};
 use bw_tree::Tree;
 
 /// Looks at the pages that are due: a leaf with more writes than `chain_max`, or with more pairs under them than

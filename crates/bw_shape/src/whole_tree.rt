@@ -7,14 +7,12 @@ ghost use Rattle.bw_shape.specs.Tidying.{AreAllPages, HoldsAll};
 
 use crate::due::Due;
 use crate::limits::Limits;
-use crate::merges::finish_absorb;
 use crate::outcome::Tidy;
 use crate::page_lists::{inner_pages, leaf_pages};
-use crate::release_runs::release_run;
-use crate::steps::{finish_split, grow_root};
 use crate::tidying::tidy_due;
 use bw_key::Memory;
 use bw_page::PageId;
+use bw_steps::{finish_absorb, finish_split, grow_root, release_run};
 use bw_tree::Tree;
 
 /// Looks at all pages, as `tidy_due` does at those that are due. Before that each merge is finished, a root that was split

@@ -12,7 +12,7 @@ use bw_batch::{Key, KeyFault, Memory, Value, ValueFault};
 use bw_memory::Alloc;
 
 /// Why words have no meaning: they are faulty, or memory ran out.
-#[derive(Clone, Copy, Debug)]
+#[derive(Clone, Copy)]
 pub(crate) enum Misread {
     Faulty(Cause),
     Memory,

@@ -11,7 +11,7 @@ use bw_batch::{Key, Memory, Op, Value};
 use bw_memory::Alloc;
 
 /// What a line stands for.
-#[derive(Debug, Drop)]
+#[derive(Drop)]
 pub(crate) enum Meaning {
     /// A blank line or a comment.
     Nothing,
@@ -26,7 +26,7 @@ pub(crate) enum Meaning {
 }
 
 /// The first word of a line.
-#[derive(Clone, Copy, Debug)]
+#[derive(Clone, Copy)]
 pub(crate) enum Keyword {
     Get,
     Insert,

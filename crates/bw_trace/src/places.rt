@@ -1,7 +1,7 @@
 // Where a line stands in its trace.
 
 /// The version of a trace, which says how its values are spelled.
-#[derive(Clone, Copy, Debug)]
+#[derive(Clone, Copy)]
 pub(crate) enum Version {
     /// A value is a whole number.
     First,
@@ -10,7 +10,7 @@ pub(crate) enum Version {
 }
 
 /// A place in a trace: behind so many lines, and of a version.
-#[derive(Clone, Copy, Debug)]
+#[derive(Clone, Copy)]
 pub(crate) struct Place {
     pub lines: u64,
     pub version: Version,

@@ -18,7 +18,7 @@ use Rattle.bw_delta.specs.Writes.{WriteView}
 use Rattle.bw_delta.proofs.Histories.{quiet}
 use Rattle.bw_delta.proofs.Maps.{find_in_range}
 use Rattle.bw_chain.specs.Chains.{Bases, Records, slot_of_word, slots_of}
-use Rattle.bw_chain.specs.Slots.{Slot, PageState, Body, Pairs, Children, Free, Gone, Live, IsSoundBody, children_of, level_of, side_of, side_of_slot, slot_at}
+use Rattle.bw_chain.specs.Slots.{Slot, PageState, Body, Pairs, Children, Free, Gone, Live, IsSoundBody, children_of, level_of, side_of_slot, slot_at}
 use Rattle.bw_chain.specs.Before.{low_of}
 use Rattle.bw_chain.specs.Entries.{AreExact}
 use Rattle.bw_chain.specs.Levels.{AreLevels, IsHome, row, levels_under}
@@ -34,7 +34,8 @@ use Rattle.bw_chain.proofs.ReadingLemmas.{slot_of_head}
 use Rattle.bw_chain.proofs.RouteLemmas.{held}
 use Rattle.bw_chain.proofs.RowLemmas.{InRow}
 use Rattle.bw_chain.proofs.StepLemmas.{contents_kept}
-use Rattle.bw_tree.specs.Consolidation.{IsConsolidated, consolidated_leaf}
+use Rattle.bw_tree.specs.Consolidation.{IsConsolidated}
+use Rattle.bw_tree.specs.Pages.{leaf_as_of}
 use Rattle.bw_tree.specs.Making.{leaf_slot}
 use Rattle.bw_tree.specs.Trees.{IsStanding, IsTree, StageWords, view_of}
 use Rattle.bw_tree.specs.View.{StageView, TreeView, contents_at}
@@ -110,7 +111,7 @@ module _ (heads : List ℕ) (bases : Bases) (records : Records) (root next : ℕ
   old = view_of heads bases records root next None
 
   abbrev leaf : LeafView ValueBytes
-  leaf = consolidated_leaf old p (side_of old.slots p)
+  leaf = leaf_as_of old p old.next
 
   at : InRow old.slots 0 (row old.levels 0) has.0 p
   at = leaf_in_row old.slots root old.levels t.lawful p has
@@ -159,7 +160,7 @@ module _ (heads : List ℕ) (bases : Bases) (records : Records) (root next : ℕ
   here_alike = record {
     state = record { low = leaf.low; high = leaf.high; side = leaf.side; body = Pairs leaf.pairs [] };
     is = page_new;
-    sound = λ h. record { page = consolidated_rules old root t.lawful p (side_of old.slots p) has refl; inside = tt };
+    sound = λ h. record { page = consolidated_rules old root t.lawful p has; inside = tt };
     level = sym at.stands.at_level;
     children = sym (no_children at.stands.state.low at.stands.state.high at.stands.state.side at.stands.state.body at.stands.sound at.stands.at_level);
     low = ap low_of at.stands.is;
@@ -274,7 +275,7 @@ module _ (heads : List ℕ) (bases : Bases) (records : Records) (root next : ℕ
   under = base_under records (slice_index heads p)
 
   abbrev made : LeafView ValueBytes
-  made = consolidated_leaf view p (side_of view.slots p)
+  made = leaf_as_of view p view.next
 
   made_here : IsTree heads bases records root next None → view ≡ tree → Contains (row tree.levels 0) p → IsMade (set heads p under) (set bases under (Some (LeafPage made))) records
   made_here t is has =
@@ -283,17 +284,17 @@ module _ (heads : List ℕ) (bases : Bases) (records : Records) (root next : ℕ
         subst (λ (v : TreeView). IsConsolidated v (view_of (set heads p under) (set bases under (Some (LeafPage made))) records root next None) p) is (consolidated_new heads bases records root next t.now p has_here),
       )
 
-  made_on : (leaf : LeafView ValueBytes) → IsTree heads bases records root next None → view ≡ tree → Contains (row tree.levels 0) p → leaf ≡ consolidated_leaf tree p (side_of tree.slots p) →
+  made_on : (leaf : LeafView ValueBytes) → IsTree heads bases records root next None → view ≡ tree → Contains (row tree.levels 0) p → leaf ≡ leaf_as_of tree p tree.next →
       (heads' : List ℕ) (bases' : Bases) (records' : Records) (base : ℕ) → base ≡ under → heads' ≡ set heads p base → bases' ≡ set bases base (Some (LeafPage leaf)) → records' ≡ records → IsMade heads' bases' records'
   made_on leaf t is has folded heads' bases' records' base based placed put same =
-      let is_made : leaf ≡ made = subst (λ (v : TreeView). leaf ≡ consolidated_leaf v p (side_of v.slots p)) (sym is) folded in
+      let is_made : leaf ≡ made = subst (λ (v : TreeView). leaf ≡ leaf_as_of v p v.next) (sym is) folded in
       put_on IsMade heads bases records p under (LeafPage leaf)
       (subst (λ (l : LeafView ValueBytes). IsMade (set heads p under) (set bases under (Some (LeafPage l))) records) (sym is_made) (made_here t is has))
       heads' bases' records' base based placed put same
 
 -- so is a tree that was given the consolidated leaf in the place of the base page
 pub consolidated_on : (heads : List ℕ) (bases : Bases) (records : Records) (root next : ℕ) (staged : Option StageWords) (tree : TreeView) (p : ℕ) (leaf : LeafView ValueBytes) → IsTree heads bases records root next staged → view_of heads bases records root next staged ≡ tree → tree.staged ≡ None → Contains (row tree.levels 0) p →
-    leaf ≡ consolidated_leaf tree p (side_of tree.slots p) → (heads' : List ℕ) (bases' : Bases) (records' : Records) (base : ℕ) → base ≡ base_under records (slice_index heads p) → heads' ≡ set heads p base → bases' ≡ set bases base (Some (LeafPage leaf)) → records' ≡ records →
+    leaf ≡ leaf_as_of tree p tree.next → (heads' : List ℕ) (bases' : Bases) (records' : Records) (base : ℕ) → base ≡ base_under records (slice_index heads p) → heads' ≡ set heads p base → bases' ≡ set bases base (Some (LeafPage leaf)) → records' ≡ records →
     IsTree heads' bases' records' root next staged × IsConsolidated tree (view_of heads' bases' records' root next staged) p
 consolidated_on heads bases records root next None tree p leaf t is none has folded = made_on heads bases records root next tree p leaf t is has folded
 consolidated_on heads bases records root next (Some stage) tree p leaf t is none has folded = absurd (unstaged (ap (λ (v : TreeView). v.staged) is ∙ none))

@@ -17,7 +17,7 @@ use Rattle.bw_chain.specs.Levels.{AreLevels, Stands, SideBySide, row}
 use Rattle.bw_chain.specs.Before.{low_of}
 use Rattle.bw_chain.specs.Scans.{ArePairsOn, high_of}
 use Rattle.bw_tree.specs.Making.{HasRules}
-use Rattle.bw_tree.specs.Consolidation.{consolidated_leaf}
+use Rattle.bw_tree.specs.Pages.{leaf_as_of}
 use Rattle.bw_tree.specs.View.{TreeView, contents_at}
 use Rattle.bw_chain.specs.Reading.{row_writes}
 use Rattle.bw_chain.proofs.RowLemmas.{first_stands}
@@ -45,9 +45,9 @@ leaf_is leaf made low high side pairs =
     ∙ ap (λ (o : Option ℕ). record { low = made.low; high = made.high; side = o; pairs = leaf.pairs }) side
     ∙ ap (λ (es : List (KeyBytes × ValueBytes)). record { low = made.low; high = made.high; side = made.side; pairs = es }) pairs
 
-pub is_consolidated_leaf : (tree : TreeView) (p : ℕ) (side : Option ℕ) (leaf : LeafView ValueBytes) (low : KeyBytes) (high : Option KeyBytes) (pairs : List (KeyBytes × ValueBytes)) → AreParts tree p low high pairs → leaf.low ≡ low → leaf.high ≡ high → leaf.side ≡ side → leaf.pairs ≡ pairs →
-    leaf ≡ consolidated_leaf tree p side
-is_consolidated_leaf tree p side leaf low high pairs parts lows highs sides all = leaf_is leaf (consolidated_leaf tree p side) (lows ∙ parts.from_low) (highs ∙ parts.to_high) sides (all ∙ parts.all)
+pub is_leaf_as_of : (tree : TreeView) (p : ℕ) (leaf : LeafView ValueBytes) (low : KeyBytes) (high : Option KeyBytes) (pairs : List (KeyBytes × ValueBytes)) → AreParts tree p low high pairs → leaf.low ≡ low → leaf.high ≡ high → leaf.side ≡ side_of tree.slots p → leaf.pairs ≡ pairs →
+    leaf ≡ leaf_as_of tree p tree.next
+is_leaf_as_of tree p leaf low high pairs parts lows highs sides all = leaf_is leaf (leaf_as_of tree p tree.next) (lows ∙ parts.from_low) (highs ∙ parts.to_high) sides (all ∙ parts.all)
 
 linked_of : (low : KeyBytes) (high : Option KeyBytes) (side : Option ℕ) (b : Body) → IsSoundBody low high side b → is_some side ≡ is_some high
 linked_of low high side (Pairs pairs writes) sound = sound.page.linked
@@ -64,8 +64,8 @@ all_inside low high (e ∷ es) = by (is_in_range low high e.0) refl (all_inside 
 
 module _ (tree : TreeView) (root : ℕ) (lawful : AreLevels tree.slots root tree.levels) where
   -- a leaf with what the tree holds in its range is a leaf
-  pub consolidated_rules : (p : ℕ) (side : Option ℕ) → Contains (row tree.levels 0) p → is_some side ≡ is_some (side_of tree.slots p) → HasRules (consolidated_leaf tree p side)
-  consolidated_rules p side has linked =
+  pub consolidated_rules : (p : ℕ) → Contains (row tree.levels 0) p → HasRules (leaf_as_of tree p tree.next)
+  consolidated_rules p has =
       let st = (leaf_in_row tree.slots root tree.levels lawful p has).stands in
       let slot = slot_at tree.slots p in
       record {
@@ -73,7 +73,7 @@ module _ (tree : TreeView) (root : ℕ) (lawful : AreLevels tree.slots root tree
         inside = all_inside (low_of slot) (high_of slot) (entries (contents_at tree tree.next));
         wide = subst (λ (o : Slot). T (is_below_end (high_of o) (low_of o))) (sym st.is) (wide_of st.state.low st.state.high st.state.side st.state.body st.sound);
         linked =
-            linked ∙ ap (λ (o : Slot). is_some (side_of_slot o)) st.is ∙ linked_of st.state.low st.state.high st.state.side st.state.body st.sound
+            ap (λ (o : Slot). is_some (side_of_slot o)) st.is ∙ linked_of st.state.low st.state.high st.state.side st.state.body st.sound
             ∙ sym (ap (λ (o : Slot). is_some (high_of o)) st.is);
       }
 
@@ -99,10 +99,10 @@ module _ (tree : TreeView) (root : ℕ) (lawful : AreLevels tree.slots root tree
     all = pairs_here p stamp from to pairs distinct has now from_low to_high so;
   }
 
-  pub parts_rules : (p : ℕ) (side : Option ℕ) (low : KeyBytes) (high : Option KeyBytes) (pairs : List (KeyBytes × ValueBytes)) → Contains (row tree.levels 0) p → is_some side ≡ is_some (side_of tree.slots p) → AreParts tree p low high pairs → IsPage low high side pairs
-  parts_rules p side low high pairs has linked parts =
+  pub parts_rules : (p : ℕ) (side : Option ℕ) (low : KeyBytes) (high : Option KeyBytes) (pairs : List (KeyBytes × ValueBytes)) → Contains (row tree.levels 0) p → side ≡ side_of tree.slots p → AreParts tree p low high pairs → IsPage low high side pairs
+  parts_rules p side low high pairs has sides parts =
       let leaf : LeafView ValueBytes = record { low = low; high = high; side = side; pairs = pairs } in
-      subst HasRules (sym (is_consolidated_leaf tree p side leaf low high pairs parts refl refl refl refl)) (consolidated_rules p side has linked)
+      subst HasRules (sym (is_leaf_as_of tree p leaf low high pairs parts refl refl sides refl)) (consolidated_rules p has)
 
   -- the home of the least key is the first page of its level
   pub first_home : (level : ℕ) (ps : List ℕ) (p : ℕ) → SideBySide tree.slots level [] ps → HasKey tree.slots ps [] p → (0 < length ps) × (get_or ps 0 p ≡ p)

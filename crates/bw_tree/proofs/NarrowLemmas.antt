@@ -23,7 +23,8 @@ use Rattle.bw_chain.specs.Splits.{IsNarrowed}
 use Rattle.bw_chain.specs.Supports.{base_under}
 use Rattle.bw_chain.proofs.LeafRowLemmas.{page_outside}
 use Rattle.bw_chain.proofs.RowLemmas.{InRow, in_row}
-use Rattle.bw_tree.specs.Consolidation.{IsConsolidated, IsRebased, consolidated_leaf}
+use Rattle.bw_tree.specs.Consolidation.{IsConsolidated, IsRebased}
+use Rattle.bw_tree.specs.Pages.{leaf_as_of}
 use Rattle.bw_tree.specs.Making.{leaf_slot}
 use Rattle.bw_tree.specs.Trees.{IsStanding, IsTree, StageWords, view_of}
 use Rattle.bw_tree.specs.View.{TreeView, contents_at}
@@ -101,7 +102,7 @@ module _ (old new : TreeView) (p : ℕ) (rebased : IsRebased old new p) (has : C
     values = values;
   })
 
-  leaf_is : slot ≡ leaf_slot (consolidated_leaf old p (side_of old.slots p))
+  leaf_is : slot ≡ leaf_slot (leaf_as_of old p old.next)
   leaf_is =
       let s = at.stands.state in
       at.stands.is

@@ -1,25 +1,14 @@
 -- Consolidation: what one chain makes of its base page takes the place of that page.
-use Rattle.std.specs.Prelude.{◌≡◌, ℕ, ◌<◌, ◌^◌, Option, None, slice_index, slice_set}
-use Rattle.bw_model.specs.Contents.{pairs_of_range}
-use Rattle.bw_model.specs.Values.{ValueBytes}
-use Rattle.bw_page.specs.Leaves.{LeafView}
-use Rattle.bw_chain.specs.Before.{low_of}
-use Rattle.bw_chain.specs.Scans.{high_of}
-use Rattle.bw_chain.specs.Slots.{slot_at, side_of}
+use Rattle.std.specs.Prelude.{◌≡◌, ℕ, ◌<◌, ◌^◌, None, slice_index, slice_set}
+use Rattle.bw_chain.specs.Slots.{slot_at}
 use Rattle.bw_tree.specs.Making.{leaf_slot}
+use Rattle.bw_tree.specs.Pages.{leaf_as_of}
 use Rattle.bw_tree.specs.View.{TreeView, contents_at}
-
--- the range of a page, with all that the tree holds there as of its next stamp, and a right neighbour
-abbrev pub consolidated_leaf : TreeView → ℕ → Option ℕ → LeafView ValueBytes
-consolidated_leaf tree p side =
-    let page = slot_at tree.slots p in
-    let pairs = pairs_of_range (contents_at tree tree.next) (low_of page) (high_of page) in
-    record { low = low_of page; high = high_of page; side = side; pairs = pairs }
 
 -- The leaf is a base page with all that the tree held in the leaf's range as of its next stamp, and no write over it. All
 -- other pages are as before, and so is what the tree holds.
 pub record IsConsolidated (old new : TreeView) (p : ℕ) : Type 0 where
-  pub page : slot_at new.slots p ≡ leaf_slot (consolidated_leaf old p (side_of old.slots p))
+  pub page : slot_at new.slots p ≡ leaf_slot (leaf_as_of old p old.next)
   pub others : (q : ℕ) → (q ≡ p → ⊥) → slot_at new.slots q ≡ slot_at old.slots q
   pub contents : contents_at new new.next ≡ contents_at old old.next
   pub plain : slice_index new.heads p < 2 ^ 32

@@ -13,7 +13,7 @@ use std::collections::BinaryHeap;
 
 /// Identifiers that were given back, the least one first. Each is looked at again before a page takes it: it may have been
 /// taken already.
-#[derive(Debug, Drop)]
+#[derive(Drop)]
 pub(crate) struct Freed {
     heap: BinaryHeap<Reverse<u32>, Alloc>,
 }

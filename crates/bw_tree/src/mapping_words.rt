@@ -10,7 +10,7 @@ use bw_page::PageId;
 use std::mem;
 
 /// The mapping words that stood before a batch was adopted.
-#[derive(Debug, Drop)]
+#[derive(Drop)]
 pub(crate) enum WordsBefore {
     /// Of all pages.
     OfAll(Vec<u64, Alloc>),

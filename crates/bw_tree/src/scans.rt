@@ -87,14 +87,14 @@ impl<'a> ReadLeaf<'a> {
 }
 
 /// The order in which a scan reads.
-#[derive(Clone, Copy, Debug)]
+#[derive(Clone, Copy)]
 enum Order {
     Rising,
     Falling,
 }
 
 /// How a scan reads: in this order, until there are so many pairs, as of a stamp.
-#[derive(Clone, Copy, Debug)]
+#[derive(Clone, Copy)]
 pub(crate) struct Scan {
     order: Order,
     most: u64,

@@ -14,7 +14,7 @@ pub struct Staged {
 }
 
 /// What a tree keeps of a staged batch.
-#[derive(Debug, Drop)]
+#[derive(Drop)]
 pub(crate) struct Stage {
     /// How many records there were before it.
     pub(crate) records: usize,

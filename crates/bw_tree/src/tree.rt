@@ -40,7 +40,6 @@ pub use shape::PageShape;
 ///
 /// The mapping table is a list of words, one for each identifier. A word below 2^32 names a base page, and one from
 /// there on the newest record of the page's chain.
-#[derive(Debug)]
 pub struct Tree {
     heads: Vec<u64, Alloc>,
     chains: Chains,

@@ -5,6 +5,7 @@ ghost use Rattle.bw_board.specs.Working.{HasPostedAll, HasLeft, SameWork};
 
 use super::storms::merged;
 use super::{FLOOR, counted};
+use crate::tests::assertions::{assert_equal, assert_that};
 use bw_board::{Board, Seat};
 use bw_memory::Alloc;
 use std::alloc::AllocError;
@@ -101,10 +102,11 @@ fn sixty_four_seats_post_to_one_page(rt: HostRuntime) {
     let (board, seat) = Board::open(alloc, &[7], FLOOR, 128, 1, &[]).expect(&rt, "memory");
     let seat = post_by_parts(&rt, &board, seat, 1, 6);
     let mut seat = post_rest(&rt, &board, seat, 1, 64);
-    assert!(rt; chain_length(&rt, &board, &mut seat, 0) == 128);
+    assert_equal(&rt, chain_length(&rt, &board, &mut seat, 0), 128);
     let closed = board.close(seat).expect(&rt, "memory");
-    assert!(rt; closed.heads() == [FLOOR + 127].as_slice());
-    assert!(rt; closed.links().len() == 128 && closed.swapped().is_empty());
+    assert_that(&rt, closed.heads() == [FLOOR + 127].as_slice());
+    assert_equal(&rt, closed.links().len(), 128);
+    assert_that(&rt, closed.swapped().is_empty());
 }
 
 #[test]
@@ -114,11 +116,12 @@ fn a_million_records_are_posted(rt: HostRuntime) {
     let (board, seat) = Board::open(alloc, &[7], FLOOR, records, 4096, &[]).expect(&rt, "memory");
     let used = alloc.used();
     let mut seat = post_rest(&rt, &board, seat, 1, records.div_ceil(4096));
-    assert!(rt; alloc.used() == used);
-    assert!(rt; chain_length(&rt, &board, &mut seat, 0) == 1_000_000);
+    assert_equal(&rt, alloc.used(), used);
+    assert_equal(&rt, chain_length(&rt, &board, &mut seat, 0), 1_000_000);
     let closed = board.close(seat).expect(&rt, "memory");
-    assert!(rt; closed.heads() == [FLOOR + records - 1].as_slice());
-    assert!(rt; closed.links().len() == 1_000_000 && closed.swapped().is_empty());
+    assert_that(&rt, closed.heads() == [FLOOR + records - 1].as_slice());
+    assert_equal(&rt, closed.links().len(), 1_000_000);
+    assert_that(&rt, closed.swapped().is_empty());
 }
 
 fn same_words(alloc: Alloc, pages: usize) -> Result<Vec<u64, Alloc>, AllocError>
@@ -136,11 +139,13 @@ fn post_to_many(rt: &impl Abort, alloc: Alloc, pages: usize)
     let records = 200_000;
     let (board, seat) = Board::open(alloc, &heads, FLOOR, records, 4096, &[]).expect(rt, "memory");
     let mut seat = post_rest(rt, &board, seat, pages as u64, records.div_ceil(4096));
-    assert!(rt; chain_length(rt, &board, &mut seat, pages as u64 - 1) == 2);
+    let last = chain_length(rt, &board, &mut seat, pages as u64 - 1);
+    assert_equal(rt, last, 2);
     let closed = board.close(seat).expect(rt, "memory");
-    assert!(rt; closed.heads().len() == pages && closed.links().len() == 200_000);
-    assert!(rt; closed.heads().last() == Some(&(FLOOR + records - 1)));
-    assert!(rt; closed.swapped().is_empty());
+    assert_equal(rt, closed.heads().len(), pages);
+    assert_equal(rt, closed.links().len(), 200_000);
+    assert_equal(rt, closed.heads().last(), Some(&(FLOOR + records - 1)));
+    assert_that(rt, closed.swapped().is_empty());
 }
 
 #[test]

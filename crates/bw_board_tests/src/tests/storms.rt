@@ -5,6 +5,7 @@ ghost use Rattle.bw_core.specs.Events.{post};
 ghost use Rattle.bw_board.specs.Working.{HasPostedAll, HasLeft, SameWork};
 
 use super::{FLOOR, counted};
+use crate::tests::assertions::{assert_equal, assert_that};
 use bw_board::{Board, Closed, Replaced, Seat};
 use bw_memory::Alloc;
 use std::hint::spin_loop;
@@ -354,7 +355,7 @@ fn check_diary(rt: &impl Abort, diary: &Diary, page: u64, chain: &[u64], more: u
     let mut before: &[u64] = &[];
     for peek in diary.peeks.iter().filter(|peek| peek.page == page) {
         let seen = peek.chain.as_slice();
-        assert!(rt; chain.ends_with(seen) && seen.ends_with(before));
+        assert_that(rt, chain.ends_with(seen) && seen.ends_with(before));
         before = seen;
         for noted in diary
             .posts
@@ -362,13 +363,13 @@ fn check_diary(rt: &impl Abort, diary: &Diary, page: u64, chain: &[u64], more: u
             .take(peek.posts)
             .filter(|noted| noted.page == page)
         {
-            assert!(rt; seen.contains(&noted.rec));
+            assert_that(rt, seen.contains(&noted.rec));
         }
     }
     for noted in diary.posts.iter().filter(|noted| noted.page == page) {
         let beneath = chain.iter().rev().position(|rec| *rec == noted.rec);
         let beneath = beneath.expect(rt, "a posted record") as u64;
-        assert!(rt; noted.lost <= beneath.saturating_add(more));
+        assert_that(rt, noted.lost <= beneath.saturating_add(more));
     }
 }
 
@@ -377,7 +378,7 @@ fn check_closed(rt: &impl Abort, alloc: Alloc, closed: &Closed, diaries: &[Diary
     let mut all = Vec::new(alloc);
     for (page, expected) in lasts.iter().enumerate() {
         let (chain, last) = chain_of(rt, alloc, closed, page as u64);
-        assert_eq!(rt; last, *expected);
+        assert_equal(rt, last, *expected);
         let more = u64::from(closed.swapped().contains(&(page as u64)));
         for diary in diaries {
             check_diary(rt, diary, page as u64, chain.as_slice(), more);
@@ -385,7 +386,7 @@ fn check_closed(rt: &impl Abort, alloc: Alloc, closed: &Closed, diaries: &[Diary
         all.extend_from_slice(chain.as_slice()).expect(rt, "memory");
     }
     all.sort_unstable();
-    assert!(rt; all.iter().copied().eq(0..RECORDS));
+    assert_that(rt, all.iter().copied().eq(0..RECORDS));
 }
 
 // All exchanges that the threads lost.
@@ -401,10 +402,10 @@ fn two_threads_post_to_one_page(rt: HostRuntime) {
     let (board, seat) = Board::open(alloc, &[7], FLOOR, RECORDS, 1, &[]).expect(&rt, "memory");
     let (seat, one, two) = post_by_two(&rt, alloc, &Gate::new(2), &board, seat, 1);
     let closed = board.close(seat).expect(&rt, "memory");
-    assert!(rt; closed.swapped().is_empty());
+    assert_that(&rt, closed.swapped().is_empty());
     let diaries = [one, two];
     check_closed(&rt, alloc, &closed, &diaries, &[7]);
-    assert!(rt; lost_by(&diaries) <= RECORDS * (RECORDS - 1) / 2);
+    assert_that(&rt, lost_by(&diaries) <= RECORDS * (RECORDS - 1) / 2);
 }
 
 #[test]
@@ -416,9 +417,9 @@ fn four_threads_post_to_eight_pages(rt: HostRuntime) {
     );
     let (seat, diaries) = post_by_four(&rt, alloc, &Gate::new(4), &board, seat, 8);
     let closed = board.close(seat).expect(&rt, "memory");
-    assert!(rt; closed.swapped().is_empty());
+    assert_that(&rt, closed.swapped().is_empty());
     check_closed(&rt, alloc, &closed, &diaries, &heads);
-    assert!(rt; lost_by(&diaries) <= RECORDS * (RECORDS - 1) / 2);
+    assert_that(&rt, lost_by(&diaries) <= RECORDS * (RECORDS - 1) / 2);
 }
 
 #[test]
@@ -428,9 +429,9 @@ fn a_word_is_replaced_while_two_threads_post(rt: HostRuntime) {
     let (board, seat) = Board::open(alloc, &[7], FLOOR, RECORDS, 1, &spares).expect(&rt, "memory");
     let (seat, one, two, won) = post_beside(&rt, alloc, &Gate::new(3), &board, seat, &spares);
     let closed = board.close(seat).expect(&rt, "memory");
-    assert!(rt; closed.swapped() == won.as_slice());
+    assert_that(&rt, closed.swapped() == won.as_slice());
     let last = if won.is_empty() { 7 } else { 5 };
     let diaries = [one, two];
     check_closed(&rt, alloc, &closed, &diaries, &[last]);
-    assert!(rt; lost_by(&diaries) <= RECORDS * (RECORDS + 1) / 2);
+    assert_that(&rt, lost_by(&diaries) <= RECORDS * (RECORDS + 1) / 2);
 }

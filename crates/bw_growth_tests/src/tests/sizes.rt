@@ -3,7 +3,7 @@ use super::numbers::{held, is_was, run, upsert};
 use super::trees::{tree_of, working};
 use crate::tests::assertions::{assert_equal, assert_that};
 use bw_batch::{Done, Index, Op, OpenGate, Refusal, Reply};
-use bw_fixtures::heap;
+use bw_fixtures::{heap, key};
 use bw_memory::Alloc;
 use std::process::Abort;
 
@@ -45,6 +45,15 @@ fn batches_of_65536_writes_make_a_million_records_over_1024_leaves(rt: HostRunti
     // a sweep came before it.
     assert_that(&rt, index.tree().heads().len() > 1025);
     assert_equal(&rt, index.tree().next_stamp(), 65_536);
+}
+
+#[test]
+fn a_tree_over_100000_leaves_has_all_their_pairs(rt: HostRuntime) {
+    let alloc = heap(rt.alloc()).expect(&rt, "a heap");
+    let tree = tree_of(&rt, alloc, 100_000, 40_000);
+    let least = key(alloc, b"").expect(&rt, "a key");
+    let pairs = tree.scan_at(&least, None, u64::MAX, 0);
+    assert_equal(&rt, pairs.expect(&rt, "the pairs").len(), 100_000);
 }
 
 // How many batches there are, how many writes each has, and how many keys they go round.

@@ -2,23 +2,28 @@
 ghost use Rattle.std.specs.Prelude.{◌≡◌, ◌≤◌, length};
 
 use super::making::{Child, KEY, KEY_AND_VALUE, has, heap, list_of, push_all};
-use crate::tests::assertions::assert_that;
+use crate::tests::assertions::{assert_equal, assert_that};
 use bw_memory::Alloc;
 use bw_packed::Packed;
 use std::process::Abort;
 
 const ENTRIES: [&[u8]; 6] = [b"", KEY, KEY_AND_VALUE, b"", b"", b"a"];
 
+// How many bytes the entries at these places have.
+fn bytes_in<R: Abort>(rt: &R, list: &Packed<Child>, start: usize, end: usize) -> usize {
+    assert!(rt; start <= end && end <= list.len());
+    list.bytes_in(start..end)
+}
+
 #[test]
 fn entries_of_all_lengths_lie_side_by_side(rt: HostRuntime) {
     let alloc = heap(&rt, rt.alloc());
     let list = list_of(&rt, alloc, &ENTRIES);
-    assert!(rt; has(&list, &ENTRIES, 0));
-    assert!(rt; !list.is_empty());
-    assert!(rt; list.len() == 6);
-    assert_eq!(rt; list.bytes_in(0..6), 1153);
-    assert_eq!(rt; list.bytes_in(1..2), 64);
-    assert_eq!(rt; list.bytes_in(3..5), 0);
+    assert_that(&rt, has(&list, &ENTRIES, 0));
+    assert_that(&rt, !list.is_empty());
+    assert_equal(&rt, bytes_in(&rt, &list, 0, 6), 1153);
+    assert_equal(&rt, bytes_in(&rt, &list, 1, 2), 64);
+    assert_equal(&rt, bytes_in(&rt, &list, 3, 5), 0);
 }
 
 // Puts a list together from the entries before a run, a copy of the run, and the entries behind it.
@@ -67,19 +72,31 @@ fn a_list_is_cut_and_goes_on(rt: HostRuntime) {
     assert_that(&rt, list.is_empty());
 }
 
+// Compares how many of the entries at these places have a smaller key.
+fn is_behind<R: Abort>(
+    rt: &R,
+    list: &Packed<Child>,
+    range: (usize, usize),
+    key: &[u8],
+    place: usize,
+) {
+    let (start, end) = range;
+    assert!(rt; start <= end && end <= list.len());
+    assert_equal(rt, list.place(start..end, key), place);
+}
+
 #[test]
 fn a_place_is_behind_the_smaller_keys(rt: HostRuntime) {
     let alloc = heap(&rt, rt.alloc());
     let rising: [&[u8]; 5] = [b"", b"a", b"ab", b"b", KEY];
     let list = list_of(&rt, alloc, &rising);
-    assert!(rt; list.len() == 5);
     for (place, key) in rising.iter().enumerate() {
-        assert!(rt; list.place(0..5, key) == place);
+        is_behind(&rt, &list, (0, 5), key, place);
     }
-    assert!(rt; list.place(0..5, b"aa") == 2);
-    assert!(rt; list.place(0..5, b"l") == 5);
-    assert!(rt; list.place(1..4, b"aa") == 1);
-    assert!(rt; list.place(1..4, b"l") == 3);
-    assert!(rt; list.place(2..2, b"l") == 0);
-    assert!(rt; list_of(&rt, alloc, &[]).place(0..0, b"a") == 0);
+    is_behind(&rt, &list, (0, 5), b"aa", 2);
+    is_behind(&rt, &list, (0, 5), b"l", 5);
+    is_behind(&rt, &list, (1, 4), b"aa", 1);
+    is_behind(&rt, &list, (1, 4), b"l", 3);
+    is_behind(&rt, &list, (2, 2), b"l", 0);
+    is_behind(&rt, &list_of(&rt, alloc, &[]), (0, 0), b"a", 0);
 }

@@ -30,6 +30,18 @@ pub(super) fn heap<R: Abort>(rt: &R, global: Global) -> Alloc {
     Heap::new(global).leak(global).expect(rt, "a heap")
 }
 
+/// A heap that counts its growths.
+pub(super) fn counted<R: Abort>(rt: &R, global: Global) -> Alloc {
+    Heap::counted(global).leak(global).expect(rt, "a heap")
+}
+
+/// A heap with this limit.
+pub(super) fn within<R: Abort>(rt: &R, global: Global, limit: u64) -> Alloc {
+    Heap::within(global, limit)
+        .leak(global)
+        .expect(rt, "a heap")
+}
+
 /// Adds these entries to a list. Their tags count from `first` on.
 pub(super) fn push_all(
     list: &mut Packed<Child>,

@@ -1,10 +1,9 @@
 // The memory that a list takes and gives back, and each growth refused in turn.
-use super::making::{Child, has, heap, list_of};
+use super::making::{Child, counted, has, heap, list_of, within};
 use crate::tests::assertions::{assert_equal, assert_that};
-use bw_memory::{Alloc, Heap};
+use bw_memory::Alloc;
 use bw_packed::Packed;
 use std::process::Abort;
-use std::test::Fail;
 
 // A list that is full, since it has all that it has room for.
 fn full_list<R: Abort>(rt: &R, alloc: Alloc) -> Packed<Child> {
@@ -24,17 +23,21 @@ fn push_is_refused<R: Abort>(rt: &R, alloc: Alloc, growth: u64) {
     assert_that(rt, has(&list, &[b"ab", b"c"], 0));
 }
 
+// Whether a list takes over the second and the third entry of another one.
+fn takes_two(list: &mut Packed<Child>, other: &Packed<Child>) -> bool {
+    other.len() == 3 && list.extend(other, 1..3).is_ok()
+}
+
 // The same by a run of another list.
 fn extend_is_refused<R: Abort>(rt: &R, alloc: Alloc, growth: u64) {
-    let mut list = full_list(rt, alloc);
     let other = list_of(rt, alloc, &[b"ab", b"c", b"def"]);
-    assert!(rt; other.len() == 3);
+    let mut list = full_list(rt, alloc);
     alloc.refuse(growth);
-    assert!(rt; list.extend(&other, 1..3).is_err());
-    assert!(rt; alloc.left() == 0);
-    assert!(rt; has(&list, &[b"ab"], 0));
-    list.extend(&other, 1..3).expect(rt, "memory");
-    assert!(rt; has(&list, &[b"ab", b"c", b"def"], 0));
+    assert_that(rt, !takes_two(&mut list, &other));
+    assert_equal(rt, alloc.left(), 0);
+    assert_that(rt, has(&list, &[b"ab"], 0));
+    assert_that(rt, takes_two(&mut list, &other));
+    assert_that(rt, has(&list, &[b"ab", b"c", b"def"], 0));
 }
 
 fn room_is_refused(alloc: Alloc, growth: u64) -> bool {
@@ -43,15 +46,14 @@ fn room_is_refused(alloc: Alloc, growth: u64) -> bool {
 }
 
 #[test]
-fn each_growth_is_refused_in_turn(rt: HostRuntime) -> Result<(), Fail> {
-    let alloc = Heap::counted(rt.alloc()).leak(rt.alloc())?;
+fn each_growth_is_refused_in_turn(rt: HostRuntime) {
+    let alloc = counted(&rt, rt.alloc());
     for growth in 1..3 {
         assert_that(&rt, room_is_refused(alloc, growth));
         push_is_refused(&rt, alloc, growth);
         extend_is_refused(&rt, alloc, growth);
     }
     assert_that(&rt, !room_is_refused(alloc, 3));
-    Ok(())
 }
 
 // Fills a list that was made with room for all, in two growths.
@@ -67,11 +69,9 @@ fn fills_its_room<R: Abort>(rt: &R, alloc: Alloc, other: &Packed<Child>) {
 }
 
 #[test]
-fn a_list_with_room_takes_two_growths(rt: HostRuntime) -> Result<(), Fail> {
-    let alloc = Heap::counted(rt.alloc()).leak(rt.alloc())?;
+fn a_list_with_room_takes_two_growths(rt: HostRuntime) {
     let other = list_of(&rt, heap(&rt, rt.alloc()), &[b"c", b"def"]);
-    fills_its_room(&rt, alloc, &other);
-    Ok(())
+    fills_its_room(&rt, counted(&rt, rt.alloc()), &other);
 }
 
 // Makes a list with more room than it needs, and gives back what isn't used: an entry takes its bytes and 16 more, of
@@ -87,9 +87,8 @@ fn keeps_what_it_uses<R: Abort>(rt: &R, alloc: Alloc) {
 }
 
 #[test]
-fn what_is_dropped_gives_its_memory_back(rt: HostRuntime) -> Result<(), Fail> {
-    let alloc = Heap::within(rt.alloc(), 4096).leak(rt.alloc())?;
+fn what_is_dropped_gives_its_memory_back(rt: HostRuntime) {
+    let alloc = within(&rt, rt.alloc(), 4096);
     keeps_what_it_uses(&rt, alloc);
     assert_equal(&rt, alloc.used(), 0);
-    Ok(())
 }

@@ -1,10 +1,9 @@
 // Lists of pairs.
-use super::making::{KEY, heap};
+use super::making::{KEY, counted, heap, within};
 use crate::tests::assertions::{assert_equal, assert_that};
-use bw_memory::{Alloc, Heap};
+use bw_memory::Alloc;
 use bw_packed::{Pairs, Run};
 use std::process::Abort;
-use std::test::Fail;
 
 const KEYS: [&[u8]; 4] = [b"", b"a", b"ab", KEY];
 
@@ -32,48 +31,74 @@ fn are_all(pairs: &Pairs) -> bool {
     true
 }
 
+// The run of the pairs at these places.
+fn run_of<'a, R: Abort>(rt: &R, pairs: &'a Pairs, start: usize, end: usize) -> Run<'a> {
+    assert!(rt; start <= end && end <= pairs.len());
+    pairs.run(start..end)
+}
+
+// How many bytes the pairs at these places have.
+fn bytes_in<R: Abort>(rt: &R, pairs: &Pairs, start: usize, end: usize) -> usize {
+    assert!(rt; start <= end && end <= pairs.len());
+    pairs.bytes_in(start..end)
+}
+
 #[test]
 fn a_pair_is_a_key_and_a_value(rt: HostRuntime) {
     let pairs = all_pairs(&rt, heap(&rt, rt.alloc()));
-    assert!(rt; are_all(&pairs));
-    assert!(rt; !pairs.is_empty());
-    assert!(rt; pairs.len() == 4);
-    assert!(rt; pairs.bytes_in(0..4) == 1096);
-    assert!(rt; pairs.bytes_in(1..2) == 1);
+    assert_that(&rt, are_all(&pairs));
+    assert_that(&rt, !pairs.is_empty());
+    assert_equal(&rt, bytes_in(&rt, &pairs, 0, 4), 1096);
+    assert_equal(&rt, bytes_in(&rt, &pairs, 1, 2), 1);
+}
+
+// Puts pairs together from three runs of them, of which one is empty.
+fn copy_of_runs<R: Abort>(rt: &R, alloc: Alloc, pairs: &Pairs) -> Pairs {
+    let mut copy = Pairs::new(alloc);
+    for (start, end) in [(0, 1), (1, 1), (1, 4)] {
+        let run = run_of(rt, pairs, start, end);
+        copy.extend(&run).expect(rt, "memory");
+    }
+    copy
 }
 
 #[test]
 fn runs_of_pairs_are_copied(rt: HostRuntime) {
     let alloc = heap(&rt, rt.alloc());
     let pairs = all_pairs(&rt, alloc);
-    assert!(rt; pairs.len() == 4);
-    let mut copy = Pairs::new(alloc);
-    copy.extend(&pairs.run(0..1)).expect(&rt, "memory");
-    copy.extend(&pairs.run(1..1)).expect(&rt, "memory");
-    copy.extend(&pairs.run(1..4)).expect(&rt, "memory");
-    assert!(rt; are_all(&copy));
+    assert_that(&rt, are_all(&copy_of_runs(&rt, alloc, &pairs)));
+}
+
+// Whether all pairs are told, in their order.
+fn tells_all(pairs: &Pairs) -> bool {
+    let mut told = 0;
+    for (place, (key, value)) in pairs.iter().enumerate() {
+        if place >= 4 || key != KEYS[place] || value != VALUES[place] {
+            return false;
+        }
+        told = place + 1;
+    }
+    told == 4
 }
 
 #[test]
 fn pairs_are_told_one_after_another(rt: HostRuntime) {
     let pairs = all_pairs(&rt, heap(&rt, rt.alloc()));
-    let mut told = 0;
-    for (place, (key, value)) in pairs.iter().enumerate() {
-        assert!(rt; place < 4);
-        assert!(rt; key == KEYS[place] && value == VALUES[place]);
-        told = place + 1;
-    }
-    assert!(rt; told == 4);
+    assert_that(&rt, tells_all(&pairs));
+}
+
+// Whether a run tells the second and the third pair.
+fn tells_two(run: &Run<'_>) -> bool {
+    let mut some = run.iter();
+    some.next() == Some((KEYS[1], VALUES[1]))
+        && some.next() == Some((KEYS[2], VALUES[2]))
+        && some.next().is_none()
 }
 
 #[test]
 fn a_run_is_told_one_after_another(rt: HostRuntime) {
     let pairs = all_pairs(&rt, heap(&rt, rt.alloc()));
-    assert!(rt; pairs.len() == 4);
-    let mut some = pairs.run(1..3).iter();
-    assert!(rt; some.next() == Some((KEYS[1], VALUES[1])));
-    assert!(rt; some.next() == Some((KEYS[2], VALUES[2])));
-    assert!(rt; some.next().is_none());
+    assert_that(&rt, tells_two(&run_of(&rt, &pairs, 1, 3)));
 }
 
 fn finds(run: &Run<'_>, key: &[u8], place: usize) -> bool {
@@ -120,46 +145,52 @@ fn are_from(run: &Run<'_>, first: usize) -> bool {
     true
 }
 
+// Looks for keys in the run of all pairs but the first.
+fn is_searched<R: Abort>(rt: &R, run: &Run<'_>) {
+    assert_that(rt, are_from(run, 1));
+    assert_equal(rt, run.place(b""), 0);
+    assert_equal(rt, run.place(b"ab"), 1);
+    assert_equal(rt, run.place(b"l"), 3);
+    assert_that(rt, finds(run, b"a", 0));
+    assert_that(rt, finds(run, KEY, 2));
+    assert_that(rt, lacks(run, b"", 0));
+    assert_that(rt, lacks(run, b"aa", 1));
+    assert_that(rt, lacks(run, b"l", 3));
+}
+
 #[test]
 fn a_run_is_searched_from_its_own_first_pair_on(rt: HostRuntime) {
     let pairs = all_pairs(&rt, heap(&rt, rt.alloc()));
-    assert!(rt; pairs.len() == 4);
-    let run = pairs.run(1..4);
-    assert!(rt; are_from(&run, 1));
-    assert!(rt; run.place(b"") == 0);
-    assert!(rt; run.place(b"ab") == 1);
-    assert!(rt; run.place(b"l") == 3);
-    assert!(rt; finds(&run, b"a", 0));
-    assert!(rt; finds(&run, KEY, 2));
-    assert!(rt; lacks(&run, b"", 0));
-    assert!(rt; lacks(&run, b"aa", 1));
-    assert!(rt; lacks(&run, b"l", 3));
+    is_searched(&rt, &run_of(&rt, &pairs, 1, 4));
+}
+
+// Splits the run of all pairs but the first at this place.
+fn splits_at<R: Abort>(rt: &R, run: &Run<'_>, middle: usize) {
+    assert!(rt; run.len() == 3 && middle <= 3);
+    let (front, back) = run.split_at(middle);
+    assert_equal(rt, front.len(), middle);
+    assert_equal(rt, back.len(), 3 - middle);
+    assert_that(rt, are_from(&front, 1));
+    assert_that(rt, are_from(&back, 1 + middle));
 }
 
 #[test]
 fn a_run_splits_into_two(rt: HostRuntime) {
     let pairs = all_pairs(&rt, heap(&rt, rt.alloc()));
-    assert!(rt; pairs.len() == 4);
-    let run = pairs.run(1..4);
-    assert!(rt; run.len() == 3);
+    let run = run_of(&rt, &pairs, 1, 4);
     for middle in 0..4 {
-        let (front, back) = run.split_at(middle);
-        assert!(rt; front.len() == middle);
-        assert!(rt; back.len() == 3 - middle);
-        assert!(rt; are_from(&front, 1));
-        assert!(rt; are_from(&back, 1 + middle));
+        splits_at(&rt, &run, middle);
     }
 }
 
 #[test]
 fn a_run_has_the_bytes_of_its_pairs(rt: HostRuntime) {
     let pairs = all_pairs(&rt, heap(&rt, rt.alloc()));
-    assert!(rt; pairs.len() == 4);
-    assert!(rt; pairs.all().byte_count() == 1096);
-    assert!(rt; pairs.run(1..3).byte_count() == 1027);
-    assert!(rt; pairs.run(4..4).byte_count() == 0);
-    assert!(rt; pairs.run(4..4).is_empty());
-    assert!(rt; !pairs.run(3..4).is_empty());
+    assert_equal(&rt, pairs.all().byte_count(), 1096);
+    assert_equal(&rt, run_of(&rt, &pairs, 1, 3).byte_count(), 1027);
+    assert_equal(&rt, run_of(&rt, &pairs, 4, 4).byte_count(), 0);
+    assert_that(&rt, run_of(&rt, &pairs, 4, 4).is_empty());
+    assert_that(&rt, !run_of(&rt, &pairs, 3, 4).is_empty());
 }
 
 #[test]
@@ -231,11 +262,10 @@ fn keep_what_they_use<R: Abort>(rt: &R, alloc: Alloc) {
 }
 
 #[test]
-fn what_is_dropped_gives_its_memory_back(rt: HostRuntime) -> Result<(), Fail> {
-    let alloc = Heap::within(rt.alloc(), 4096).leak(rt.alloc())?;
+fn what_is_dropped_gives_its_memory_back(rt: HostRuntime) {
+    let alloc = within(&rt, rt.alloc(), 4096);
     keep_what_they_use(&rt, alloc);
     assert_equal(&rt, alloc.used(), 0);
-    Ok(())
 }
 
 // Adds a pair and a run to no pairs, with this growth refused from then on. Answers whether either was refused.
@@ -246,14 +276,13 @@ fn lacks_memory(alloc: Alloc, other: &Pairs, growth: u64) -> bool {
 }
 
 #[test]
-fn each_growth_is_refused_in_turn(rt: HostRuntime) -> Result<(), Fail> {
-    let alloc = Heap::counted(rt.alloc()).leak(rt.alloc())?;
+fn each_growth_is_refused_in_turn(rt: HostRuntime) {
+    let alloc = counted(&rt, rt.alloc());
     let other = all_pairs(&rt, heap(&rt, rt.alloc()));
     for growth in 1..5 {
         assert_that(&rt, lacks_memory(alloc, &other, growth));
         assert_equal(&rt, alloc.left(), 0);
     }
-    Ok(())
 }
 
 // Whether a run isn't copied where this growth is refused.
@@ -272,14 +301,13 @@ fn is_copied(alloc: Alloc, run: &Run<'_>) -> bool {
 }
 
 #[test]
-fn each_growth_of_a_copy_is_refused_in_turn(rt: HostRuntime) -> Result<(), Fail> {
-    let alloc = Heap::counted(rt.alloc()).leak(rt.alloc())?;
+fn each_growth_of_a_copy_is_refused_in_turn(rt: HostRuntime) {
+    let alloc = counted(&rt, rt.alloc());
     let pairs = all_pairs(&rt, heap(&rt, rt.alloc()));
-    assert!(rt; pairs.len() == 4);
+    let run = run_of(&rt, &pairs, 1, 4);
     for growth in 1..3 {
-        assert!(rt; lacks_copy(alloc, &pairs.run(1..4), growth));
-        assert!(rt; alloc.left() == 0);
+        assert_that(&rt, lacks_copy(alloc, &run, growth));
+        assert_equal(&rt, alloc.left(), 0);
     }
-    assert!(rt; is_copied(alloc, &pairs.run(1..4)));
-    Ok(())
+    assert_that(&rt, is_copied(alloc, &run));
 }

@@ -66,8 +66,8 @@ fn a_leaf_is_cut_where_its_upper_half_begins(rt: HostRuntime) {
 fn leaf_refused<R: Abort>(rt: &R, alloc: Alloc, leaf: &mut Leaf, growth: u64) {
     assert!(rt; leaf.pairs().len() == 3);
     alloc.refuse(growth);
-    assert!(rt; leaf.cut(1).is_err());
-    assert_eq!(rt; alloc.left(), 0);
+    assert_that(rt, leaf.cut(1).is_err());
+    assert_equal(rt, alloc.left(), 0);
     is_whole(rt, leaf);
 }
 
@@ -128,16 +128,16 @@ fn an_inner_page_is_cut_where_its_upper_half_begins(rt: HostRuntime) {
     has_children(&rt, &copy, &[(LONG, 5), (b"c", 1)]);
     has_children(&rt, &half, &[(LONG, 5), (b"c", 1)]);
     has_children(&rt, &inner, &[(b"", 0)]);
-    assert!(rt; half.low().bytes() == LONG);
-    assert!(rt; half.high().is_none() && inner.high().is_none());
+    assert_that(&rt, half.low().bytes() == LONG);
+    assert_that(&rt, half.high().is_none() && inner.high().is_none());
 }
 
 // Cuts the page of three children where this growth is refused, and compares it after that.
 fn inner_refused<R: Abort>(rt: &R, alloc: Alloc, inner: &mut Inner, growth: u64) {
     assert!(rt; inner.children().len() == 3);
     alloc.refuse(growth);
-    assert!(rt; inner.cut(1).is_err());
-    assert_eq!(rt; alloc.left(), 0);
+    assert_that(rt, inner.cut(1).is_err());
+    assert_equal(rt, alloc.left(), 0);
     has_children(rt, inner, &[(b"", 0), (LONG, 5), (b"c", 1)]);
 }
 

@@ -83,10 +83,10 @@ fn the_half_of_an_inner_page_takes_one_growth_and_two_for_a_long_low_key(rt: Hos
     assert!(rt; inner.children().len() == 3);
     for growth in 1..=3 {
         alloc.refuse(growth);
-        assert!(rt; inner.upper_half(1).is_err());
-        assert_eq!(rt; alloc.left(), 0);
+        assert_that(&rt, inner.upper_half(1).is_err());
+        assert_equal(&rt, alloc.left(), 0);
     }
     alloc.refuse(4);
-    assert!(rt; inner.upper_half(1).is_ok());
-    assert_eq!(rt; alloc.left(), 1);
+    assert_that(&rt, inner.upper_half(1).is_ok());
+    assert_equal(&rt, alloc.left(), 1);
 }

@@ -14,7 +14,7 @@ use bw_memory::{Alloc, Heap};
 use bw_model::Op;
 use bw_page::PageId;
 use bw_post::{OpenGate, Posting, Tree, post_all};
-use bw_tree::Scans;
+use bw_tree::{LeafChain, Scans};
 use std::process::Abort;
 use std::test::Fail;
 use std::thread::Threads;
@@ -174,7 +174,10 @@ fn the_records_of_a_second_batch_stand_behind_those_of_the_first(rt: HostRuntime
     tree.accept();
     assert_eq!(rt; tree.next_stamp(), 3);
     let staged = tree.stage(&batch(&rt, alloc)).expect(&rt, "memory");
-    assert!(rt; (staged.base, staged.floor, staged.records) == (3, FLOOR + 2, 2));
+    assert_that(
+        &rt,
+        (staged.base, staged.floor, staged.records) == (3, FLOOR + 2, 2),
+    );
 }
 
 #[test]
@@ -193,22 +196,32 @@ fn leaf_at<R: Abort>(rt: &R, alloc: Alloc, tree: &Tree, bytes: &[u8]) -> PageId
     tree.route(&key(alloc, bytes).expect(rt, "memory"))
 }
 
+// The stamp of a leaf's write at a place.
+fn stamp_at(leaf: &LeafChain<'_>, place: usize) -> Option<u64> {
+    let write = leaf.writes.get(place)?;
+    Some(write.stamp)
+}
+
+// Compares what is read of a leaf of all keys without pairs that was written twice.
+fn has_two_writes<R: Abort>(rt: &R, leaf: &LeafChain<'_>) {
+    assert_equal(rt, leaf.writes.len(), 2);
+    assert_equal(rt, stamp_at(leaf, 0), Some(1));
+    assert_equal(rt, stamp_at(leaf, 1), Some(0));
+    assert_equal(rt, leaf.base.pairs().len(), 0);
+    assert_that(rt, leaf.end.is_none() && leaf.side.is_none());
+}
+
 #[test]
 fn a_leaf_with_writes_is_read_at_once(rt: HostRuntime) {
     let alloc = heap(rt.alloc()).expect(&rt, "memory");
     let tree = written_twice(&rt, alloc);
     let page = leaf_at(&rt, alloc, &tree, b"a");
     alloc.refuse(1);
-    assert!(rt; tree.leaf(alloc, page).is_err());
+    assert_that(&rt, tree.leaf(alloc, page).is_err());
     alloc.refuse(2);
     let leaf = tree.leaf(alloc, page).expect(&rt, "memory");
-    assert_eq!(rt; alloc.left(), 1);
-    assert_eq!(rt; leaf.writes.len(), 2);
-    assert_eq!(rt; leaf.writes[0].stamp, 1);
-    assert_eq!(rt; leaf.writes[1].stamp, 0);
-    assert_eq!(rt; leaf.base.pairs().len(), 0);
-    assert!(rt; leaf.end.is_none());
-    assert!(rt; leaf.side.is_none());
+    assert_equal(&rt, alloc.left(), 1);
+    has_two_writes(&rt, &leaf);
 }
 
 // The writes of its key are listed, and sorted in a second list.

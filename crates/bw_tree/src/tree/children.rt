@@ -11,7 +11,7 @@ use bw_key::{Key, Memory};
 use bw_page::PageId;
 
 /// A page that no page above names yet, as a split leaves it.
-#[derive(Clone, Copy, Debug)]
+#[derive(Clone, Copy)]
 pub struct Unnamed<'a> {
     /// The page.
     pub page: PageId,

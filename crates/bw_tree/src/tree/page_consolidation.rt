@@ -13,8 +13,9 @@ impl Tree {
     ghost use Rattle.bw_chain.specs.Levels.{row};
     ghost use Rattle.bw_chain.specs.Chains.{plain};
     ghost use Rattle.bw_chain.specs.Searches.{IsInLevels, plain_inner};
-    ghost use Rattle.bw_chain.specs.Slots.{side_of, slot_at};
-    ghost use Rattle.bw_tree.specs.Consolidation.{IsConsolidated, IsRebased, consolidated_leaf};
+    ghost use Rattle.bw_chain.specs.Slots.{slot_at};
+    ghost use Rattle.bw_tree.specs.Consolidation.{IsConsolidated, IsRebased};
+    ghost use Rattle.bw_tree.specs.Pages.{leaf_as_of};
     ghost use Rattle.bw_tree.specs.Routing.{IsInnerPage};
 
     /// Consolidates a leaf: what its writes make of its base page, as of the next stamp, takes the place of that page (ICDE
@@ -69,7 +70,7 @@ impl Tree {
     fn put_leaf(&mut self, page: PageId, leaf: Leaf)
         requires none { self.old.staged ≡ None }
         requires leaf { Contains (row self.old.levels 0) page }
-        requires consolidated { leaf ≡ consolidated_leaf self.old page (side_of self.old.slots page) }
+        requires consolidated { leaf ≡ leaf_as_of self.old page self.old.next }
         ensures { IsConsolidated self.old self.new page }
     {
         let head = self.heads[page.0 as usize];

@@ -16,7 +16,7 @@ use bw_key::Key;
 use bw_page::{Inner, PageId};
 
 /// The leaf that a search found, and the last page from which it went down, if it went down.
-#[derive(Clone, Copy, Debug)]
+#[derive(Clone, Copy)]
 pub(crate) struct Found {
     pub(crate) leaf: PageId,
     pub(crate) above: Option<PageId>,

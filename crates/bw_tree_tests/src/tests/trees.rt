@@ -136,13 +136,13 @@ fn each_staged_write_has_the_stamp_of_its_operation(rt: HostRuntime) {
         key: key(&rt, alloc, b"c"),
         action: Action::Upsert(value(&rt, alloc, b"9")),
     };
-    assert_equal(&rt, staged_write(&rt, &tree, 0), &upsert);
+    assert_that(&rt, *staged_write(&rt, &tree, 0) == upsert);
     let delete = Write {
         stamp: 2,
         key: key(&rt, alloc, b"e"),
         action: Action::Delete,
     };
-    assert_equal(&rt, staged_write(&rt, &tree, 1), &delete);
+    assert_that(&rt, *staged_write(&rt, &tree, 1) == delete);
 }
 
 #[test]

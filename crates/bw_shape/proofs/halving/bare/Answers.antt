@@ -1,4 +1,4 @@
-use Rattle.bw_shape.proofs.PlainLemmas.{has_record}
+use Rattle.bw_steps.proofs.PlainLemmas.{has_record}
 use Rattle.bw_shape.proofs.halving.bare.Goals as goal
 
 pub lose_chain-requires-clause-had : goal.lose_chain-requires-clause-had

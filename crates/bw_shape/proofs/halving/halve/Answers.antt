@@ -1,5 +1,5 @@
 use Rattle.std.proofs.Common.{arith}
-use Rattle.bw_shape.proofs.TakenLemmas.{taken_few}
+use Rattle.bw_steps.proofs.TakenLemmas.{taken_few}
 use Rattle.bw_shape.proofs.TidyLemmas.{within_split}
 use Rattle.bw_shape.proofs.halving.halve.Goals as goal
 

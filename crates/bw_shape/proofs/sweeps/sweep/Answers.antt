@@ -1,4 +1,4 @@
-use Rattle.bw_shape.proofs.FinishLemmas.{where_refused}
+use Rattle.bw_steps.proofs.FinishLemmas.{where_refused}
 use Rattle.bw_shape.proofs.SweepLemmas.{but_freed, but_none, plain_over, plain_taken}
 use Rattle.bw_shape.proofs.sweeps.sweep.Goals as goal
 

@@ -1,10 +1,10 @@
 use Rattle.std.proofs.Common.{◌≡◌, ℕ, Option, Some, sym, subst}
 use Rattle.std.specs.Prelude.{MatchOption}
 use Rattle.bw_tree.specs.View.{TreeView}
-use Rattle.bw_shape.specs.Naming.{AreFinished}
-use Rattle.bw_shape.specs.Steps.{IsFinishStep}
+use Rattle.bw_steps.specs.Naming.{AreFinished}
+use Rattle.bw_steps.specs.Steps.{IsFinishStep}
 use Rattle.bw_shape.specs.Tidying.{DueView, KeepsWithin}
-use Rattle.bw_shape.specs.declared.steps.Did.TheVariants.{NotNeeded}
+use Rattle.bw_steps.specs.declared.steps.Did.TheVariants.{NotNeeded}
 use Rattle.bw_shape.proofs.TidyLemmas.{tidy_after, tidy_all_named}
 use Rattle.bw_shape.proofs.due.Due.finish.Goals as goal
 

@@ -1,10 +1,10 @@
-use Rattle.std.proofs.Common.{refl, sym, ap, ◌∙◌, is_some, subst}
+use Rattle.std.proofs.Common.{refl, sym, ◌∙◌, subst}
 use Rattle.std.specs.Option.{option_copied}
 use Rattle.bw_delta.specs.History.{HasDistinctStamps}
 use Rattle.bw_chain.specs.Levels.{row}
 use Rattle.bw_chain.specs.Slots.{slot_at}
 use Rattle.bw_tree.specs.View.{TreeView}
-use Rattle.bw_tree.proofs.LeafLemmas.{AreParts, consolidated_parts, is_consolidated_leaf, parts_rules}
+use Rattle.bw_tree.proofs.LeafLemmas.{AreParts, consolidated_parts, is_leaf_as_of, parts_rules}
 use Rattle.bw_tree.proofs.ScanLemmas.{page_distinct}
 use Rattle.bw_tree.proofs.tree.Tree.leaf_as_of.Goals as goal
 
@@ -17,7 +17,7 @@ pub from_pairs-requires : goal.from_pairs-requires
 from_pairs-requires c =
     let tree : TreeView = record c.args.self.now { next = c.args.stamp } in
     let is = c.in_ok-leaf.ensures.leaf in
-    parts_rules tree tree.root c.know_levels.ensures.lawful c.args.page c.in_ok-leaf.leaf.side c.in_ok-copy.field-0 c.in_ok-copy_end.field-0 c.in_ok-pairs.pairs c.requires (ap is_some is.side)
+    parts_rules tree tree.root c.know_levels.ensures.lawful c.args.page c.in_ok-leaf.leaf.side c.in_ok-copy.field-0 c.in_ok-copy_end.field-0 c.in_ok-pairs.pairs c.requires is.side
     (consolidated_parts tree tree.root c.know_levels.ensures.lawful c.know_levels.ensures.distinct c.args.page c.args.stamp c.low-low.result.now (option_copied c.in_ok-leaf.leaf.end) c.in_ok-copy.field-0 c.in_ok-copy_end.field-0 c.in_ok-pairs.pairs c.requires
     refl (c.low-low.ensures.value ∙ is.low) is.end c.in_ok-copy.ensures.ok c.in_ok-copy_end.ensures (c.in_ok-pairs.ensures (slot_at tree.slots c.args.page) is))
 
@@ -28,5 +28,5 @@ returns c =
     let parts : AreParts tree c.args.page c.in_ok-copy.field-0 c.in_ok-copy_end.field-0 c.in_ok-pairs.pairs =
     consolidated_parts tree tree.root c.know_levels.ensures.lawful c.know_levels.ensures.distinct c.args.page c.args.stamp c.low-low.result.now (option_copied c.in_ok-leaf.leaf.end) c.in_ok-copy.field-0 c.in_ok-copy_end.field-0 c.in_ok-pairs.pairs c.requires
     refl (c.low-low.ensures.value ∙ is.low) is.end c.in_ok-copy.ensures.ok c.in_ok-copy_end.ensures (c.in_ok-pairs.ensures (slot_at tree.slots c.args.page) is) in
-    is_consolidated_leaf tree c.args.page _ c.from_pairs.result c.in_ok-copy.field-0 c.in_ok-copy_end.field-0 c.in_ok-pairs.pairs parts
+    is_leaf_as_of tree c.args.page c.from_pairs.result c.in_ok-copy.field-0 c.in_ok-copy_end.field-0 c.in_ok-pairs.pairs parts
     c.from_pairs.ensures.low c.from_pairs.ensures.high (c.from_pairs.ensures.side ∙ is.side) c.from_pairs.ensures.pairs

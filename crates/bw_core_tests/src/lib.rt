@@ -1,6 +1,0 @@
-//! Tests of `bw_core` through its public items. They stand in a crate of their own, so that the gate proves them over what
-//! it proved of `bw_core`, and not that again beside them.
-#![tactic(auto)]
-
-#[cfg(test)]
-mod tests;

@@ -1,0 +1,4 @@
+pub mod Steps
+pub mod Naming
+pub mod Merges
+pub mod Releasing

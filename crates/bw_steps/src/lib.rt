@@ -1,0 +1,16 @@
+//! Restructuring of a Bw-tree, step by step (ICDE 2013): a chain is consolidated, a page split or merged, a root grows or
+//! goes, an identifier is given back. A step asks first whether it is needed, and changes nothing where it isn't; each leaves
+//! what the tree holds.
+#![tactic(auto)]
+
+mod merges;
+mod release_runs;
+mod releasing;
+mod right_neighbours;
+mod steps;
+
+pub use merges::{absorb, are_under_one, drop_root, finish_absorb};
+pub use release_runs::{release_all, release_run};
+pub use releasing::release;
+pub use right_neighbours::name_rights;
+pub use steps::{Did, consolidate, finish_split, grow_root, lose_chain, may_part, split};

@@ -1,0 +1,31 @@
+use Rattle.std.proofs.Common.{arith, sym, ap, subst, refl, inl, ◌∙◌, ◌≡◌, ◌<◌, ◌+◌, length, get_or, set}
+use Rattle.bw_core.specs.declared.BookView.{BookView}
+use Rattle.bw_core.specs.declared.Played.TheVariants.{Done}
+use Rattle.bw_core.specs.World.{World}
+use Rattle.bw_core.specs.Events.{world_with, book_after_win}
+use Rattle.bw_world.specs.Inside.{view_of}
+use Rattle.bw_core.specs.Steps.{IsWorld, MayTry, Tries}
+use Rattle.bw_core.proofs.Allowed.{read_seat, seat_pages, own_link, page_heads, tried}
+use Rattle.bw_core.proofs.Lists.{inside_at}
+use Rattle.bw_world.proofs.state.State.win.Goals as goal
+
+pub index_mut-requires : goal.index_mut-requires
+index_mut-requires c = let i = c.self.inside in let w : World = view_of i in let k : IsWorld w = subst IsWorld (sym c.self.view_is) c.requires.world in let may = subst (λ (z : World). (b : BookView) × MayTry z c.args.seat c.args.rec c.args.page b c.args.lost) (sym c.self.view_is) c.requires.may in let ok = i.books.ok in let h = inside_at i.books.items c.args.seat may.0 may.1.0.0 in omega arith
+
+pub win-requires : goal.win-requires
+win-requires c = let i = c.self.inside in let w : World = view_of i in let k : IsWorld w = subst IsWorld (sym c.self.view_is) c.requires.world in let may = subst (λ (z : World). (b : BookView) × MayTry z c.args.seat c.args.rec c.args.page b c.args.lost) (sym c.self.view_is) c.requires.may in let same : c.index_mut.result.now ≡ may.0 = read_seat w c.args.seat may.0 c.index_mut.result.now may.1.0 c.index_mut.ensures.value in
+    subst (λ (z : BookView). c.args.page < length z.seen) (sym same) (seat_pages w k c.args.seat may.0 c.args.page may.1.0 (tried w k c.args.seat c.args.rec c.args.page may.0 c.args.lost may.1).on_page).0
+
+pub overflow_add-word : goal.overflow_add-word
+overflow_add-word c = let i = c.self.inside in let w : World = view_of i in let k : IsWorld w = subst IsWorld (sym c.self.view_is) c.requires.world in let may = subst (λ (z : World). (b : BookView) × MayTry z c.args.seat c.args.rec c.args.page b c.args.lost) (sym c.self.view_is) c.requires.may in let l = (own_link w k c.args.seat c.args.rec may.0 may.1.0 (tried w k c.args.seat c.args.rec c.args.page may.0 c.args.lost may.1).own).1 in omega arith
+
+pub index_mut-requires-2 : goal.index_mut-requires-2
+index_mut-requires-2 c = let i = c.self.inside in let w : World = view_of i in let k : IsWorld w = subst IsWorld (sym c.self.view_is) c.requires.world in let may = subst (λ (z : World). (b : BookView) × MayTry z c.args.seat c.args.rec c.args.page b c.args.lost) (sym c.self.view_is) c.requires.may in let ok = i.heads.ok in let h = page_heads w k c.args.page (tried w k c.args.seat c.args.rec c.args.page may.0 c.args.lost may.1).on_page in omega arith
+
+pub returns-clause-ok : goal.returns-clause-ok
+returns-clause-ok c = let i = c.self.inside in let w : World = view_of i in let k : IsWorld w = subst IsWorld (sym c.self.view_is) c.requires.world in let may = subst (λ (z : World). (b : BookView) × MayTry z c.args.seat c.args.rec c.args.page b c.args.lost) (sym c.self.view_is) c.requires.may in let same : c.index_mut.result.now ≡ may.0 = read_seat w c.args.seat may.0 c.index_mut.result.now may.1.0 c.index_mut.ensures.value in
+    let seat = c.args.seat in let rec = c.args.rec in let page = c.args.page in let lost = c.args.lost in let d : BookView = may.0 in
+    let hit = subst (λ (z : World). get_or z.heads page 0 ≡ get_or z.links rec 0) (sym c.self.view_is) c.requires.hit in
+    let new : c.win.new.self ≡ book_after_win d rec page lost = c.in_ok-win.ensures.ok ∙ ap (λ (z : BookView). book_after_win z rec page lost) same in
+    subst (λ (z : World). Tries z seat rec page (world_with w (set w.heads page (w.floor + rec)) w.links (set w.books seat c.win.new.self)) (Done (w.floor + rec))) c.self.view_is
+    (inl (d, lost, may.1, inl (hit, ap (λ (z : BookView). world_with w (set w.heads page (w.floor + rec)) w.links (set w.books seat z)) new, refl)))

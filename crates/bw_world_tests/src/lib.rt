@@ -1,0 +1,6 @@
+//! Tests of `bw_world` through its public items. They stand in a crate of their own, so that the gate proves them over what
+//! it proved of `bw_world`, and not that again beside them.
+#![tactic(auto)]
+
+#[cfg(test)]
+mod tests;
