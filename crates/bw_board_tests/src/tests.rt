@@ -23,13 +23,7 @@ pub(crate) fn counted(alloc: Global) -> Result<Alloc, Memory> {
 }
 
 // Compares what a board was closed with: head words, links, and the pages whose first word was replaced.
-fn is_closed<R: Abort>(
-    rt: &R,
-    closed: &Closed,
-    heads: &[u64],
-    links: &[u64],
-    swapped: &[u64],
-) {
+fn is_closed<R: Abort>(rt: &R, closed: &Closed, heads: &[u64], links: &[u64], swapped: &[u64]) {
     assert_that(rt, closed.heads() == heads);
     assert_that(rt, closed.links() == links);
     assert_that(rt, closed.swapped() == swapped);
