@@ -1,7 +1,7 @@
 //! An index and a map that lose all their keys.
 ghost use Rattle.std.specs.Prelude.{◌<◌};
 
-use crate::workload::{Order, Random, deletes, numbers, upserts};
+use crate::workload::{Kind, Order, Random, deletes, drawn, numbers, upserts};
 use crate::{
     BATCH, Both, Heaps, Load, RECORDS_DEFAULT, Runs, SEED, counting_heap, no_runs, one_heap,
     print_longest, run_batch,
@@ -22,14 +22,19 @@ pub struct Drain {
     pub workers: u64,
 }
 
-fn options(workers: u64) -> Result<Options> {
-    Ok(Options::new(workers, 64, 8, 64, 16, BATCH, RECORDS_DEFAULT)?)
+fn options(workers: u64, record_max: u64) -> Result<Options> {
+    Ok(Options::new(workers, 64, 8, 64, 16, BATCH, record_max)?)
 }
 
 // An index and a map that got so many keys, scattered ones.
-fn grown<R: Threads + Clock + Sync>(rt: &R, heaps: Heaps, workers: u64, keys: u64) -> Result<Both> {
+fn grown<R: Threads + Clock + Sync>(
+    rt: &R,
+    heaps: Heaps,
+    options: Options,
+    keys: u64,
+) -> Result<Both> {
     let mut both = Both {
-        index: Index::new(heaps.index, options(workers)?)?,
+        index: Index::new(heaps.index, options)?,
         map: BTreeMap::new(heaps.map),
     };
     let mut runs = no_runs(heaps.ops);
@@ -80,7 +85,8 @@ pub fn print_drain<R: Threads + Clock + Sync + Print>(
         "{keys} keys go, {words}, batches of {operations}, workers {}:",
         drain.workers
     )?;
-    let mut both = grown(rt, one_heap(alloc), drain.workers, keys)?;
+    let options = options(drain.workers, RECORDS_DEFAULT)?;
+    let mut both = grown(rt, one_heap(alloc), options, keys)?;
     let mut runs = drained(rt, one_heap(alloc), &mut both, drain)?;
     let pages = both.index.shape()?.len();
     println!(rt;
@@ -96,14 +102,22 @@ pub fn print_drain<R: Threads + Clock + Sync + Print>(
 // The bytes that an index without keys has in use at first.
 fn bytes_of_new(global: Global, workers: u64) -> Result<u64> {
     let heap = counting_heap(global)?;
-    let index = Index::new(heap, options(workers)?)?;
+    let index = Index::new(heap, options(workers, BATCH)?)?;
     let used = heap.used();
     drop(index);
     Ok(used)
 }
 
+// Runs a batch of reads, before which an index sweeps whose records are to be no more than one batch has.
+fn sweep<R: Threads + Clock + Sync>(rt: &R, heaps: Heaps, both: &mut Both) -> Result<()> {
+    let mut random = Random { state: SEED };
+    let ops = drawn(heaps.ops, &mut random, 1, BATCH, Kind::Gets)?;
+    let mut runs = no_runs(heaps.ops);
+    run_batch(rt, heaps.ops, both, &ops, &mut runs)
+}
+
 /// Deletes all keys of an index and a map, each with a heap of its own, and prints how many bytes they have in use before
-/// that and after it.
+/// that and after it, and behind a sweep. The index has at most the records of one batch.
 pub fn print_left<R: Threads + Clock + Sync + Print>(
     rt: &R,
     global: Global,
@@ -118,7 +132,8 @@ pub fn print_left<R: Threads + Clock + Sync + Print>(
         map: counting_heap(global)?,
     };
     let new = bytes_of_new(global, drain.workers)?;
-    let mut both = grown(rt, heaps, drain.workers, drain.load.keys)?;
+    let options = options(drain.workers, BATCH)?;
+    let mut both = grown(rt, heaps, options, drain.load.keys)?;
     println!(rt;
         "    bytes before: index {}, map {}",
         heaps.index.used(),
@@ -131,5 +146,7 @@ pub fn print_left<R: Threads + Clock + Sync + Print>(
         both.index.tree().records(),
         heaps.map.used()
     )?;
+    sweep(rt, heaps, &mut both)?;
+    println!(rt; "    behind a sweep: index {}", heaps.index.used())?;
     Ok(())
 }

@@ -477,6 +477,7 @@ fn print_all_inserts<R: Threads + Clock + Sync + Print>(rt: &R, alloc: Alloc) ->
         print_inserts(rt, alloc, order, fresh(FRESH, BATCH), RECORDS, true)?;
         print_inserts(rt, alloc, order, fresh(FRESH, 64), RECORDS, true)?;
         print_inserts(rt, alloc, order, fresh(FRESH, BATCH), FEW_RECORDS, true)?;
+        print_inserts(rt, alloc, order, fresh(FRESH, 64), FEW_RECORDS, true)?;
     }
     Ok(())
 }

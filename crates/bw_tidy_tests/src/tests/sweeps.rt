@@ -1,6 +1,6 @@
 // Many batches with a sweep before each.
 use super::maker::{Maker, same};
-use crate::tests::assertions::assert_equal;
+use crate::tests::assertions::{assert_equal, assert_that};
 use bw_batch::{Index, OpenGate, Options, Reply};
 use std::process::Abort;
 use std::thread::Threads;
@@ -41,6 +41,9 @@ fn storm<R: Abort + Threads + Sync>(rt: &R, make: &Maker<R>, workers: u64) {
     let shape = index.tree().shape().expect(rt, "memory");
     assert_equal(rt, shape.len(), 1);
     for page in &shape {
+        assert_equal(rt, page.level, 0);
+        assert_equal(rt, page.low.bytes().len(), 0);
+        assert_that(rt, page.high.is_none());
         assert_equal(rt, page.pairs, 1);
         assert_equal(rt, page.writes, 3);
     }
