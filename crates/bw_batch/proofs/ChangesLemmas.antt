@@ -5,6 +5,7 @@ use Rattle.bw_delta.specs.Batches.{writes_of}
 use Rattle.bw_model.specs.Model.{contents_after}
 use Rattle.bw_model.specs.declared.operations.Op.{Op}
 use Rattle.bw_model.specs.declared.outcomes.Refusal.{Refusal}
+use Rattle.bw_batch.specs.Leaves.{leaves_of}
 use Rattle.bw_batch.specs.Outcomes.{Changes, ChangesInTurn, batches_of}
 use Rattle.bw_batch.specs.Sweeps.{base_of, is_sweep_due, records_before}
 use Rattle.bw_batch.specs.View.{IndexView, contents_of, next_stamp_of, settings_of}
@@ -14,12 +15,13 @@ use Rattle.bw_batch.proofs.OutcomesLemmas.{batches_more}
 -- what `run` ensures, as one fact on the index before and behind it
 pub changed_by : (old new : IndexView) (ops : List Op) (outcome : Result Done Refusal) → settings_of new ≡ settings_of old → OnOk outcome (contents_of new ≡ contents_after ops (contents_of old)) →
     OnOk outcome (next_stamp_of new ≡ base_of old (length ops) + length ops) → OnOk outcome (records_before old (length ops) + length (writes_of 0 ops) ≤ new.records) →
+    OnOk outcome (new.records ≡ records_before old (length ops) + length (writes_of 0 ops) → leaves_of new.pages ≡ leaves_of old.pages) → OnErr outcome (leaves_of new.pages ≡ leaves_of old.pages) →
     IfOk outcome (λ done. done.tidy.stopped ≡ false → new.due ≡ []) → OnErr outcome (contents_of new ≡ contents_of old) → ((settings_of old).batch_max < length ops → new ≡ old) →
     (is_sweep_due old (length ops) ≡ false → OnErr outcome (new ≡ old)) → Changes old new ops outcome
-changed_by old new ops (Ok done) settings contents stamp recorded tidied err untried unswept =
-    record { settings = settings; contents = contents; stamp = stamp; recorded = recorded; tidied = tidied }
-changed_by old new ops (Err refusal) settings contents stamp recorded tidied err untried unswept =
-    record { settings = settings; contents = err; untried = untried; unswept = unswept }
+changed_by old new ops (Ok done) settings contents stamp recorded leaves kept tidied err untried unswept =
+    record { settings = settings; contents = contents; stamp = stamp; recorded = recorded; leaves = leaves; tidied = tidied }
+changed_by old new ops (Err refusal) settings contents stamp recorded leaves kept tidied err untried unswept =
+    record { settings = settings; contents = err; leaves = kept; untried = untried; unswept = unswept }
 
 one_changed : (old now new : IndexView) (batches : List (List Op)) (outcomes : List (Result Done Refusal)) (ops : List Op) (outcome : Result Done Refusal) →
     ChangesInTurn old now batches outcomes → Changes now new ops outcome → ChangesInTurn old new (batches ++ ops ∷ []) (outcomes ++ outcome ∷ [])

@@ -5,3 +5,4 @@ pub mod ChangesLemmas
 pub mod DueLemmas
 pub mod LenLemmas
 pub mod LeafPairsLemmas
+pub mod LeavesLemmas

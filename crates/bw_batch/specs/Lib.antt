@@ -3,6 +3,7 @@ pub mod SettingFaults
 pub mod Codes
 pub mod Stages
 pub mod View
+pub mod Leaves
 pub mod Sweeps
 pub mod Outcomes
 pub mod Trees

@@ -7,6 +7,7 @@ use Rattle.bw_model.specs.Model.{contents_after}
 use Rattle.bw_model.specs.Runs.{Outcome}
 use Rattle.bw_model.specs.declared.operations.Op.{Op}
 use Rattle.bw_model.specs.declared.outcomes.Refusal.{Refusal}
+use Rattle.bw_batch.specs.Leaves.{leaves_of}
 use Rattle.bw_batch.specs.Sweeps.{base_of, is_sweep_due, records_before}
 use Rattle.bw_batch.specs.View.{IndexView, contents_of, next_stamp_of, settings_of}
 use Rattle.bw_batch.specs.declared.index.Done.{Done}
@@ -41,12 +42,15 @@ pub record IsBehind (old new : IndexView) (ops : List Op) (done : Done) : Type 0
   pub contents : contents_of new ≡ contents_after ops (contents_of old)
   pub stamp : next_stamp_of new ≡ base_of old (length ops) + length ops
   pub recorded : records_before old (length ops) + length (writes_of 0 ops) ≤ new.records
+  pub leaves : new.records ≡ records_before old (length ops) + length (writes_of 0 ops) →
+      leaves_of new.pages ≡ leaves_of old.pages
   pub tidied : done.tidy.stopped ≡ false → new.due ≡ []
 
 -- the index before and behind a refused batch: without a sweep, and where it was too long, it is the same
 pub record IsKept (old new : IndexView) (ops : List Op) : Type 0 where
   pub settings : settings_of new ≡ settings_of old
   pub contents : contents_of new ≡ contents_of old
+  pub leaves : leaves_of new.pages ≡ leaves_of old.pages
   pub untried : (settings_of old).batch_max < length ops → new ≡ old
   pub unswept : is_sweep_due old (length ops) ≡ false → new ≡ old
 

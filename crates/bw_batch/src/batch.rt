@@ -6,6 +6,7 @@ ghost use Rattle.bw_model.specs.Model.{contents_after, replies_of};
 ghost use Rattle.bw_tree.specs.Stages.{is_adopted, undone_tree};
 ghost use Rattle.bw_tree.specs.View.{contents_at, contents_with, staged_writes};
 ghost use Rattle.bw_post.specs.Posting.{IsWaiting};
+ghost use Rattle.bw_shape.specs.Leaves.{leaf_ranges};
 ghost use Rattle.bw_shape.specs.Tidying.{HasBoth, KeepsWithin};
 ghost use Rattle.bw_batch.specs.Stages.{operations_staged};
 
@@ -48,6 +49,7 @@ pub(crate) fn run_batch<R: Threads + Sync, G: Gate>(
         ≡ contents_after ops.now (contents_at tree.old tree.old.next)) }
     ensures stamped { OnOk result (tree.new.next ≡ tree.old.next + length ops.now) }
     ensures recorded { OnOk result (tree.new.records ≡ tree.old.records + length (writes_of tree.old.next ops.now)) }
+    ensures leaves { OnOk result (leaf_ranges tree.new ≡ leaf_ranges tree.old) }
     ensures within { OnOk result (KeepsWithin tree.old tree.new due.old.pages due.new.pages) }
     ensures none { tree.new.staged ≡ None }
     ensures err { OnErr result (tree.new ≡ tree.old) }
@@ -87,6 +89,7 @@ fn answer_staged<R: Threads + Sync, G: Gate>(
     ensures lost { IfOk result (λ answered. answered.lost ≤ pairs_of (length (staged_writes tree.old.staged))) }
     ensures contents { OnOk result ((stamp : ℕ) → contents_at tree.new stamp ≡ contents_with tree.old stamp) }
     ensures recorded { OnOk result (tree.new.records ≡ tree.old.records) }
+    ensures leaves { OnOk result (leaf_ranges tree.new ≡ leaf_ranges tree.old) }
     ensures within { OnOk result (KeepsWithin tree.old tree.new due.old.pages due.new.pages) }
     ensures due { OnErr result (due.new ≡ due.old) }
     ensures next { tree.new.next ≡ tree.old.next }

@@ -92,6 +92,7 @@ impl Index {
     ghost use Rattle.bw_batch.specs.Lens.{key_count};
     ghost use Rattle.bw_batch.specs.Settings.{limits_of};
     ghost use Rattle.bw_batch.specs.View.{contents_of, settings_of, next_stamp_of};
+    ghost use Rattle.bw_batch.specs.Leaves.{leaves_of};
     ghost use Rattle.bw_batch.specs.Sweeps.{base_of, is_sweep_due, records_before};
     ghost use Rattle.bw_batch.specs.Outcomes.{batches_of, outcomes_of, AreCounted, ChangesInTurn};
     ghost use Rattle.bw_batch.specs.Trees.{IsShapeOf, IsTreeOf};
@@ -121,8 +122,8 @@ impl Index {
 
     /// The index over a tree, with what it holds. The tree has no staged batch. All its pages are due, so the next batch that
     /// is accepted has them looked at. This costs the list of all pages and what `Tree::shape` does, since the pairs are
-    /// counted once. A split of the tree that isn't finished stays so, and
-    /// is read by its side link: finish them first (`bw_shape::tidy`). After `Memory` the tree is gone.
+    /// counted once. A split or a merge of the tree that isn't finished stays so, and is read by its links: finish them
+    /// first (`bw_shape::tidy`). After `Memory` the tree is gone.
     ///
     /// The tree, its keys and its values should be made on `alloc` too: they stay where they were made, and so do their
     /// copies.
@@ -185,6 +186,12 @@ impl Index {
         ensures recorded { OnOk result (records_before self.old (length ops.now) + length (writes_of 0 ops.now)
             ≤ self.new.records) }
 
+        // The leaves stay, with their ranges, but where pages are split or merged, of which there is a record, too.
+        ensures leaves { OnOk result (self.new.records
+            ≡ records_before self.old (length ops.now) + length (writes_of 0 ops.now) →
+            leaves_of self.new.pages ≡ leaves_of self.old.pages) }
+        ensures kept { OnErr result (leaves_of self.new.pages ≡ leaves_of self.old.pages) }
+
         // Where tidying didn't stop, no page is due any more.
         ensures tidied { IfOk result (λ done. done.tidy.stopped ≡ false → self.new.due ≡ []) }
 
@@ -213,6 +220,7 @@ impl Index {
         ensures fits { OnOk result (next_stamp_of self.new + ops ≤ 2 ^ 40) }
         ensures stamp { OnOk result (next_stamp_of self.new ≡ base_of self.old ops) }
         ensures records { OnOk result (self.new.records ≡ records_before self.old ops) }
+        ensures leaves { leaves_of self.new.pages ≡ leaves_of self.old.pages }
         ensures contents { contents_of self.new ≡ contents_of self.old }
         ensures settings { settings_of self.new ≡ settings_of self.old }
         ensures not_due { is_sweep_due self.old ops ≡ false → self.new ≡ self.old }
@@ -249,6 +257,7 @@ impl Index {
         ensures stamped { OnOk result (next_stamp_of self.new ≡ next_stamp_of self.old + length ops.now) }
         ensures recorded { OnOk result (self.new.records
             ≡ self.old.records + length (writes_of (next_stamp_of self.old) ops.now)) }
+        ensures leaves { OnOk result (leaves_of self.new.pages ≡ leaves_of self.old.pages) }
     {
         // No memory holds so many keys.
         if ops.len() as u64 >= u64::MAX - self.len {
@@ -273,6 +282,7 @@ impl Index {
         ensures settings { settings_of self.new ≡ settings_of self.old }
         ensures stamp { next_stamp_of self.new ≡ next_stamp_of self.old }
         ensures records { self.old.records ≤ self.new.records }
+        ensures leaves { self.new.records ≡ self.old.records → leaves_of self.new.pages ≡ leaves_of self.old.pages }
         ensures tidied { result.stopped ≡ false → self.new.due ≡ [] }
     {
         let limits = self.options.limits();

@@ -27,9 +27,10 @@ use Rattle.bw_steps.specs.Merges.{IsAbsorptionFinishStep, IsAbsorptionStep, IsLo
 use Rattle.bw_steps.specs.Releasing.{AreFreed}
 use Rattle.bw_steps.specs.Steps.{IsConsolidationStep}
 use Rattle.bw_shape.specs.Tidying.{HoldsAll, KeepsWithin}
-use Rattle.bw_shape.specs.Visits.{AreFewTogether, HasRoomOn, KeepsWithinAt}
+use Rattle.bw_shape.specs.Visits.{AreFewTogether, FitsLeft, HasRoomOn, KeepsWithinAt}
 use Rattle.bw_steps.specs.declared.steps.Did.{Did}
 use Rattle.bw_steps.specs.declared.steps.Did.TheVariants.{Done, NotNeeded}
+use Rattle.bw_shape.proofs.LeafLemmas.{lowered_leaves, same_leaves, same_page, same_row}
 use Rattle.bw_shape.proofs.TidyLemmas.{KeepsTidy, few_pairs, held_at, holds_on, tidy_freed, tidy_still}
 
 -- a page above the leaves is no leaf
@@ -72,11 +73,19 @@ joined_within limits (Children level children) (Children other more) bare few = 
 -- the next page was absorbed by its left neighbour
 module _ (old new : TreeView) (page q : ℕ) (m : MayMerge old q page) (h : HasMerged old new q page) where
   pub holds_merged : HoldsAll old new
-  holds_merged = record { contents = held_at old new h.next h.contents; next = h.next; records = omega (arith, h.records); staged = h.staged }
+  holds_merged = record { contents = held_at old new h.next h.contents; next = h.next; records = omega (arith, h.records); leaves = λ same. absurd (omega (arith, same, h.records)); staged = h.staged }
 
   module _ (limits : LimitsView) (few : AreFewTogether limits old page q) where
     few_here : length (body_pairs h.merged.left.body) + length (body_pairs h.merged.right.body) ≤ limits.page_max
-    few_here = omega (arith, few, ap (λ (s : Slot). length (pairs_under s)) h.merged.left_is, ap (λ (s : Slot). length (pairs_under s)) h.merged.right_is)
+    few_here =
+        omega (
+          arith,
+          few,
+          few_pairs (slot_at old.slots q),
+          few_pairs (slot_at old.slots page),
+          ap (λ (s : Slot). length (pairs_under s)) h.merged.left_is,
+          ap (λ (s : Slot). length (pairs_under s)) h.merged.right_is,
+        )
 
     left_within : IsWithin limits (slot_at new.slots q)
     left_within = subst (IsWithin limits) (sym h.merged.joined) (joined_within limits h.merged.left.body h.merged.right.body h.merged.bare few_here)
@@ -124,7 +133,13 @@ pub tidy_dropped : (old new : TreeView) (p : ℕ) (did : Did) → old.staged ≡
 tidy_dropped old new p Done none h =
     let lost = h.1.lost in
     record {
-      holds = record { contents = held_at old new lost.next lost.contents; next = lost.next; records = omega (arith, lost.records); staged = lost.staged };
+      holds = record {
+        contents = held_at old new lost.next lost.contents;
+        next = lost.next;
+        records = omega (arith, lost.records);
+        leaves = λ same. absurd (omega (arith, same, lost.records));
+        staged = lost.staged;
+      };
       within = λ due. within_dropped old new due h.0 h.1.was.removed.low lost;
     }
 tidy_dropped old new p NotNeeded none h = tidy_still old new none h.0
@@ -137,7 +152,13 @@ some_level (ps ∷ levels) r has = omega arith
 -- identifiers that are forgotten are of no leaf
 pub tidy_trimmed : (old new : TreeView) → IsTrimmed old new → KeepsTidy old new
 tidy_trimmed old new trimmed = record {
-  holds = record { contents = held_at old new trimmed.next trimmed.contents; next = trimmed.next; records = omega (arith, trimmed.records); staged = trimmed.staged };
+  holds = record {
+    contents = held_at old new trimmed.next trimmed.contents;
+    next = trimmed.next;
+    records = omega (arith, trimmed.records);
+    leaves = λ same. same_leaves old new (same_row old new trimmed.levels) (λ p has. same_page (slot_at old.slots p) (slot_at new.slots p) (trimmed.pages p));
+    staged = trimmed.staged;
+  };
   within = λ due limits but r leaf.
       subst (λ (s : Slot). Contains due r ⊎ IsWithin limits s) (sym (trimmed.pages r))
       (but r (subst (λ (l : List (List ℕ)). Contains (row l 0) r) trimmed.levels leaf));
@@ -160,14 +181,20 @@ within_lowered old new due child h limits but r leaf = by (but r (row_lowered ol
     by (inl has) = inl has
     by (inr within) = inr (subst (IsWithin limits) (sym (h.removed.others r other)) within)
 
-pub tidy_lowered : (old new : TreeView) (did : Did) → old.staged ≡ None → IsLoweringStep old new did → KeepsTidy old new
-tidy_lowered old new Done none h =
+pub tidy_lowered : (old new : TreeView) (did : Did) → AreLevels old.slots old.root old.levels → old.staged ≡ None → IsLoweringStep old new did → KeepsTidy old new
+tidy_lowered old new Done lawful none h =
     let low = h.1 in
     record {
-      holds = record { contents = held_at old new low.next low.contents; next = low.next; records = omega (arith, low.records); staged = low.staged };
+      holds = record {
+        contents = held_at old new low.next low.contents;
+        next = low.next;
+        records = omega (arith, low.records);
+        leaves = λ same. lowered_leaves old new old.root lawful refl h.0 low;
+        staged = low.staged;
+      };
       within = λ due. within_lowered old new due h.0 low;
     }
-tidy_lowered old new NotNeeded none h = tidy_still old new none h.0
+tidy_lowered old new NotNeeded lawful none h = tidy_still old new none h.0
 
 -- by one level
 pub fewer_levels : (old new : TreeView) (child : ℕ) → 0 < length old.levels → IsLowered old new child → length new.levels < length old.levels
@@ -227,14 +254,12 @@ few_on tree root p lawful few on = by (cases_eq on.level 0)
         let own = own_level tree.slots root tree.levels lawful p on.level on.within on.in_level in
         omega (arith, raised_entries tree (slot_at tree.slots p) (omega (arith, own, raised)))
 
--- a page and its left neighbour have no more pairs than entries
-pub few_together : (limits : LimitsView) (tree : TreeView) (root p q r : ℕ) → AreLevels tree.slots root tree.levels → IsLeft tree p q → slot_entries (slot_at tree.slots q) + slot_entries (slot_at tree.slots p) ≤ limits.page_max → IsLeft tree p r → AreFewTogether limits tree p r
-few_together limits tree root p q r lawful left few other =
-    subst (AreFewTogether limits tree p) (one_left tree root lawful p q r left other)
-    (omega (arith, few, few_pairs (slot_at tree.slots q), few_pairs (slot_at tree.slots p)))
+-- a page has one left neighbour
+pub few_together : (limits : LimitsView) (tree : TreeView) (root p q r : ℕ) → AreLevels tree.slots root tree.levels → IsLeft tree p q → AreFewTogether limits tree p q → IsLeft tree p r → AreFewTogether limits tree p r
+few_together limits tree root p q r lawful left few other = subst (AreFewTogether limits tree p) (one_left tree root lawful p q r left other) few
 
 -- the next page was absorbed, where it has few pairs together with any left neighbour
-pub absorbed_within : (limits : LimitsView) (old new : TreeView) (page : ℕ) (did : Did) (due due' : List ℕ) → did ≡ Done → IsAbsorptionStep old new page did → ((q : ℕ) → IsLeft old page q → AreFewTogether limits old page q) → due ≡ due' ++ page ∷ [] → AreWithinBut limits old due → AreWithinBut limits new due'
+pub absorbed_within : (limits : LimitsView) (old new : TreeView) (page : ℕ) (did : Did) (due due' : List ℕ) → did ≡ Done → IsAbsorptionStep old new page did → FitsLeft limits old page → due ≡ due' ++ page ∷ [] → AreWithinBut limits old due → AreWithinBut limits new due'
 absorbed_within limits old new page did due due' done step few is but =
     let h : IsAbsorptionStep old new page Done = subst (IsAbsorptionStep old new page) done step in
     within_merged old new page h.0 h.1.0 h.1.1 limits (few h.0 (record { level = h.1.0.level; within = h.1.0.within; in_level = h.1.0.in_level }, h.1.0.linked)) due due' is but
@@ -243,5 +268,5 @@ pub tidy_on : (first old new : TreeView) → KeepsTidy first old → KeepsTidy o
 tidy_on first old new a b = record { holds = holds_on first old new a.holds b.holds; within = λ due limits but. b.within due limits (a.within due limits but) }
 
 -- what stays where the root goes, and then identifiers are given back
-pub tidy_lowered_freed : (old mid new : TreeView) (did : Did) → old.staged ≡ None → IsLoweringStep old mid did → AreFreed mid new → KeepsTidy old new
-tidy_lowered_freed old mid new did none lowered freed = tidy_on old mid new (tidy_lowered old mid did none lowered) (tidy_freed mid new freed)
+pub tidy_lowered_freed : (old mid new : TreeView) (did : Did) → AreLevels old.slots old.root old.levels → old.staged ≡ None → IsLoweringStep old mid did → AreFreed mid new → KeepsTidy old new
+tidy_lowered_freed old mid new did lawful none lowered freed = tidy_on old mid new (tidy_lowered old mid did lawful none lowered) (tidy_freed mid new freed)

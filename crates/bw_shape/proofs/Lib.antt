@@ -1,3 +1,4 @@
+pub mod LeafLemmas
 pub mod SweepLemmas
 pub mod PartLemmas
 pub mod TidyLemmas

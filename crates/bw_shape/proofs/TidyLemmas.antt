@@ -8,7 +8,7 @@ use Rattle.std.specs.Prelude.{slice_index}
 use Rattle.bw_key.specs.Order.{KeyBytes}
 use Rattle.bw_chain.specs.Children.{state_with_child}
 use Rattle.bw_chain.specs.Chains.{body_with_child}
-use Rattle.bw_chain.specs.Levels.{row}
+use Rattle.bw_chain.specs.Levels.{AreLevels, row}
 use Rattle.bw_chain.specs.Reading.{body_pairs, body_writes, pairs_under, writes_over}
 use Rattle.bw_chain.specs.Roots.{levels_grown}
 use Rattle.bw_chain.specs.Searches.{IsInLevels}
@@ -29,36 +29,44 @@ use Rattle.bw_steps.specs.Steps.{HasLostChain, IsFinishStep, IsFinished, IsRootS
 use Rattle.bw_tree.specs.Consolidation.{IsRebased}
 use Rattle.bw_steps.specs.declared.steps.Did.{Did}
 use Rattle.bw_steps.specs.declared.steps.Did.TheVariants.{Done, NotNeeded}
+use Rattle.bw_shape.proofs.LeafLemmas.{freed_leaves, grown_leaves, same_leaves, same_row}
 use Rattle.bw_shape.proofs.SweepLemmas.{chain_plain, free_within, still_plain}
 use Rattle.bw_steps.proofs.TakenLemmas.{cases_free}
 
 -- what the tree holds
 pub holds_itself : (tree : TreeView) → tree.staged ≡ None → HoldsAll tree tree
-holds_itself tree none = record { contents = refl; next = refl; records = omega arith; staged = none }
+holds_itself tree none = record { contents = refl; next = refl; records = omega arith; leaves = λ same. refl; staged = none }
 
 pub holds_on : (first old new : TreeView) → HoldsAll first old → HoldsAll old new → HoldsAll first new
 holds_on first old new a b = record {
   contents = b.contents ∙ a.contents;
   next = b.next ∙ a.next;
   records = omega (arith, a.records, b.records);
+  leaves = λ same. b.leaves (omega (arith, same, a.records, b.records)) ∙ a.leaves (omega (arith, same, a.records, b.records));
   staged = b.staged;
 }
 
 pub holds_same : (old new : TreeView) → HoldsSame old new → HoldsAll old new
-holds_same old new h = record { contents = h.contents; next = h.next; records = omega (arith, h.records); staged = h.staged }
+holds_same old new h = record {
+  contents = h.contents;
+  next = h.next;
+  records = omega (arith, h.records);
+  leaves = λ same. same_leaves old new (same_row old new h.levels) (λ p has. record { low = (h.bounds p).low; high = (h.bounds p).high });
+  staged = h.staged;
+}
 
 -- where a step keeps what it holds as of every stamp
 pub held_at : (old new : TreeView) → new.next ≡ old.next → ((stamp : ℕ) → contents_at new stamp ≡ contents_at old stamp) → contents_at new new.next ≡ contents_at old old.next
 held_at old new next contents = ap (contents_at new) next ∙ contents old.next
 
 pub holds_split : (old new : TreeView) (p keep q : ℕ) → IsSplit old new p keep q → HoldsAll old new
-holds_split old new p keep q h = record { contents = held_at old new h.next h.contents; next = h.next; records = omega (arith, h.records); staged = h.staged }
+holds_split old new p keep q h = record { contents = held_at old new h.next h.contents; next = h.next; records = omega (arith, h.records); leaves = λ same. absurd (omega (arith, same, h.records)); staged = h.staged }
 
 pub holds_named : (old new : TreeView) (parent : ℕ) (sep : KeyBytes) (child : ℕ) → IsNamed old new parent sep child → HoldsAll old new
-holds_named old new parent sep child h = record { contents = held_at old new h.next h.contents; next = h.next; records = omega (arith, h.records); staged = h.staged }
+holds_named old new parent sep child h = record { contents = held_at old new h.next h.contents; next = h.next; records = omega (arith, h.records); leaves = λ same. absurd (omega (arith, same, h.records)); staged = h.staged }
 
-pub holds_root : (old new : TreeView) (t : ℕ) → HasNewRoot old new t → HoldsAll old new
-holds_root old new t h = record { contents = held_at old new h.next h.contents; next = h.next; records = omega (arith, h.records); staged = h.staged }
+pub holds_root : (old new : TreeView) (root t : ℕ) → AreLevels old.slots root old.levels → HasNewRoot old new t → HoldsAll old new
+holds_root old new root t lawful h = record { contents = held_at old new h.next h.contents; next = h.next; records = omega (arith, h.records); leaves = λ same. grown_leaves old new root lawful t h; staged = h.staged }
 
 pub next_due : (due : List ℕ) (p : ℕ) → IsNext due p → Contains due p
 next_due due p next = subst (λ (l : List ℕ). Contains l p) (sym next.1) (Contains-push next.0 p)
@@ -227,7 +235,7 @@ tidy_still old new none is = subst (KeepsTidy old) (sym is) (record { holds = ho
 
 tidy_rebased : (old new : TreeView) (p : ℕ) → old.staged ≡ None → IsRebased old new p → KeepsTidy old new
 tidy_rebased old new p none h = subst (KeepsTidy old) (sym h.view) (record {
-  holds = record { contents = refl; next = refl; records = omega arith; staged = none };
+  holds = record { contents = refl; next = refl; records = omega arith; leaves = λ same. refl; staged = none };
   within = λ due limits but. but;
 })
 
@@ -238,7 +246,7 @@ tidy_same IsOne old new none (inr page) = tidy_rebased old new page.0 none page.
 -- identifiers that are given back are of no leaf
 pub tidy_freed : (old new : TreeView) → AreFreed old new → KeepsTidy old new
 tidy_freed old new h = record {
-  holds = record { contents = held_at old new h.next h.contents; next = h.next; records = omega (arith, h.records); staged = h.staged };
+  holds = record { contents = held_at old new h.next h.contents; next = h.next; records = omega (arith, h.records); leaves = λ same. freed_leaves old new h; staged = h.staged };
   within = λ due limits but r leaf. by due limits r (cases_free (slot_at new.slots r)) (but r (subst (λ (l : List (List ℕ)). Contains (row l 0) r) h.levels leaf));
 }
   where
@@ -255,20 +263,26 @@ tidy_named old new p parent h = record {
 
 pub tidy_all_named : (old new : TreeView) (p parent : ℕ) → AreFinished old new p parent → KeepsTidy old new
 tidy_all_named old new p parent h = record {
-  holds = record { contents = held_at old new h.named.next h.named.contents; next = h.named.next; records = omega (arith, h.named.records); staged = h.named.staged };
+  holds = record {
+    contents = held_at old new h.named.next h.named.contents;
+    next = h.named.next;
+    records = omega (arith, h.named.records);
+    leaves = λ same. absurd (omega (arith, same, h.named.records, h.some));
+    staged = h.named.staged;
+  };
   within = λ due. within_all_named old new due parent h.entries h.named;
 }
 
-tidy_root : (old new : TreeView) (did : Did) → old.staged ≡ None → IsRootStep old new did → KeepsTidy old new
-tidy_root old new Done none h = record {
-  holds = holds_root old new h.0 h.1;
+pub tidy_root : (old new : TreeView) (root : ℕ) (did : Did) → AreLevels old.slots root old.levels → old.staged ≡ None → IsRootStep old new did → KeepsTidy old new
+tidy_root old new root Done lawful none h = record {
+  holds = holds_root old new root h.0 lawful h.1;
   within = λ due. within_root old new due h.0 h.1;
 }
-tidy_root old new NotNeeded none h = tidy_still old new none h.0
+tidy_root old new root NotNeeded lawful none h = tidy_still old new none h.0
 
 -- a root that grows where nothing was left to be named
-pub tidy_after : (old mid new : TreeView) (did : Did) → old.staged ≡ None → mid ≡ old → IsRootStep mid new did → KeepsTidy old new
-tidy_after old mid new did none is step = subst (λ (v : TreeView). KeepsTidy v new) is (tidy_root mid new did (ap (λ (v : TreeView). v.staged) is ∙ none) step)
+pub tidy_after : (old mid new : TreeView) (root : ℕ) (did : Did) → AreLevels mid.slots root mid.levels → old.staged ≡ None → mid ≡ old → IsRootStep mid new did → KeepsTidy old new
+tidy_after old mid new root did lawful none is step = subst (λ (v : TreeView). KeepsTidy v new) is (tidy_root mid new root did lawful (ap (λ (v : TreeView). v.staged) is ∙ none) step)
 
 -- a page that was consolidated
 pub bare_lost : (old new : TreeView) (p : ℕ) → old.staged ≡ None → HasLostChain old new p → IsBare old new p

@@ -7,6 +7,7 @@ use Rattle.bw_tree.specs.Children.{HasNoUnnamed}
 use Rattle.bw_steps.specs.Naming.{AreFinished}
 use Rattle.bw_steps.specs.Steps.{IsRootStep}
 use Rattle.bw_steps.specs.declared.steps.Did.{Did}
+use Rattle.bw_shape.specs.Leaves.{leaf_ranges}
 use Rattle.bw_shape.specs.Limits.{LimitsView, AreWithinBut}
 
 -- The pages that are to be looked at, the next one last; the inner pages to look at behind those, the first one first;
@@ -17,11 +18,13 @@ pub record DueView : Type 0 where
   pub above : List ℕ
   pub unfinished : Option ℕ
 
--- the tree holds what it held as of its next stamp, which is the same; it has no fewer records, and nothing is staged
+-- The tree holds what it held as of its next stamp, which is the same, and nothing is staged. It has no fewer records; where it
+-- has no more, its leaves are the same, with the same ranges: each split puts a record, and each merge two.
 pub record HoldsAll (old new : TreeView) : Type 0 where
   pub contents : contents_at new new.next ≡ contents_at old old.next
   pub next : new.next ≡ old.next
   pub records : old.records ≤ new.records
+  pub leaves : new.records ≡ old.records → leaf_ranges new ≡ leaf_ranges old
   pub staged : new.staged ≡ None
 
 -- the pages of two lists, and no others

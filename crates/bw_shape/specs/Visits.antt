@@ -2,9 +2,10 @@
 use Rattle.std.specs.Prelude.{◌≡◌, ℕ, Bool, true, false, ◌+◌, ◌*◌, ◌-◌, ◌≤◌, ◌<◌, ◌^◌, ◌⊎◌, ◌/◌, List, [], ◌∷◌, ◌++◌, None, length, drop, slice_index}
 use Rattle.std.specs.List.{Contains}
 use Rattle.bw_chain.specs.Levels.{row}
-use Rattle.bw_chain.specs.Reading.{pairs_under, writes_over}
+use Rattle.bw_chain.specs.Reading.{writes_over}
 use Rattle.bw_chain.specs.Slots.{Slot, slot_at}
 use Rattle.bw_chain.specs.Splits.{slot_entries}
+use Rattle.bw_tree.specs.Pages.{IsLeft}
 use Rattle.bw_tree.specs.Routing.{IsInLevel}
 use Rattle.bw_tree.specs.Shapes.{pairs_on}
 use Rattle.bw_tree.specs.Splits.{IsSplit, IsSplittable}
@@ -39,10 +40,18 @@ HasShortChain limits tree p =
 abbrev pub HasRoomOn : LimitsView → TreeView → ℕ → Type 0
 HasRoomOn limits tree p = pairs_on tree (slot_at tree.slots p) ≤ limits.page_max
 
--- two pages have no more pairs together than one page may have
+-- two pages have no more entries together, under the writes over them, than one page may have
 abbrev pub AreFewTogether : LimitsView → TreeView → ℕ → ℕ → Type 0
 AreFewTogether limits tree p q =
-    length (pairs_under (slot_at tree.slots q)) + length (pairs_under (slot_at tree.slots p)) ≤ limits.page_max
+    slot_entries (slot_at tree.slots q) + slot_entries (slot_at tree.slots p) ≤ limits.page_max
+
+-- so have a page and its left neighbour, if it has one
+abbrev pub FitsLeft : LimitsView → TreeView → ℕ → Type 0
+FitsLeft limits tree p = (q : ℕ) → IsLeft tree p q → AreFewTogether limits tree p q
+
+-- a page has more entries, under the writes over it, than it may have
+abbrev pub HasMany : LimitsView → TreeView → ℕ → Type 0
+HasMany limits tree p = limits.page_max < slot_entries (slot_at tree.slots p)
 
 -- whichever pages are due, each leaf is within these limits or due, if that was so
 abbrev pub KeepsWithinAt : LimitsView → TreeView → TreeView → Type 0

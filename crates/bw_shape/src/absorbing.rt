@@ -1,16 +1,15 @@
 // Pages with too few entries are merged into their left neighbours.
-ghost use Rattle.std.specs.Prelude.{◌≡◌, ℕ, ◌+◌, ◌<◌, ◌≤◌, false, true, List, None, length, IfOk, MatchOption, OnOk};
+ghost use Rattle.std.specs.Prelude.{◌≡◌, ◌<◌, true, None, length, IfOk, MatchOption, OnOk};
 ghost use Rattle.std.specs.List.{Contains};
 ghost use Rattle.bw_chain.specs.Levels.{row};
 ghost use Rattle.bw_chain.specs.Searches.{IsInLevels};
 ghost use Rattle.bw_chain.specs.Slots.{slot_at};
-ghost use Rattle.bw_tree.specs.Pages.{IsLeft};
 ghost use Rattle.bw_tree.specs.Routing.{IsInLevel};
 ghost use Rattle.bw_tree.specs.Shapes.{pairs_on};
 ghost use Rattle.bw_shape.specs.Limits.{AreWithinBut, IsWithin};
 ghost use Rattle.bw_shape.specs.Sweeps.{HoldsSame};
 ghost use Rattle.bw_shape.specs.Tidying.{HoldsAll};
-ghost use Rattle.bw_shape.specs.Visits.{AreFewTogether, HasAbsorbed, HasRoomOn, IsNext, IsSmall, KeepsWithinAt};
+ghost use Rattle.bw_shape.specs.Visits.{FitsLeft, HasAbsorbed, HasRoomOn, IsNext, IsSmall, KeepsWithinAt};
 
 use crate::due::Due;
 use crate::halving::{bare, part_all};
@@ -146,6 +145,7 @@ fn absorb_next(
     ensures holds { HoldsAll tree.old tree.new }
     ensures within { AreWithinBut limits.now tree.new due.new.pages }
     ensures ok { IfOk result (HasAbsorbed tree.old tree.new due.old due.new) }
+    ensures few { IfOk result (λ merged. merged ≡ true → FitsLeft limits.now tree.old page) }
 {
     tree.know_levels();
     tree.know_records();
@@ -165,10 +165,10 @@ fn absorb_next(
     }
 }
 
-// Whether a page has a left neighbour, and the two have no more entries under their writes than a page may have.
+// Whether a page has a left neighbour, and the two have no more entries, under the writes over them, than a page may have.
 fn are_few(tree: &Tree, limits: &Limits, page: PageId) -> bool
     requires { page < length tree.now.heads }
-    ensures { result ≡ true → (q : ℕ) → IsLeft tree.now page q → AreFewTogether limits.now tree.now page q }
+    ensures { result ≡ true → FitsLeft limits.now tree.now page }
 {
     tree.know_levels();
     tree.know_records();

@@ -295,6 +295,7 @@ impl Due {
             mark(&mut self.above, tree, parent);
             return Ok(());
         }
+        tree.know_levels();
         grow_root(tree)?;
         Ok(())
     }

@@ -5,7 +5,7 @@ ghost use Rattle.bw_tree.specs.Routing.{IsInLevel};
 ghost use Rattle.bw_tree.specs.Splits.{IsSplittable};
 ghost use Rattle.bw_shape.specs.Limits.{AreWithinBut};
 ghost use Rattle.bw_shape.specs.Tidying.{HoldsAll, KeepsWithin};
-ghost use Rattle.bw_shape.specs.Visits.{HasPassed, IsBare, IsHalved, IsNext, IsPart, StandBefore};
+ghost use Rattle.bw_shape.specs.Visits.{HasMany, HasPassed, IsBare, IsHalved, IsNext, IsPart, StandBefore};
 
 use crate::due::Due;
 use crate::limits::Limits;
@@ -227,6 +227,7 @@ fn part(
     ensures holds { HoldsAll tree.old tree.new }
     ensures within { AreWithinBut limits.now tree.new due.new.pages }
     ensures ok { IfOk result (IsPart tree.old tree.new due.old due.new page) }
+    ensures many { IfOk result (λ split. split ≡ true → HasMany limits.now tree.old page) }
 {
     tree.know_levels();
     tree.know_records();

@@ -1,6 +1,6 @@
 //! Restructuring of a Bw-tree (ICDE 2013). Tidying takes the steps of `bw_steps` that keep the pages that it looks at within
 //! limits. A sweep goes over all pages, so that records and stamps can start over.
-#![tactic(auto)]
+#![tactic(auto, using(crate::proofs::TidyLemmas::holds_on))]
 
 mod absorbing;
 mod due;

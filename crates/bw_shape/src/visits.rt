@@ -140,6 +140,7 @@ fn is_small(tree: &Tree, limits: &Limits, page: PageId) -> bool
     requires { page < length tree.now.heads }
     ensures small { result ≡ true → IsSmall limits.now (slot_at tree.now.slots page) }
     ensures few { result ≡ true → slot_entries (slot_at tree.now.slots page) ≤ limits.now.page_max }
+    ensures enough { result ≡ false → IsSmall limits.now (slot_at tree.now.slots page) → ⊥ }
 {
     (tree.entries(page) as u64) < limits.page_min()
 }
@@ -149,6 +150,7 @@ pub(crate) fn is_over(tree: &Tree, limits: &Limits, page: PageId) -> bool
     ensures over { result ≡ true → IsOver limits.now (slot_at tree.now.slots page) }
     ensures within { result ≡ false → Contains (row tree.now.levels 0) page →
         IsWithin limits.now (slot_at tree.now.slots page) }
+    ensures not { result ≡ false → page < length tree.now.heads → IsOver limits.now (slot_at tree.now.slots page) → ⊥ }
 {
     tree.know_records();
     (page.0 as usize) < tree.heads().len()

@@ -60,6 +60,7 @@ fn finish_all(tree: &mut Tree) -> Result<Due, Memory>
     finish_merges(tree)?;
     let leaves = leaf_pages(tree)?;
     let inner = inner_pages(*leaves.allocator(), tree)?;
+    tree.know_levels();
     grow_root(tree)?;
     finish_each(tree, &leaves)?;
     finish_each(tree, &inner)?;

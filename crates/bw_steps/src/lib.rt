@@ -1,6 +1,6 @@
 //! Restructuring of a Bw-tree, step by step (ICDE 2013): a chain is consolidated, a page split or merged, a root grows or
-//! goes, an identifier is given back. A step asks first whether it is needed, and changes nothing where it isn't; each leaves
-//! what the tree holds.
+//! goes, an identifier is given back. A step that answers `Did` asks first whether it is needed, and changes nothing where it
+//! isn't; each leaves what the tree holds.
 #![tactic(auto)]
 
 mod merges;
@@ -14,3 +14,12 @@ pub use release_runs::{release_all, release_run};
 pub use releasing::release;
 pub use right_neighbours::name_rights;
 pub use steps::{Did, consolidate, finish_split, grow_root, lose_chain, may_part, split};
+
+/// Out of memory.
+pub use bw_key::Memory;
+/// The memory that lists of pages are made on.
+pub use bw_memory::Alloc;
+/// The names of pages.
+pub use bw_page::PageId;
+/// The tree.
+pub use bw_tree::Tree;

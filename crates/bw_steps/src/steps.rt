@@ -44,7 +44,8 @@ pub fn consolidate(tree: &mut Tree, page: PageId) -> Result<Did, Memory>
     Ok(Did::Done)
 }
 
-/// Consolidates a page of a level that has a record.
+/// Consolidates a page of a level that has a record. It costs what `consolidate` does, without the search. After `Memory` the
+/// tree is as before.
 pub fn lose_chain(tree: &mut Tree, page: PageId, level: u32) -> Result<(), Memory>
     requires none { tree.old.staged ≡ None }
     requires page { IsInLevel tree.old page level }

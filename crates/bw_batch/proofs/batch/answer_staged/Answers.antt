@@ -6,6 +6,7 @@ use Rattle.bw_tree.specs.View.{contents_at}
 use Rattle.bw_shape.specs.Tidying.{HasBoth}
 use Rattle.bw_batch.proofs.BatchLemmas.{start_adopted}
 use Rattle.bw_batch.proofs.DueLemmas.{within_posted}
+use Rattle.bw_batch.proofs.LeavesLemmas.{posted_leaves}
 use Rattle.bw_batch.proofs.batch.answer_staged.Goals as goal
 
 pub replies-requires-clause-homes : goal.replies-requires-clause-homes
@@ -23,3 +24,6 @@ returns-clause-within g c =
     within_posted c.args.tree.now c.adopt_on.new.self c.in_ok-homes.field-0.pages.items c.in_ok-homes.field-0.closed.heads c.in_ok-homes.field-0.closed.links c.args.due.now.pages c.add_written.new.due.pages
     (subst (λ (l : List ℕ). HasBoth l c.args.due.now.pages c.add_written.new.due.pages) (c.in_ok-written.ensures.items ∙ c.deref.ensures.value) c.in_ok-add_written.ensures.ok)
     c.in_ok-homes.ensures.posted c.adopt_on.ensures.levels c.adopt_on.ensures.pages c.adopt_on.ensures.writes
+
+pub returns-clause-leaves : goal.returns-clause-leaves
+returns-clause-leaves g c = posted_leaves c.args.tree.now c.adopt_on.new.self c.adopt_on.ensures.levels c.adopt_on.ensures.pages

@@ -5,6 +5,7 @@ use Rattle.bw_model.specs.declared.operations.Op.{Op}
 use Rattle.bw_tree.specs.View.{TreeView, contents_with, staged_writes}
 use Rattle.bw_batch.proofs.BatchLemmas.{accepted_as, first_read, reads_on}
 use Rattle.bw_batch.proofs.DueLemmas.{within_batch}
+use Rattle.bw_batch.proofs.LeavesLemmas.{batch_leaves}
 use Rattle.bw_batch.proofs.batch.run_batch.Goals as goal
 
 pub answer_staged-requires-clause-reads : goal.answer_staged-requires-clause-reads
@@ -44,3 +45,7 @@ returns-in-Ok-clause-recorded g c =
 pub returns-in-Ok-clause-within : goal.returns-in-Ok-clause-within
 returns-in-Ok-clause-within g c =
     within_batch c.args.tree.now c.stage.new.self c.answer_staged.new.tree c.accept.new.self c.args.ops.now c.args.due.now.pages c.answer_staged.new.due.pages c.in_ok-stage.ensures.ok c.accept.ensures c.in-Ok.ensures.within
+
+pub returns-in-Ok-clause-leaves : goal.returns-in-Ok-clause-leaves
+returns-in-Ok-clause-leaves g c =
+    batch_leaves c.args.tree.now c.stage.new.self c.answer_staged.new.tree c.accept.new.self c.args.ops.now c.in_ok-stage.ensures.ok c.accept.ensures c.in-Ok.ensures.leaves

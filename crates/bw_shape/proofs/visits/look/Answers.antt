@@ -3,7 +3,7 @@ use Rattle.std.proofs.lemmas.List.{length-append}
 use Rattle.bw_chain.specs.Slots.{slot_at}
 use Rattle.bw_chain.specs.Splits.{slot_entries}
 use Rattle.bw_shape.specs.Limits.{AreWithinBut}
-use Rattle.bw_shape.proofs.TidyLemmas.{few_within, within_bare, within_pass}
+use Rattle.bw_shape.proofs.TidyLemmas.{few_within, holds_on, holds_same, within_bare, within_pass}
 use Rattle.bw_shape.proofs.visits.look.Goals as goal
 
 pub is_small-requires : goal.is_small-requires
@@ -31,3 +31,9 @@ pub part_all-requires-clause-within : goal.part_all-requires-clause-within
 part_all-requires-clause-within c =
     subst (AreWithinBut c.args.limits.now c.bare.new.tree) (sym c.end_leaf.ensures.pages)
     (within_bare c.args.tree.now c.bare.new.tree c.args.due.now.pages c.args.page c.in_ok-bare.ensures.ok c.requires.next c.args.limits.now c.requires.within)
+
+pub returns-clause-holds : goal.returns-clause-holds
+returns-clause-holds c =
+    let old = c.args.tree.now in
+    let mid = c.bare.new.tree in
+    holds_on old mid c.part_all.new.tree (holds_same old mid c.in_ok-bare.ensures.ok.same) c.part_all.ensures.holds

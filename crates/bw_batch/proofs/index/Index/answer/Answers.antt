@@ -5,6 +5,7 @@ use Rattle.bw_batch.specs.Lens.{key_count}
 use Rattle.bw_batch.specs.Settings.{limits_of}
 use Rattle.bw_batch.proofs.DueLemmas.{within_answered}
 use Rattle.bw_batch.proofs.LenLemmas.{replies_length}
+use Rattle.bw_batch.proofs.LeavesLemmas.{same_listed}
 use Rattle.bw_batch.proofs.index.Index.answer.Goals as goal
 
 pub len_after-self-inside-requires-clause-alike : goal.len_after-self-inside-requires-clause-alike
@@ -21,3 +22,6 @@ invariant_of-self-2 g c =
       ap key_count c.in_ok-answered.ensures.contents
           ∙ sym (c.len_after-self-inside.ensures (contents_at tree tree.next) c.self.invariant.2 (c.as_slice.ensures ∙ c.in_ok-answered.ensures.replies)),
     )
+
+pub returns-clause-leaves : goal.returns-clause-leaves
+returns-clause-leaves g c = rw (← c.self.view_is) (same_listed c.self.inside.tree c.run_batch.new.tree c.in_ok-answered.ensures.leaves)

@@ -1,4 +1,4 @@
-use Rattle.std.proofs.Common.{arith, subst, ◌≤◌}
+use Rattle.std.proofs.Common.{arith, subst, ◌≤◌, ◌∙◌}
 use Rattle.bw_core.specs.Keeping.{pairs_of}
 use Rattle.bw_batch.specs.View.{next_stamp_of}
 use Rattle.bw_batch.proofs.OutcomesLemmas.{same_writes}
@@ -17,3 +17,17 @@ returns-clause-recorded g c =
 pub returns-clause-lost : goal.returns-clause-lost
 returns-clause-lost g c =
     subst (λ n. c.in_ok-replies.field-0.lost ≤ pairs_of n) (same_writes c.args.ops.now (next_stamp_of c.make_room.new.self) (next_stamp_of c.args.self.now)) c.in_ok-replies.ensures.lost
+
+pub returns-clause-leaves : goal.returns-clause-leaves
+returns-clause-leaves g c = λ same.
+    c.tidy-tidy.ensures.leaves
+    (omega (
+      arith,
+      same,
+      c.tidy-tidy.ensures.records,
+      c.in_ok-replies.ensures.recorded,
+      c.in_ok-make_room.ensures.records,
+      same_writes c.args.ops.now (next_stamp_of c.make_room.new.self) 0,
+    ))
+    ∙ c.in_ok-replies.ensures.leaves
+    ∙ c.make_room.ensures.leaves

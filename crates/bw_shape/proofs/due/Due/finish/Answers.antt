@@ -26,4 +26,11 @@ returns-clause-within c =
     let new = c.grow_root.new.tree in
     let not : IsFinishStep old mid c.args.page NotNeeded = subst (Outcome old mid c.args.page) c.in_default.is c.in_ok-parent.ensures.ok in
     subst (λ (d : DueView). KeepsWithin old new c.args.self.now.pages d.pages) (sym c.self.view_is)
-    ((tidy_after old mid new c.in_ok-grow_root.field-0 c.requires not.0 c.in_ok-grow_root.ensures.ok).within c.args.self.now.pages)
+    ((tidy_after old mid new mid.root c.in_ok-grow_root.field-0 c.know_levels.ensures.lawful c.requires not.0 c.in_ok-grow_root.ensures.ok).within c.args.self.now.pages)
+
+pub returns-clause-holds : goal.returns-clause-holds
+returns-clause-holds c =
+    let old = c.args.tree.now in
+    let mid = c.name_rights.new.tree in
+    let not : IsFinishStep old mid c.args.page NotNeeded = subst (Outcome old mid c.args.page) c.in_default.is c.in_ok-parent.ensures.ok in
+    (tidy_after old mid c.grow_root.new.tree mid.root c.in_ok-grow_root.field-0 c.know_levels.ensures.lawful c.requires not.0 c.in_ok-grow_root.ensures.ok).holds

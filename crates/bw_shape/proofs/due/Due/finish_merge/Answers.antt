@@ -14,3 +14,6 @@ returns-clause-within c =
     let pages = c.release_from-2.ensures.pages ∙ ap (λ (d : DueView). d.pages) c.self.view_is in
     subst (KeepsWithin old new c.args.self.now.pages) (sym pages)
     ((tidy_on old mid new dropped released).within c.args.self.now.pages)
+
+pub returns-in_default-clause-holds : goal.returns-in_default-clause-holds
+returns-in_default-clause-holds c = (tidy_freed c.args.tree.now c.release_from.new.tree c.release_from.ensures.freed).holds
