@@ -271,24 +271,39 @@ fn shown(alloc: Alloc, world: &World) -> Result<String<Alloc>, AllocError> {
     Ok(text)
 }
 
+// Compares the text of a world.
+fn is_shown(rt: &impl Abort, alloc: Alloc, world: &World, wanted: &str) {
+    let text = shown(alloc, world).expect(rt, "memory");
+    assert_equal(rt, text.as_str(), wanted);
+}
+
+// Compares the records of a page's chain, the newest first.
+fn has_fresh(rt: &impl Abort, world: &World, page: u64, wanted: &[u64]) {
+    assert!(rt; page < world.first().len() as u64);
+    let fresh = world.fresh(page).expect(rt, "memory");
+    assert_that(rt, fresh.as_slice() == wanted);
+}
+
 #[test]
 fn two_seats_post_to_one_page(rt: HostRuntime) {
     let alloc = counted(rt.alloc()).expect(&rt, "memory");
     let mut world = World::start(alloc, &[7], FLOOR, 2, 1, &[None]).expect(&rt, "memory");
     play(&rt, &mut world, &TWO_POSTS);
     play(&rt, &mut world, &NOT_ALLOWED);
-    let text = shown(alloc, &world).expect(&rt, "memory");
-    assert!(rt;
-        text.as_str()
-            == "heads [4294967296] links [4294967297, 7] next 2\nbook true 512 false owns 0..1 posted 0 to 0 lost 1 saw [0, 1] over [7]\nbook true 512 false owns 1..2 posted 1 to 0 lost 0 saw [1] over [7]"
+    is_shown(
+        &rt,
+        alloc,
+        &world,
+        "heads [4294967296] links [4294967297, 7] next 2\nbook true 512 false owns 0..1 posted 0 to 0 lost 1 saw [0, 1] over [7]\nbook true 512 false owns 1..2 posted 1 to 0 lost 0 saw [1] over [7]",
     );
-    assert!(rt; world.first() == [7].as_slice());
-    assert!(rt; world.fresh(0).expect(&rt, "memory").as_slice() == [0, 1].as_slice());
+    assert_that(&rt, world.first() == [7].as_slice());
+    has_fresh(&rt, &world, 0, &[0, 1]);
     play(&rt, &mut world, &JOINED);
-    let text = shown(alloc, &world).expect(&rt, "memory");
-    assert!(rt;
-        text.as_str()
-            == "heads [4294967296] links [4294967297, 7] next 2\nbook true 1024 false owns 0..1 owns 1..2 posted 0 to 0 lost 1 posted 1 to 0 lost 0 saw [0, 1] over [7]\nbook false 0 false over []"
+    is_shown(
+        &rt,
+        alloc,
+        &world,
+        "heads [4294967296] links [4294967297, 7] next 2\nbook true 1024 false owns 0..1 owns 1..2 posted 0 to 0 lost 1 posted 1 to 0 lost 0 saw [0, 1] over [7]\nbook false 0 false over []",
     );
 }
 
@@ -297,10 +312,10 @@ fn a_first_word_is_replaced(rt: HostRuntime) {
     let alloc = counted(rt.alloc()).expect(&rt, "memory");
     let mut world = World::start(alloc, &[7], FLOOR, 1, 1, &[Some(5)]).expect(&rt, "memory");
     play(&rt, &mut world, &REPLACED);
-    let text = shown(alloc, &world).expect(&rt, "memory");
-    assert_equal(
+    is_shown(
         &rt,
-        text.as_str(),
+        alloc,
+        &world,
         "heads [4294967296] links [5] next 1\nbook true 512 false tried 0 true saw [] over [5]\nbook true 512 false owns 0..1 posted 0 to 0 lost 1 saw [0] over [5]",
     );
 }
@@ -310,10 +325,10 @@ fn a_replacement_is_late(rt: HostRuntime) {
     let alloc = counted(rt.alloc()).expect(&rt, "memory");
     let mut world = World::start(alloc, &[7], FLOOR, 1, 1, &[Some(5)]).expect(&rt, "memory");
     play(&rt, &mut world, &LATE);
-    let text = shown(alloc, &world).expect(&rt, "memory");
-    assert_equal(
+    is_shown(
         &rt,
-        text.as_str(),
+        alloc,
+        &world,
         "heads [4294967296] links [7] next 1\nbook true 512 false owns 0..1 posted 0 to 0 lost 0 saw [0] over [7]\nbook true 512 false tried 0 false saw [0] over [7]",
     );
 }
@@ -323,10 +338,10 @@ fn pieces_and_widths(rt: HostRuntime) {
     let alloc = counted(rt.alloc()).expect(&rt, "memory");
     let mut world = World::start(alloc, &[7], FLOOR, 5, 2, &[None]).expect(&rt, "memory");
     play(&rt, &mut world, &PIECES);
-    let text = shown(alloc, &world).expect(&rt, "memory");
-    assert_equal(
+    is_shown(
         &rt,
-        text.as_str(),
+        alloc,
+        &world,
         "heads [7] links [0, 0, 0, 0, 0] next 8\nbook true 1024 true owns 0..2 owns 2..4 owns 4..5 saw [] over [7]",
     );
     play(&rt, &mut world, &SPLITS);
@@ -421,10 +436,10 @@ fn a_list_of_events_is_replayed(rt: HostRuntime) {
         },
     ];
     let world = World::replay(alloc, &[7], FLOOR, 1, 1, &[None], &events).expect(&rt, "memory");
-    let text = shown(alloc, &world).expect(&rt, "memory");
-    assert_equal(
+    is_shown(
         &rt,
-        text.as_str(),
+        alloc,
+        &world,
         "heads [7] links [7] next 1\nbook true 1024 false owns 0..1 under 0 to 0 lost 0 armed true saw [] over [7]",
     );
 }

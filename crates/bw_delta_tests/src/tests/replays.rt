@@ -26,34 +26,47 @@ fn last(alloc: Alloc, replay: &Replay, high: &Key, most: u64) -> Result<Pairs, M
     Ok(read)
 }
 
+// Compares the first pairs of a replay from a key on.
+fn has_first<R: Abort>(
+    rt: &R,
+    alloc: Alloc,
+    replay: &Replay,
+    low: &[u8],
+    most: u64,
+    wanted: &[(&'static [u8], &'static [u8])],
+) {
+    let low = key(alloc, low).expect(rt, "memory");
+    let pairs = first(alloc, replay, &low, most).expect(rt, "memory");
+    assert_that(rt, are(&pairs, wanted));
+}
+
+// Compares the last pairs of a replay below a key.
+fn has_last<R: Abort>(
+    rt: &R,
+    alloc: Alloc,
+    replay: &Replay,
+    high: &[u8],
+    most: u64,
+    wanted: &[(&'static [u8], &'static [u8])],
+) {
+    let high = key(alloc, high).expect(rt, "memory");
+    let pairs = last(alloc, replay, &high, most).expect(rt, "memory");
+    assert_that(rt, are(&pairs, wanted));
+}
+
 // Compares the first pairs of a leaf of all keys with a 1 and b 2.
 fn compare_firsts<R: Abort>(rt: &R, alloc: Alloc, replay: &Replay) {
-    let (a, b) = (
-        key(alloc, b"a").expect(rt, "memory"),
-        key(alloc, b"b").expect(rt, "memory"),
-    );
-    let pairs = first(alloc, replay, &a, 9).expect(rt, "memory");
-    assert_that(rt, are(&pairs, &[(b"a", b"1"), (b"b", b"2")]));
-    let pairs = first(alloc, replay, &a, 1).expect(rt, "memory");
-    assert_that(rt, are(&pairs, &[(b"a", b"1")]));
-    let pairs = first(alloc, replay, &b, 9).expect(rt, "memory");
-    assert_that(rt, are(&pairs, &[(b"b", b"2")]));
-    let pairs = first(alloc, replay, &b, 0).expect(rt, "memory");
-    assert_that(rt, are(&pairs, &[]));
+    has_first(rt, alloc, replay, b"a", 9, &[(b"a", b"1"), (b"b", b"2")]);
+    has_first(rt, alloc, replay, b"a", 1, &[(b"a", b"1")]);
+    has_first(rt, alloc, replay, b"b", 9, &[(b"b", b"2")]);
+    has_first(rt, alloc, replay, b"b", 0, &[]);
 }
 
 // Compares the last pairs of that leaf.
 fn compare_lasts<R: Abort>(rt: &R, alloc: Alloc, replay: &Replay) {
-    let (b, c) = (
-        key(alloc, b"b").expect(rt, "memory"),
-        key(alloc, b"c").expect(rt, "memory"),
-    );
-    let pairs = last(alloc, replay, &c, 9).expect(rt, "memory");
-    assert_that(rt, are(&pairs, &[(b"b", b"2"), (b"a", b"1")]));
-    let pairs = last(alloc, replay, &b, 9).expect(rt, "memory");
-    assert_that(rt, are(&pairs, &[(b"a", b"1")]));
-    let pairs = last(alloc, replay, &c, 1).expect(rt, "memory");
-    assert_that(rt, are(&pairs, &[(b"b", b"2")]));
+    has_last(rt, alloc, replay, b"c", 9, &[(b"b", b"2"), (b"a", b"1")]);
+    has_last(rt, alloc, replay, b"b", 9, &[(b"a", b"1")]);
+    has_last(rt, alloc, replay, b"c", 1, &[(b"b", b"2")]);
 }
 
 // The leaf of all keys: a 1, b 2.
@@ -107,6 +120,15 @@ fn a_leaf_takes_no_memory_up_to_its_first_write(rt: HostRuntime) {
     assert_equal(&rt, alloc.left(), 1);
 }
 
+// Compares the pairs of that leaf without a, and with aa 3 and c 4.
+fn compare_changed<R: Abort>(rt: &R, alloc: Alloc, replay: &Replay) {
+    let changed: [(&'static [u8], &'static [u8]); 3] = [(b"aa", b"3"), (b"b", b"2"), (b"c", b"4")];
+    has_first(rt, alloc, replay, b"", 9, &changed);
+    has_first(rt, alloc, replay, b"", 2, &changed[..2]);
+    has_last(rt, alloc, replay, b"d", 2, &[(b"c", b"4"), (b"b", b"2")]);
+    has_last(rt, alloc, replay, b"c", 9, &[(b"b", b"2"), (b"aa", b"3")]);
+}
+
 #[test]
 fn changes_lie_among_the_pairs_of_a_leaf(rt: HostRuntime) {
     let alloc = heap(rt.alloc()).expect(&rt, "memory");
@@ -116,22 +138,7 @@ fn changes_lie_among_the_pairs_of_a_leaf(rt: HostRuntime) {
     let behind = insert(&rt, alloc, 3, b"c", b"4");
     let replay = replay_of(&rt, alloc, &leaf, (&delete, &between, &behind));
     let replay = advanced(&rt, replay.expect(&rt, "memory"), 9);
-    let (least, c, d) = (
-        key(alloc, b"").expect(&rt, "memory"),
-        key(alloc, b"c").expect(&rt, "memory"),
-        key(alloc, b"d").expect(&rt, "memory"),
-    );
-    let pairs = first(alloc, &replay, &least, 9).expect(&rt, "memory");
-    assert_that(
-        &rt,
-        are(&pairs, &[(b"aa", b"3"), (b"b", b"2"), (b"c", b"4")]),
-    );
-    let pairs = first(alloc, &replay, &least, 2).expect(&rt, "memory");
-    assert_that(&rt, are(&pairs, &[(b"aa", b"3"), (b"b", b"2")]));
-    let pairs = last(alloc, &replay, &d, 2).expect(&rt, "memory");
-    assert_that(&rt, are(&pairs, &[(b"c", b"4"), (b"b", b"2")]));
-    let pairs = last(alloc, &replay, &c, 9).expect(&rt, "memory");
-    assert_that(&rt, are(&pairs, &[(b"b", b"2"), (b"aa", b"3")]));
+    compare_changed(&rt, alloc, &replay);
 }
 
 #[test]
@@ -189,10 +196,7 @@ fn of_two_parts_the_first_has_the_value(rt: HostRuntime) {
         a_and_b(&rt, alloc),
     );
     let replay = Replay::new(alloc, &[&above, &below], None, &[]).expect(&rt, "memory");
-    let pairs = first(alloc, &replay, &key(alloc, b"").expect(&rt, "memory"), 9).expect(
-        &rt, "memory",
-    );
-    assert_that(&rt, are(&pairs, &[(b"a", b"9"), (b"b", b"2")]));
+    has_first(&rt, alloc, &replay, b"", 9, &[(b"a", b"9"), (b"b", b"2")]);
 }
 
 // A leaf may reach past the end of its page.
@@ -203,8 +207,7 @@ fn below_its_end_a_leaf_is_read_with_its_writes(rt: HostRuntime) {
     let insert = insert(&rt, alloc, 0, b"aa", b"3");
     let replay = Replay::new(alloc, &[&leaf], Some(&end), &[&insert]).expect(&rt, "memory");
     let replay = replay.advance(1).expect(&rt, "memory");
-    let pairs = last(alloc, &replay, &end, 9).expect(&rt, "memory");
-    assert_that(&rt, are(&pairs, &[(b"aa", b"3"), (b"a", b"1")]));
+    has_last(&rt, alloc, &replay, b"b", 9, &[(b"aa", b"3"), (b"a", b"1")]);
 }
 
 #[test]
@@ -216,8 +219,7 @@ fn below_their_end_two_parts_are_read(rt: HostRuntime) {
     );
     let end = key(alloc, b"b").expect(&rt, "memory");
     let replay = Replay::new(alloc, &[&above, &below], Some(&end), &[]).expect(&rt, "memory");
-    let pairs = last(alloc, &replay, &end, 9).expect(&rt, "memory");
-    assert_that(&rt, are(&pairs, &[(b"a", b"9")]));
+    has_last(&rt, alloc, &replay, b"b", 9, &[(b"a", b"9")]);
 }
 
 // What an update to 3 at 7, a delete at 2 and an insert of 9 at 5 leave of a 4 at `a`, as of stamps that rise.

@@ -50,11 +50,15 @@ fn is_shown_reply<R: Abort>(make: &Maker<'_, R>, rt: &R, reply: &Reply, text: &s
     assert_equal(rt, &reply.clone().expect(rt, "memory"), reply);
 }
 
+fn has_text<R: Abort>(make: &Maker<'_, R>, rt: &R, op: TextOp, text: &str) {
+    is_shown_op(make, rt, &make.op(op), text);
+}
+
 #[test]
 fn an_operation_is_shown_as_the_line_of_a_trace(rt: HostRuntime) {
     let make = Maker::new(&rt, rt.alloc());
     for (op, text) in OPS {
-        is_shown_op(&make, &rt, &make.op(op), text);
+        has_text(&make, &rt, op, text);
     }
 }
 
@@ -66,20 +70,30 @@ fn a_reply_is_shown_as_it_is_printed(rt: HostRuntime) {
     }
 }
 
+// Whether there is memory for a clone.
+fn has_clone(op: &Op) -> bool {
+    op.clone().is_ok()
+}
+
 // Clones with each growth refused in turn, until none is.
-fn is_cloned<R: Abort>(make: &Maker<'_, R>, rt: &R, op: TextOp, growths: u64)
+fn is_cloned_after<R: Abort>(make: &Maker<'_, R>, rt: &R, op: &Op, growths: u64)
     requires { growths ≤ 3 }
 {
-    let op = make.op(op);
     for growth in 1..=growths {
         make.alloc.refuse(growth);
-        assert_that(rt, op.clone().is_err());
+        assert_that(rt, !has_clone(op));
         assert_that(rt, was_refused(make.alloc, growth));
     }
     make.alloc.refuse(growths + 1);
-    assert_that(rt, op.clone().is_ok());
+    assert_that(rt, has_clone(op));
     assert_equal(rt, make.alloc.left(), 1);
     make.alloc.refuse(0);
+}
+
+fn is_cloned<R: Abort>(make: &Maker<'_, R>, rt: &R, op: TextOp, growths: u64)
+    requires { growths ≤ 3 }
+{
+    is_cloned_after(make, rt, &make.op(op), growths);
 }
 
 #[test]
