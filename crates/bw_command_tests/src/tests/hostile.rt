@@ -154,9 +154,16 @@ fn wrong_lines_are_found(rt: HostRuntime) {
     ] {
         runner.expect_fault(text, message);
     }
-    let text = runner.repeated("6", 130, "");
-    let text = runner.joined(&["get %", text.as_str()]);
-    runner.expect_fault(text.as_str(), "line 1: key longer than 64 bytes");
     runner.expect("upsert a 1\nget a", "new\nis 1\n", "", 0);
     runner.expect("\r\n", "", "", 0);
+}
+
+#[test]
+fn a_key_of_130_digits_is_too_long(rt: HostRuntime) {
+    let runner = Runner::new(&rt, rt.alloc());
+    let digits = runner.repeated("6", 130, "");
+    runner.expect_fault_in(
+        &["get %", digits.as_str()],
+        "line 1: key longer than 64 bytes",
+    );
 }

@@ -1,19 +1,25 @@
 // Lines: their words, numbers and keys, and which fault comes first.
 use super::ports::Runner;
+use std::process::Abort;
+use std::rt::Files;
+use std::thread::Threads;
+use std::time::Clock;
 
 const KEY_65: &str = "kkkkkkkkkkkkkkkkkkkkkkkkkkkkkkkkkkkkkkkkkkkkkkkkkkkkkkkkkkkkkkkkk";
 
 #[test]
 fn a_line_has_8192_bytes_at_most(rt: HostRuntime) {
     let runner = Runner::new(&rt, rt.alloc());
-    let text = runner.repeated("#", 8192, "\nget a");
-    runner.expect(text.as_str(), "none\n", "", 0);
+    runner.expect_repeated(("#", 8192, "\nget a"), "none\n", "", 0);
     for rest in ["#", "#\nget a", "\r", "\r\n", "####################\n"] {
-        let text = runner.repeated("#", 8192, rest);
-        runner.expect_fault(text.as_str(), "line 1: line longer than 8192 bytes");
+        runner.expect_repeated(
+            ("#", 8192, rest),
+            "",
+            "line 1: line longer than 8192 bytes",
+            3,
+        );
     }
-    let text = runner.repeated("#", 8191, "\r\nbogus");
-    runner.expect_fault(text.as_str(), "line 2: unknown word");
+    runner.expect_repeated(("#", 8191, "\r\nbogus"), "", "line 2: unknown word", 3);
 }
 
 #[test]
@@ -55,8 +61,7 @@ fn words_are_those_of_the_table(rt: HostRuntime) {
     for word in [
         "GET", "Get", "ge", "gets", "inserts", "put", "del", "swap", "scans", "goo", "shape", "%",
     ] {
-        let text = runner.joined(&["get a\n", word, " a 1\n"]);
-        runner.expect_fault(text.as_str(), "line 2: unknown word");
+        runner.expect_fault_in(&["get a\n", word, " a 1\n"], "line 2: unknown word");
     }
 }
 
@@ -88,16 +93,35 @@ fn each_line_has_its_number_of_words(rt: HostRuntime) {
 #[test]
 fn faults_come_in_order(rt: HostRuntime) {
     let runner = Runner::new(&rt, rt.alloc());
+    expect_faults_by_hashes(&runner);
+    for (text, message) in [
+        ("bogus % %", "line 1: unknown word"),
+        ("get %x %x", "line 1: wrong number of words"),
+        ("upsert %x x y", "line 1: wrong number of words"),
+        ("upsert %x x", "line 1: badly spelled key"),
+        ("scan a %x x", "line 1: badly spelled key"),
+    ] {
+        runner.expect_fault(text, message);
+    }
+    expect_faults_by_a_long_key(&runner);
+}
+
+// Lines of more than 8,192 bytes.
+fn expect_faults_by_hashes<R: Abort + Files + AllocGlobal + Threads + Clock + Sync>(
+    runner: &Runner<'_, R>,
+) {
     let hashes = runner.repeated("#", 8193, "");
-    let text = runner.joined(&["bogus\n", hashes.as_str(), "\n"]);
-    runner.expect_fault(text.as_str(), "line 1: unknown word");
-    let text = runner.joined(&["bogus ", hashes.as_str(), "\nbogus"]);
-    runner.expect_fault(text.as_str(), "line 1: line longer than 8192 bytes");
-    runner.expect_fault("bogus % %", "line 1: unknown word");
-    runner.expect_fault("get %x %x", "line 1: wrong number of words");
-    runner.expect_fault("upsert %x x y", "line 1: wrong number of words");
-    runner.expect_fault("upsert %x x", "line 1: badly spelled key");
-    runner.expect_fault("scan a %x x", "line 1: badly spelled key");
+    runner.expect_fault_in(&["bogus\n", hashes.as_str(), "\n"], "line 1: unknown word");
+    runner.expect_fault_in(
+        &["bogus ", hashes.as_str(), "\nbogus"],
+        "line 1: line longer than 8192 bytes",
+    );
+}
+
+// Lines with a key of 65 bytes.
+fn expect_faults_by_a_long_key<R: Abort + Files + AllocGlobal + Threads + Clock + Sync>(
+    runner: &Runner<'_, R>,
+) {
     for (front, back, message) in [
         ("get ", "/", "line 1: badly spelled key"),
         ("get ", " b", "line 1: wrong number of words"),
@@ -105,8 +129,7 @@ fn faults_come_in_order(rt: HostRuntime) {
         ("upsert %x ", "", "line 1: badly spelled key"),
         ("scan a ", " x", "line 1: key longer than 64 bytes"),
     ] {
-        let text = runner.joined(&[front, KEY_65, back]);
-        runner.expect_fault(text.as_str(), message);
+        runner.expect_fault_in(&[front, KEY_65, back], message);
     }
 }
 
@@ -122,9 +145,12 @@ fn numbers_lose_their_leading_zeros(rt: HostRuntime) {
         ("00000000000000000001", "1"),
         ("18446744073709551615", "18446744073709551615"),
     ] {
-        let text = runner.joined(&["upsert a ", number, "\nget a\n"]);
-        let output = runner.joined(&["new\nis ", printed, "\n"]);
-        runner.expect(text.as_str(), output.as_str(), "", 0);
+        runner.expect_parts(
+            &["upsert a ", number, "\nget a\n"],
+            &["new\nis ", printed, "\n"],
+            "",
+            0,
+        );
     }
 }
 
@@ -145,9 +171,8 @@ fn other_words_are_no_numbers(rt: HostRuntime) {
         "000000000000000000001",
         "100000000000000000000",
     ] {
-        let text = runner.joined(&["upsert a ", word, "\n"]);
-        runner.expect_fault(
-            text.as_str(),
+        runner.expect_fault_in(
+            &["upsert a ", word, "\n"],
             "line 1: not a whole number up to 18446744073709551615",
         );
     }
@@ -161,7 +186,6 @@ fn keys_are_letters_digits_and_three_signs(rt: HostRuntime) {
         "%4", "%4g", "%%", "a%", "a/b", "a:", "a@", "a[", "a`", "a{", "*", "a,b", "\u{e9}",
         "a\u{0}",
     ] {
-        let text = runner.joined(&["get ", key, "\n"]);
-        runner.expect_fault(text.as_str(), "line 1: badly spelled key");
+        runner.expect_fault_in(&["get ", key, "\n"], "line 1: badly spelled key");
     }
 }

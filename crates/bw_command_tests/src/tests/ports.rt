@@ -195,6 +195,25 @@ impl<'a, R: Abort + Files + AllocGlobal + Threads + Clock + Sync> Runner<'a, R> 
         assert_equal(self.rt, found, status);
     }
 
+    /// The same over parts of a text, where what is printed has parts, too.
+    pub fn expect_parts(&self, parts: &[&str], outputs: &[&str], message: &str, status: u8) {
+        let (text, output) = (self.joined(parts), self.joined(outputs));
+        self.expect(text.as_str(), output.as_str(), message, status);
+    }
+
+    /// The same over a part so many times, and a rest behind it.
+    pub fn expect_repeated(
+        &self,
+        repeated: (&str, u64, &str),
+        output: &str,
+        message: &str,
+        status: u8,
+    ) {
+        let (part, count, rest) = repeated;
+        let text = self.repeated(part, count, rest);
+        self.expect(text.as_str(), output, message, status);
+    }
+
     /// Other words over a text that is read at once.
     pub fn expect_words(
         &self,
@@ -243,6 +262,11 @@ impl<'a, R: Abort + Files + AllocGlobal + Threads + Clock + Sync> Runner<'a, R> 
     /// The first line of this fault is met before anything is written.
     pub fn expect_fault(&self, text: &str, message: &str) {
         self.expect(text, "", message, 3);
+    }
+
+    /// The same in a text of these parts.
+    pub fn expect_fault_in(&self, parts: &[&str], message: &str) {
+        self.expect_parts(parts, &[], message, 3);
     }
 
     pub fn expect_text(&self, sink: &Sink, text: &str) {

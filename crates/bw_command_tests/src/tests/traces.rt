@@ -51,15 +51,18 @@ fn numbers_have_64_bits(rt: HostRuntime) {
 fn keys_have_64_bytes(rt: HostRuntime) {
     let runner = Runner::new(&rt, rt.alloc());
     assert_equal(&rt, KEY_64.len(), 64);
-    let text = runner.joined(&["upsert ", KEY_64, " 2\ngo\nget ", KEY_64, "k"]);
-    runner.expect(
-        text.as_str(),
-        "new\n",
+    runner.expect_parts(
+        &["upsert ", KEY_64, " 2\ngo\nget ", KEY_64, "k"],
+        &["new\n"],
         "line 3: key longer than 64 bytes",
         3,
     );
-    let text = runner.joined(&["upsert ", KEY_64, " 2\nget ", KEY_64]);
-    runner.expect(text.as_str(), "new\nis 2\n", "", 0);
+    runner.expect_parts(
+        &["upsert ", KEY_64, " 2\nget ", KEY_64],
+        &["new\nis 2\n"],
+        "",
+        0,
+    );
 }
 
 #[test]
@@ -93,11 +96,10 @@ fn a_faulty_line_stops_its_batch_alone(rt: HostRuntime) {
 #[test]
 fn a_batch_has_65536_operations_at_most(rt: HostRuntime) {
     let runner = Runner::new(&rt, rt.alloc());
-    let text = runner.repeated("get a\n", 65_536, "");
     let output = runner.repeated("none\n", 65_536, "");
-    runner.expect(text.as_str(), output.as_str(), "", 0);
-    let text = runner.repeated("get a\n", 65_537, "go\nget b\n");
-    runner.expect(text.as_str(), "refused long 65537 65536\nnone\n", "", 4);
+    runner.expect_repeated(("get a\n", 65_536, ""), output.as_str(), "", 0);
+    let refused = "refused long 65537 65536\nnone\n";
+    runner.expect_repeated(("get a\n", 65_537, "go\nget b\n"), refused, "", 4);
 }
 
 #[test]
@@ -141,17 +143,15 @@ fn each_operation_has_its_replies(rt: HostRuntime) {
 #[test]
 fn the_empty_key_and_the_longest_are_scanned(rt: HostRuntime) {
     let runner = Runner::new(&rt, rt.alloc());
-    let text = runner.joined(&[
-        "upsert % 1\nupsert ",
-        KEY_64,
-        " 2\nscan % * 9\ngo\nget ",
-        KEY_64,
-        "k",
-    ]);
-    let output = runner.joined(&["new\nnew\nscan 2\n% 1\n", KEY_64, " 2\n"]);
-    runner.expect(
-        text.as_str(),
-        output.as_str(),
+    runner.expect_parts(
+        &[
+            "upsert % 1\nupsert ",
+            KEY_64,
+            " 2\nscan % * 9\ngo\nget ",
+            KEY_64,
+            "k",
+        ],
+        &["new\nnew\nscan 2\n% 1\n", KEY_64, " 2\n"],
         "line 5: key longer than 64 bytes",
         3,
     );
@@ -161,20 +161,27 @@ fn the_empty_key_and_the_longest_are_scanned(rt: HostRuntime) {
 fn values_of_version_2_are_spelled_like_keys(rt: HostRuntime) {
     let runner = Runner::new(&rt, rt.alloc());
     let long = runner.repeated("v", 1025, "");
-    let text = runner.joined(&[
-        "bw 2\nupsert a %\nget a\nupsert a %00ff\nswapif a %00FF hello.txt\nget a\ngo\nupdate a ",
-        long.as_str(),
-    ]);
-    runner.expect(
-        text.as_str(),
-        "new\nis %\nwas %\nwas %00ff\nis hello.txt\n",
+    runner.expect_parts(
+        &[
+            "bw 2\nupsert a %\nget a\nupsert a %00ff\nswapif a %00FF hello.txt\nget a\ngo\nupdate a ",
+            long.as_str(),
+        ],
+        &["new\nis %\nwas %\nwas %00ff\nis hello.txt\n"],
         "line 8: value longer than 1024 bytes",
         3,
     );
+}
+
+#[test]
+fn values_of_version_2_have_1024_bytes(rt: HostRuntime) {
+    let runner = Runner::new(&rt, rt.alloc());
     let longest = runner.repeated("v", 1024, "");
-    let text = runner.joined(&["bw 2\nupsert a ", longest.as_str(), "\nget a"]);
-    let output = runner.joined(&["new\nis ", longest.as_str(), "\n"]);
-    runner.expect(text.as_str(), output.as_str(), "", 0);
+    runner.expect_parts(
+        &["bw 2\nupsert a ", longest.as_str(), "\nget a"],
+        &["new\nis ", longest.as_str(), "\n"],
+        "",
+        0,
+    );
 }
 
 #[test]
