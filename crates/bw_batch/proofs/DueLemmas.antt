@@ -9,10 +9,10 @@ use Rattle.bw_core.proofs.Lists.{one_other}
 use Rattle.bw_key.specs.Order.{KeyBytes}
 use Rattle.bw_page.proofs.Truths.{true_holds, left_of, right_of}
 use Rattle.bw_delta.specs.Writes.{WriteView}
-use Rattle.bw_chain.specs.Levels.{IsHome, row}
-use Rattle.bw_chain.specs.Reading.{pairs_under, writes_over}
-use Rattle.bw_chain.specs.Slots.{Slot, Body, Pairs, Children, Free, Gone, Live, slot_at, has_key}
-use Rattle.bw_chain.specs.Turns.{slot_without_writes}
+use Rattle.bw_level.specs.Levels.{IsHome, row}
+use Rattle.bw_level.specs.Reading.{pairs_under, writes_over}
+use Rattle.bw_level.specs.Slots.{Slot, Body, Pairs, Children, Free, Gone, Live, slot_at, has_key}
+use Rattle.bw_level.specs.Turns.{slot_without_writes}
 use Rattle.bw_model.specs.declared.operations.Op.{Op}
 use Rattle.bw_tree.specs.Stages.{LeavesHaveAll, accepted_tree, staged_on}
 use Rattle.bw_tree.specs.View.{StageView, TreeView, staged_writes}

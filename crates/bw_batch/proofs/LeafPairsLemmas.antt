@@ -8,12 +8,12 @@ use Rattle.bw_key.specs.Order.{KeyBytes, key_cmp}
 use Rattle.bw_model.specs.Contents.{Contents, is_in_range, is_pair_in_range, pairs_of_range}
 use Rattle.bw_model.specs.Values.{ValueBytes}
 use Rattle.bw_page.proofs.KeyLemmas.{below_trans}
-use Rattle.bw_chain.specs.Before.{low_of}
-use Rattle.bw_chain.specs.Levels.{AreLevels, SideBySide, Stands, row}
-use Rattle.bw_chain.specs.Scans.{high_of}
-use Rattle.bw_chain.specs.Slots.{Slot, PageState, Body, Pairs, Children, IsSoundBody, body_is_leaf, is_leaf, level_of, slot_at}
-use Rattle.bw_chain.proofs.LeafRowLemmas.{low_below}
-use Rattle.bw_chain.specs.Splits.{slot_entries}
+use Rattle.bw_level.specs.Before.{low_of}
+use Rattle.bw_level.specs.Levels.{AreLevels, SideBySide, Stands, row}
+use Rattle.bw_level.specs.Scans.{high_of}
+use Rattle.bw_level.specs.Slots.{Slot, PageState, Body, Pairs, Children, IsSoundBody, body_is_leaf, is_leaf, level_of, slot_at}
+use Rattle.bw_level.proofs.LeafRowLemmas.{low_below}
+use Rattle.bw_level.specs.Splits.{slot_entries}
 use Rattle.bw_tree.specs.Shapes.{level_shape, levels_shape, page_shape, pairs_on, shape_of}
 use Rattle.bw_tree.specs.View.{TreeView, contents_at}
 use Rattle.bw_tree.specs.declared.tree.shape.PageShape.{PageShape}

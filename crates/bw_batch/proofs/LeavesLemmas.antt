@@ -3,11 +3,11 @@ use Rattle.std.proofs.Common.{◌≡◌, ℕ, zero, suc, Bool, true, false, cond
 use Rattle.std.specs.Prelude.{nat_eq}
 use Rattle.std.proofs.Math.Dec.{eqb-suc-zero}
 use Rattle.std.proofs.lemmas.List.{append-nil}
-use Rattle.bw_chain.specs.Levels.{row}
-use Rattle.bw_chain.specs.Before.{low_of}
-use Rattle.bw_chain.specs.Scans.{high_of}
-use Rattle.bw_chain.specs.Slots.{Slot, Free, Gone, Live, slot_at}
-use Rattle.bw_chain.specs.Turns.{slot_without_writes}
+use Rattle.bw_level.specs.Levels.{row}
+use Rattle.bw_level.specs.Before.{low_of}
+use Rattle.bw_level.specs.Scans.{high_of}
+use Rattle.bw_level.specs.Slots.{Slot, Free, Gone, Live, slot_at}
+use Rattle.bw_level.specs.Turns.{slot_without_writes}
 use Rattle.bw_tree.specs.Shapes.{level_shape, levels_shape, page_shape, shape_of}
 use Rattle.bw_tree.specs.Stages.{accepted_tree, staged_on}
 use Rattle.bw_tree.specs.View.{StageView, TreeView}

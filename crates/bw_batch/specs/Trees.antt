@@ -3,8 +3,8 @@ use Rattle.std.specs.Prelude.{◌≡◌, List, None}
 use Rattle.bw_model.specs.Contents.{Contents}
 use Rattle.bw_model.specs.Values.{ValueBytes}
 use Rattle.bw_delta.specs.History.{HasDistinctStamps}
-use Rattle.bw_chain.specs.Levels.{AreLevels, row}
-use Rattle.bw_chain.specs.Reading.{row_writes}
+use Rattle.bw_level.specs.Levels.{AreLevels, row}
+use Rattle.bw_level.specs.Reading.{row_writes}
 use Rattle.bw_tree.specs.Shapes.{shape_of}
 use Rattle.bw_tree.specs.View.{TreeView, contents_at}
 use Rattle.bw_tree.specs.declared.tree.shape.PageShape.{PageShape}

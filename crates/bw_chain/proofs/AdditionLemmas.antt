@@ -7,16 +7,17 @@ use Rattle.std.specs.Prelude.{slice_get}
 use Rattle.bw_page.specs.declared.pages.Page.{Page}
 use Rattle.bw_delta.specs.declared.deltas.Delta.{Delta}
 use Rattle.bw_chain.specs.Placing.{put_at}
-use Rattle.bw_chain.specs.Slots.{Slot, Free, slot_at}
-use Rattle.bw_chain.specs.Chains.{AllEnd, Bases, ChainsView, IsChain, Records, Ends, IsShaped, floor_word, page_at, based, change, changed, delta_in, deltas_at, link_of, linked_word, plain, record_at, slot_of_word, slots_of}
+use Rattle.bw_level.specs.Slots.{Slot, Free, slot_at}
+use Rattle.bw_level.specs.Changes.{Bases, based, change, plain}
+use Rattle.bw_chain.specs.Chains.{AllEnd, ChainsView, IsChain, Records, Ends, IsShaped, floor_word, page_at, changed, delta_in, deltas_at, link_of, linked_word, record_at, slot_of_word, slots_of}
 use Rattle.bw_chain.specs.Supports.{OwnBases, base_under}
-use Rattle.bw_chain.specs.Walk.{Leads}
+use Rattle.bw_level.specs.Walk.{Leads}
 use Rattle.bw_chain.proofs.BaseLemmas.{get_set_other, get_set_same}
 use Rattle.bw_chain.proofs.ChainLemmas.{no_link, no_record, on_base, slot_of_way}
 use Rattle.bw_chain.proofs.GrowthLemmas.{Extends, append_extends, still_ends}
 use Rattle.bw_chain.proofs.PlacingLemmas.{get_put, get_put_other, length_put, put_where}
 use Rattle.bw_chain.proofs.SupportLemmas.{base_within, ends_within, page_kept, still_rests}
-use Rattle.bw_chain.proofs.WalkLemmas.{ended_is}
+use Rattle.bw_level.proofs.WalkLemmas.{ended_is}
 
 one : {X : Type 0} {x y : X} → Some x ≡ Some y → x ≡ y
 one e = cc

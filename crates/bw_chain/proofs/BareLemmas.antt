@@ -5,15 +5,15 @@ use Rattle.std.specs.Prelude.{IfSome}
 use Rattle.bw_key.specs.Order.{KeyBytes}
 use Rattle.bw_page.specs.declared.pages.Page.{Page}
 use Rattle.bw_delta.specs.declared.deltas.Delta.{Delta}
-use Rattle.bw_chain.specs.declared.target.Target.{Target}
-use Rattle.bw_chain.specs.Chains.{Bases, change, plain}
-use Rattle.bw_chain.specs.LeafEnds.{ends_at}
-use Rattle.bw_chain.specs.Roots.{IsNeighbour}
-use Rattle.bw_chain.specs.Scans.{high_of}
-use Rattle.bw_chain.specs.Slots.{Slot, Body, Pairs, Children, Free, Gone, Live, body_is_leaf, level_of, side_of_slot, slot_level}
-use Rattle.bw_chain.specs.Splits.{entry_count, slot_entries}
-use Rattle.bw_chain.specs.Targets.{lies_past}
-use Rattle.bw_chain.specs.Turns.{body_without_writes, over, plain_at, slot_without_writes}
+use Rattle.bw_level.specs.declared.target.Target.{Target}
+use Rattle.bw_level.specs.Changes.{Bases, change, plain}
+use Rattle.bw_level.specs.LeafEnds.{ends_at}
+use Rattle.bw_level.specs.Roots.{IsNeighbour}
+use Rattle.bw_level.specs.Scans.{high_of}
+use Rattle.bw_level.specs.Slots.{Slot, Body, Pairs, Children, Free, Gone, Live, body_is_leaf, level_of, side_of_slot, slot_level}
+use Rattle.bw_level.specs.Splits.{entry_count, slot_entries}
+use Rattle.bw_level.specs.Targets.{lies_past}
+use Rattle.bw_level.specs.Turns.{body_without_writes, over, plain_at, slot_without_writes}
 
 -- what lies under the writes, where a change lies over a base page
 pub under_change : (bases : Bases) (slot : Slot) (o : Option (Bor Delta)) (p : Option (Bor Page)) (d : Bor Delta) (b : Bor Page) → slot_without_writes slot ≡ slot_without_writes (over bases o (plain_at p)) → o ≡ Some d → p ≡ Some b →

@@ -4,14 +4,15 @@ use Rattle.std.proofs.lemmas.Bool.{cases_eq}
 use Rattle.std.proofs.lemmas.List.{length-set}
 use Rattle.std.specs.Prelude.{slice_get}
 use Rattle.bw_page.specs.declared.pages.Page.{Page}
-use Rattle.bw_chain.specs.Chains.{AllEnd, Bases, Records, Ends, EndsAt, based, link_of, plain, slot_of_word, slots_of}
-use Rattle.bw_chain.specs.Slots.{Slot}
+use Rattle.bw_level.specs.Changes.{Bases, based, plain}
+use Rattle.bw_chain.specs.Chains.{AllEnd, Records, Ends, EndsAt, link_of, slot_of_word, slots_of}
+use Rattle.bw_level.specs.Slots.{Slot}
 use Rattle.bw_chain.specs.Supports.{OwnBases, base_under}
-use Rattle.bw_chain.specs.Walk.{Leads}
+use Rattle.bw_level.specs.Walk.{Leads}
 use Rattle.bw_chain.proofs.ChainLemmas.{no_link, no_record, on_base}
 use Rattle.bw_chain.proofs.GrowthLemmas.{same_map}
 use Rattle.bw_chain.proofs.SupportLemmas.{base_within, ends_within, one_page, page_kept}
-use Rattle.bw_chain.proofs.WalkLemmas.{ended_is}
+use Rattle.bw_level.proofs.WalkLemmas.{ended_is}
 
 pub get_set_same : {X : Type 0} (xs : List X) (i : ℕ) (x : X) → i < length xs → slice_get (set xs i x) i ≡ Some x
 get_set_same [] i x lt = absurd (omega arith)

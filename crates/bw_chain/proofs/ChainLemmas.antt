@@ -1,19 +1,19 @@
 -- Chains, one record after another.
-use Rattle.std.proofs.Common.{inl, inr, ◌⊎◌, ◌≡◌, ℕ, suc, ◌-◌, ◌<◌, ◌≤◌, true, false, cond, List, [], ◌∷◌, length, Option, Some, None, ltb, refl, sym, ap, ◌∙◌, subst, arith}
+use Rattle.std.proofs.Common.{◌≡◌, ℕ, suc, ◌-◌, ◌<◌, ◌≤◌, true, false, cond, List, [], ◌∷◌, length, Option, Some, None, ltb, refl, sym, ap, ◌∙◌, subst, arith}
 use Rattle.std.proofs.lemmas.Bool.Decides.{nat_tests}
 use Rattle.std.proofs.lemmas.Option.{slice_get-map}
 use Rattle.std.specs.Option.{option_map}
 use Rattle.std.specs.Prelude.{slice_get}
-use Rattle.bw_key.specs.Order.{KeyBytes}
 use Rattle.bw_delta.specs.Arenas.{links_of}
 use Rattle.bw_delta.specs.Writes.{WriteView}
 use Rattle.bw_delta.specs.declared.deltas.Delta.{Delta}
 use Rattle.bw_delta.specs.declared.deltas.Delta.TheVariants.{Put, Split, Absorb, Removed, AddChild, DropChild}
-use Rattle.bw_chain.specs.Walk.{Leads, walked, ended}
-use Rattle.bw_chain.specs.Slots.{Slot, Body, Pairs, Children, Free, Gone, Live}
-use Rattle.bw_chain.specs.Turns.{IsOther, slot_without_writes, body_without_writes}
-use Rattle.bw_chain.specs.Chains.{Bases, Records, Ends, EndsAt, IsShaped, record_at, link_of, linked_word, body_written, delta_in, deltas_at, changed, change, based, slot_of_word}
-use Rattle.bw_chain.proofs.WalkLemmas.{walked_is, ended_is, way_falls_within}
+use Rattle.bw_level.specs.Walk.{Leads, walked, ended}
+use Rattle.bw_level.specs.Slots.{Slot, Body, Pairs, Children, Free, Gone, Live}
+use Rattle.bw_level.specs.Turns.{IsOther, slot_without_writes, body_without_writes}
+use Rattle.bw_level.specs.Changes.{Bases, body_written, change, based}
+use Rattle.bw_chain.specs.Chains.{Records, Ends, EndsAt, IsShaped, record_at, link_of, linked_word, delta_in, deltas_at, changed, slot_of_word}
+use Rattle.bw_level.proofs.WalkLemmas.{walked_is, ended_is, way_falls_within}
 
 pub link_is : (records : Records) (word : ℕ) (r : Delta × ℕ) → record_at records word ≡ Some r → link_of records word ≡ Some r.1
 link_is records word r at = ap linked_word at
@@ -206,9 +206,3 @@ under_other bases records word under_it d ends at not_put =
     by (Removed left) state below not_put = absurd below
     by (AddChild k child) state below not_put = (state ∙ ap (change bases (AddChild k child)) below, tt)
     by (DropChild k) state below not_put = (state ∙ below, tt)
-
--- a record of what the base page has already leaves the page as it is
-pub as_it_is : (bases : Bases) (d : Delta) (slot : Slot) →
-    ((sep : KeyBytes) × (base : ℕ) × (high : Option KeyBytes) × (side : Option ℕ) × (d ≡ Absorb sep base high side)) ⊎ ((sep : KeyBytes) × (d ≡ DropChild sep)) → change bases d slot ≡ slot
-as_it_is bases d slot (inl absorbed) = ap (λ (e : Delta). change bases e slot) absorbed.4
-as_it_is bases d slot (inr dropped) = ap (λ (e : Delta). change bases e slot) dropped.1

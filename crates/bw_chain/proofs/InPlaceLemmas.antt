@@ -6,15 +6,16 @@ use Rattle.bw_key.specs.Order.{KeyBytes}
 use Rattle.bw_page.specs.declared.pages.Page.{Page}
 use Rattle.bw_delta.specs.Writes.{WriteView}
 use Rattle.bw_delta.specs.declared.deltas.Delta.TheVariants.{Put, Split}
-use Rattle.bw_chain.specs.Chains.{AllEnd, Bases, ChainsView, IsChain, Records, Ends, EndsAt, IsShaped, based, change, delta_in, deltas_at, floor_word, link_of, page_at, plain, record_at, slot_of_word, slots_of}
-use Rattle.bw_chain.specs.Slots.{IsSound, slot_at}
+use Rattle.bw_level.specs.Changes.{Bases, based, change, plain}
+use Rattle.bw_chain.specs.Chains.{AllEnd, ChainsView, IsChain, Records, Ends, EndsAt, IsShaped, delta_in, deltas_at, floor_word, link_of, page_at, record_at, slot_of_word, slots_of}
+use Rattle.bw_level.specs.Slots.{IsSound, slot_at}
 use Rattle.bw_chain.specs.Supports.{OwnBases, base_under}
-use Rattle.bw_chain.specs.Walk.{Leads}
+use Rattle.bw_level.specs.Walk.{Leads}
 use Rattle.bw_chain.proofs.AdditionLemmas.{page_is, same_slot, slot_here}
 use Rattle.bw_chain.proofs.BaseLemmas.{all_end, others_kept, own_after, put_there}
 use Rattle.bw_chain.proofs.ChainLemmas.{link_is, no_link, none_on, under_other}
 use Rattle.bw_chain.proofs.SupportLemmas.{base_within}
-use Rattle.bw_chain.proofs.WalkLemmas.{ended_is}
+use Rattle.bw_level.proofs.WalkLemmas.{ended_is}
 
 one : {x y : ℕ} → Some x ≡ Some y → x ≡ y
 one e = cc

@@ -9,12 +9,12 @@ use Rattle.bw_delta.specs.History.{pointed_to}
 use Rattle.bw_delta.specs.Pairs.{ArePairsAsOf, value_in_parts}
 use Rattle.bw_delta.specs.Replays.{ReplayView, IsReplayOf}
 use Rattle.bw_chain.specs.declared.leaf_chain.LeafChain.{LeafChain}
-use Rattle.bw_chain.specs.Slots.{Slot, Free, Gone, Live, side_of_slot}
-use Rattle.bw_chain.specs.Before.{low_of}
+use Rattle.bw_level.specs.Slots.{Slot, Free, Gone, Live, side_of_slot}
+use Rattle.bw_level.specs.Before.{low_of}
 use Rattle.bw_chain.specs.LeafChains.{IsLeafChain}
-use Rattle.bw_chain.specs.Reading.{HasPairsUnder, writes_over}
-use Rattle.bw_chain.specs.Scans.{ArePairsOn, IsLeafReplay, IsLowerEnd, high_of}
-use Rattle.bw_chain.specs.Turns.{slot_without_writes}
+use Rattle.bw_level.specs.Reading.{HasPairsUnder, writes_over}
+use Rattle.bw_level.specs.Scans.{ArePairsOn, IsLeafReplay, IsLowerEnd, high_of}
+use Rattle.bw_level.specs.Turns.{slot_without_writes}
 use Rattle.bw_chain.proofs.ReadingLemmas.{base_alike}
 use Rattle.bw_chain.proofs.PageScanLemmas.{pairs_on, replayed_leaf}
 

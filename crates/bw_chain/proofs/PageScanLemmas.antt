@@ -7,7 +7,6 @@ use Rattle.std.specs.FinMap.{find}
 use Rattle.bw_key.specs.Order.{KeyBytes, key_cmp}
 use Rattle.bw_model.specs.Contents.{is_below_end}
 use Rattle.bw_model.specs.Values.{ValueBytes}
-use Rattle.bw_page.proofs.KeyLemmas.{below_trans, upto_trans}
 use Rattle.bw_page.specs.Leaves.{LeafView}
 use Rattle.bw_page.specs.declared.pages.Page.{Page}
 use Rattle.bw_page.specs.declared.pages.Page.TheVariants.{Leaf as LeafPage}
@@ -19,12 +18,13 @@ use Rattle.bw_delta.specs.Pairs.{ArePairsAsOf, value_in_parts}
 use Rattle.bw_delta.specs.Replays.{ReplayView, IsReplayOf}
 use Rattle.bw_delta.specs.declared.deltas.Delta.{Delta}
 use Rattle.bw_delta.specs.declared.deltas.Delta.TheVariants.{Put}
-use Rattle.bw_chain.specs.Slots.{Slot, Free, Gone, Live, is_leaf}
-use Rattle.bw_chain.specs.Walk.{walked}
-use Rattle.bw_chain.specs.Chains.{Bases, Records, Ends, record_at, link_of, change, plain, slot_of_word}
-use Rattle.bw_chain.specs.Turns.{slot_without_writes, over, plain_at, IsNoWrite}
-use Rattle.bw_chain.specs.Reading.{EndsAbove, base_of, writes_over, value_in}
-use Rattle.bw_chain.specs.Scans.{IsLeafReplay, ArePairsOn, high_of}
+use Rattle.bw_level.specs.Slots.{Slot, Free, Gone, Live, is_leaf}
+use Rattle.bw_level.specs.Walk.{walked}
+use Rattle.bw_level.specs.Changes.{Bases, change, plain}
+use Rattle.bw_chain.specs.Chains.{Records, Ends, record_at, link_of, slot_of_word}
+use Rattle.bw_level.specs.Turns.{slot_without_writes, over, plain_at, IsNoWrite}
+use Rattle.bw_level.specs.Reading.{EndsAbove, base_of, writes_over, value_in}
+use Rattle.bw_level.specs.Scans.{IsLeafReplay, ArePairsOn, high_of}
 use Rattle.bw_chain.proofs.ChainLemmas.{Below, under, bare_put}
 use Rattle.bw_chain.proofs.ReadingLemmas.{leaf_put, writes_put, base_through}
 
@@ -68,25 +68,6 @@ nil_right (x ∷ l) = ap (λ (m : List WriteView). x ∷ m) (nil_right l)
 -- where no writes are left all were found
 pub writes_found : (found : List (Bor WriteView)) (here all : List WriteView) → here ≡ [] → pointed_to found ++ here ≡ all → pointed_to found ≡ all
 writes_found found here all nothing so_far = sym (nil_right (pointed_to found)) ∙ sym (ap (λ (l : List WriteView). pointed_to found ++ l) nothing) ∙ so_far
-
--- below the lower of two ends is below both
-pub below_lower : (left right : Option KeyBytes) (x a b key : KeyBytes) → left ≡ Some a → right ≡ Some b → x ≡ a → is_lt (key_cmp a b) ≡ true → is_lt (key_cmp key x) ≡ (is_below_end left key && is_below_end right key)
-below_lower left right x a b key is is' here lower =
-    ap (λ (k : KeyBytes). is_lt (key_cmp key k)) here ∙ by (is_lt (key_cmp key a)) refl
-    ∙ sym (ap (λ (o : Option KeyBytes). is_below_end o key && is_below_end right key) is ∙ ap (λ (o : Option KeyBytes). is_lt (key_cmp key a) && is_below_end o key) is')
-  where
-    by : (t : Bool) → is_lt (key_cmp key a) ≡ t → is_lt (key_cmp key a) ≡ (is_lt (key_cmp key a) && is_lt (key_cmp key b))
-    by true e = e ∙ sym (ap (λ t. t && is_lt (key_cmp key b)) e ∙ below_trans key a b e lower)
-    by false e = e ∙ sym (ap (λ t. t && is_lt (key_cmp key b)) e)
-
-pub below_other : (left right : Option KeyBytes) (x a b key : KeyBytes) → left ≡ Some a → right ≡ Some b → x ≡ b → is_lt (key_cmp a b) ≡ false → is_lt (key_cmp key x) ≡ (is_below_end left key && is_below_end right key)
-below_other left right x a b key is is' here lower =
-    ap (λ (k : KeyBytes). is_lt (key_cmp key k)) here ∙ by (is_lt (key_cmp key a)) refl
-    ∙ sym (ap (λ (o : Option KeyBytes). is_below_end o key && is_below_end right key) is ∙ ap (λ (o : Option KeyBytes). is_lt (key_cmp key a) && is_below_end o key) is')
-  where
-    by : (t : Bool) → is_lt (key_cmp key a) ≡ t → is_lt (key_cmp key b) ≡ (is_lt (key_cmp key a) && is_lt (key_cmp key b))
-    by true e = sym (ap (λ t. t && is_lt (key_cmp key b)) e)
-    by false e = upto_trans b a key lower e ∙ sym (ap (λ t. t && is_lt (key_cmp key b)) e)
 
 -- a key that isn't past a page's end
 ends_above : (slot : Slot) (key : KeyBytes) → is_below_end (high_of slot) key ≡ true → EndsAbove slot key

@@ -16,11 +16,12 @@ use Rattle.bw_delta.specs.Batches.{writes_to}
 use Rattle.bw_delta.specs.History.{pointed_to}
 use Rattle.bw_delta.specs.declared.deltas.Delta.{Delta}
 use Rattle.bw_delta.specs.declared.deltas.Delta.TheVariants.{Put, Split, Absorb, Removed, AddChild, DropChild}
-use Rattle.bw_chain.specs.Slots.{Slot, slot_at, Body, Pairs, Children, Free, Gone, Live, is_leaf, body_is_leaf}
-use Rattle.bw_chain.specs.Walk.{walked}
-use Rattle.bw_chain.specs.Chains.{Bases, Records, Ends, record_at, link_of, change, body_written, body_below, body_with_child, based, slot_of_word}
-use Rattle.bw_chain.specs.Turns.{slot_without_writes, body_without_writes, over, plain_at, IsNoWrite, IsOther}
-use Rattle.bw_chain.specs.Reading.{EndsAbove, HasPairsUnder, base_of, body_pairs, writes_over, body_writes}
+use Rattle.bw_level.specs.Slots.{Slot, slot_at, Body, Pairs, Children, Free, Gone, Live, is_leaf, body_is_leaf}
+use Rattle.bw_level.specs.Walk.{walked}
+use Rattle.bw_level.specs.Changes.{Bases, change, body_written, body_below, body_with_child, based}
+use Rattle.bw_chain.specs.Chains.{Records, Ends, record_at, link_of, slot_of_word}
+use Rattle.bw_level.specs.Turns.{slot_without_writes, body_without_writes, over, plain_at, IsNoWrite, IsOther}
+use Rattle.bw_level.specs.Reading.{EndsAbove, HasPairsUnder, base_of, body_pairs, writes_over, body_writes}
 use Rattle.bw_chain.proofs.ChainLemmas.{Below, under, under_other, on_base}
 
 pub leaf_put : (bases : Bases) (w : WriteView) (slot : Slot) → is_leaf (change bases (Put w) slot) ≡ is_leaf slot

@@ -4,11 +4,11 @@ use Rattle.std.specs.List.{Contains}
 use Rattle.bw_page.specs.declared.pages.Page.{Page}
 use Rattle.bw_page.specs.declared.pages.Page.TheVariants.{Gone as GonePage}
 use Rattle.bw_page.specs.declared.pages.RemovedPage.{RemovedPage}
-use Rattle.bw_chain.specs.Chains.{Bases, plain}
+use Rattle.bw_level.specs.Changes.{Bases, plain}
 use Rattle.bw_chain.specs.Placing.{put_at}
 use Rattle.bw_chain.specs.Removed.{HasAllRemoved, IsNotRemoved, IsRemovedAt}
-use Rattle.bw_chain.specs.Slots.{Slot, PageState, Free, Gone, Live, IsSound, IsSoundInner}
-use Rattle.bw_chain.specs.Splits.{slot_entries}
+use Rattle.bw_level.specs.Slots.{Slot, PageState, Free, Gone, Live, IsSound, IsSoundInner}
+use Rattle.bw_level.specs.Splits.{slot_entries}
 
 -- a page that stays isn't a removed one
 pub live_page : (page : Page) (s : PageState) → plain page ≡ Live s → IsNotRemoved page

@@ -4,13 +4,13 @@ use Rattle.std.specs.Prelude.{slice_get}
 use Rattle.bw_page.specs.declared.pages.Page.{Page}
 use Rattle.bw_delta.specs.declared.deltas.Delta.{Delta}
 use Rattle.bw_delta.specs.declared.deltas.Delta.TheVariants.{Put, Split, Absorb, Removed, AddChild, DropChild}
-use Rattle.bw_chain.specs.Chains.{Bases, Records, Ends, EndsAt, based, change, changed, deltas_at, link_of}
-use Rattle.bw_chain.specs.Laws.{PageIsKept}
-use Rattle.bw_chain.specs.Slots.{Slot}
-use Rattle.bw_chain.specs.Supports.{OwnBases, base_under}
-use Rattle.bw_chain.specs.Walk.{Leads, walked}
+use Rattle.bw_level.specs.Changes.{Bases, based, change}
+use Rattle.bw_chain.specs.Chains.{Records, Ends, EndsAt, changed, deltas_at, link_of}
+use Rattle.bw_chain.specs.Supports.{PageIsKept, OwnBases, base_under}
+use Rattle.bw_level.specs.Slots.{Slot}
+use Rattle.bw_level.specs.Walk.{Leads, walked}
 use Rattle.bw_chain.proofs.GrowthLemmas.{Extends, leads_on as way_on}
-use Rattle.bw_chain.proofs.WalkLemmas.{ended_is, way_falls_within}
+use Rattle.bw_level.proofs.WalkLemmas.{ended_is, way_falls_within}
 
 -- no delta looks at other base pages
 same_change : (old new : Bases) (d : Delta) (slot : Slot) → change new d slot ≡ change old d slot

@@ -3,15 +3,16 @@ use Rattle.std.proofs.Common.{inl, inr, ◌⊎◌, ◌≡◌, ℕ, zero, suc, �
 use Rattle.std.proofs.lemmas.Bool.{cases_lt}
 use Rattle.std.specs.Prelude.{slice_get}
 use Rattle.bw_page.specs.declared.pages.Page.TheVariants.{Gone as GonePage}
-use Rattle.bw_chain.specs.Chains.{AllEnd, Bases, Records, Ends, EndsAt, link_of, slot_of_word, slots_of}
+use Rattle.bw_level.specs.Changes.{Bases}
+use Rattle.bw_chain.specs.Chains.{AllEnd, Records, Ends, EndsAt, link_of, slot_of_word, slots_of}
 use Rattle.bw_chain.specs.Removed.{HasAllRemoved}
-use Rattle.bw_chain.specs.Slots.{Slot, Free, slot_at}
+use Rattle.bw_level.specs.Slots.{Slot, Free, slot_at}
 use Rattle.bw_chain.specs.Supports.{OwnBases, base_under}
 use Rattle.bw_chain.specs.Vacancy.{AreVacantFrom}
 use Rattle.bw_chain.proofs.AdditionLemmas.{same_slot, slot_here}
 use Rattle.bw_chain.proofs.SupportLemmas.{page_kept}
 use Rattle.bw_chain.proofs.VacancyLemmas.{vacant_free}
-use Rattle.bw_chain.proofs.WalkLemmas.{ended_is}
+use Rattle.bw_level.proofs.WalkLemmas.{ended_is}
 
 none : {X : Type 0} {x : X} → None ≡ Some x → ⊥
 none e = cc

@@ -7,12 +7,13 @@ use Rattle.bw_page.specs.declared.pages.Page.{Page}
 use Rattle.bw_page.specs.declared.pages.Page.TheVariants.{Leaf as LeafPage, Inner as InnerPage, Gone as GonePage}
 use Rattle.bw_delta.specs.declared.deltas.Delta.{Delta}
 use Rattle.bw_delta.specs.declared.deltas.Delta.TheVariants.{Put, Split, Absorb, Removed, AddChild, DropChild}
-use Rattle.bw_chain.specs.Chains.{AllEnd, Bases, Records, based, body_below, body_with_child, body_written, change, changed, deltas_at, link_of, page_changed, plain, slot_of_word, slots_of}
-use Rattle.bw_chain.specs.Freeing.{IsFreed}
-use Rattle.bw_chain.specs.Slots.{Slot, PageState, Free, Gone, Live}
+use Rattle.bw_level.specs.Changes.{Bases, based, body_below, body_with_child, body_written, change, page_changed, plain}
+use Rattle.bw_chain.specs.Chains.{AllEnd, Records, changed, deltas_at, link_of, slot_of_word, slots_of}
+use Rattle.bw_level.specs.Freeing.{IsFreed}
+use Rattle.bw_level.specs.Slots.{Slot, PageState, Free, Gone, Live}
 use Rattle.bw_chain.specs.Supports.{OwnBases, base_under}
-use Rattle.bw_chain.specs.Turns.{plain_at}
-use Rattle.bw_chain.specs.Walk.{walked}
+use Rattle.bw_level.specs.Turns.{plain_at}
+use Rattle.bw_level.specs.Walk.{walked}
 use Rattle.bw_chain.proofs.AdditionLemmas.{same_slot, slot_here}
 use Rattle.bw_chain.proofs.BaseLemmas.{get_set_other, get_set_same}
 use Rattle.bw_chain.proofs.ChainLemmas.{no_record, on_base}

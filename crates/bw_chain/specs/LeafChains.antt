@@ -2,12 +2,12 @@
 use Rattle.std.specs.Prelude.{◌≡◌, ℕ, true}
 use Rattle.std.specs.Option.{option_copied}
 use Rattle.bw_delta.specs.History.{pointed_to}
-use Rattle.bw_chain.specs.Slots.{Slot, is_leaf, side_of_slot}
-use Rattle.bw_chain.specs.Before.{low_of}
+use Rattle.bw_level.specs.Slots.{Slot, is_leaf, side_of_slot}
+use Rattle.bw_level.specs.Before.{low_of}
 use Rattle.bw_chain.specs.Chains.{ChainsView, IsChain, page_at}
-use Rattle.bw_chain.specs.Reading.{HasPairsUnder, writes_over}
-use Rattle.bw_chain.specs.Scans.{high_of}
-use Rattle.bw_chain.specs.Turns.{slot_without_writes}
+use Rattle.bw_level.specs.Reading.{HasPairsUnder, writes_over}
+use Rattle.bw_level.specs.Scans.{high_of}
+use Rattle.bw_level.specs.Turns.{slot_without_writes}
 use Rattle.bw_chain.specs.declared.leaf_chain.LeafChain.{LeafChain}
 
 -- it has a leaf's writes, the pairs under them, and its bounds and right neighbour

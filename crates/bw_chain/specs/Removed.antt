@@ -4,7 +4,7 @@ use Rattle.std.specs.List.{Contains}
 use Rattle.bw_page.specs.declared.pages.Page.{Page}
 use Rattle.bw_page.specs.declared.pages.Page.TheVariants.{Gone as GonePage}
 use Rattle.bw_page.specs.declared.pages.RemovedPage.{RemovedPage}
-use Rattle.bw_chain.specs.Chains.{Bases}
+use Rattle.bw_level.specs.Changes.{Bases}
 
 -- the base page of this number says so
 abbrev pub IsRemovedAt : Bases → ℕ → RemovedPage → Type 0

@@ -1,7 +1,7 @@
 -- Numbers that are vacant: there is no base page of them.
 use Rattle.std.specs.Prelude.{◌≡◌, ℕ, suc, ◌≤◌, slice_get}
-use Rattle.bw_chain.specs.Chains.{Bases, based}
-use Rattle.bw_chain.specs.Slots.{Free}
+use Rattle.bw_level.specs.Changes.{Bases, based}
+use Rattle.bw_level.specs.Slots.{Free}
 
 -- all numbers from this one on are vacant
 abbrev pub AreVacantFrom : Bases → ℕ → Type 0

@@ -1,11 +1,12 @@
 // Base pages that take the place of others, new ones, and some that go.
 ghost use Rattle.std.specs.Prelude.{◌≡◌, ℕ, ◌<◌, ◌≤◌, length, take, Decides, Some, None, slice_get, slice_set, IfOk, OnErr};
-ghost use Rattle.bw_chain.specs.Chains.{IsChain, based};
+ghost use Rattle.bw_level.specs.Changes.{based};
+ghost use Rattle.bw_chain.specs.Chains.{IsChain};
 ghost use Rattle.bw_chain.specs.Placing.{put_at};
 ghost use Rattle.bw_page.specs.declared.pages.Page.TheVariants.{Gone as GonePage};
 ghost use Rattle.bw_page.specs.declared.pages.RemovedPage.{RemovedPage};
 ghost use Rattle.bw_chain.specs.Removed.{HasAllRemoved, IsNotRemoved, IsRemovedAt, IsRemovedInto};
-ghost use Rattle.bw_chain.specs.Slots.{Free};
+ghost use Rattle.bw_level.specs.Slots.{Free};
 ghost use Rattle.bw_chain.specs.Supports.{base_under};
 ghost use Rattle.bw_chain.specs.Vacancy.{AreVacantFrom, IsTakenBefore};
 

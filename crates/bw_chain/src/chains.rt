@@ -3,10 +3,11 @@ ghost use Rattle.std.specs.Prelude.{◌≡◌, ℕ, ◌+◌, ◌<◌, ◌≤◌,
 ghost use Rattle.std.specs.Option.{option_map};
 ghost use Rattle.bw_delta.specs.Arenas.{deltas_of, links_of};
 ghost use Rattle.bw_delta.specs.Batches.{writes_of};
-ghost use Rattle.bw_chain.specs.Chains.{IsChain, based, chains_over, floor_word, link_of, page_at, record_at};
+ghost use Rattle.bw_level.specs.Changes.{based};
+ghost use Rattle.bw_chain.specs.Chains.{IsChain, chains_over, floor_word, link_of, page_at, record_at};
 ghost use Rattle.bw_chain.specs.Records.{IsWrite, IsWriteAt, unlinked};
 ghost use Rattle.bw_chain.specs.Removed.{HasNoRemoved};
-ghost use Rattle.bw_chain.specs.Turns.{IsNoWrite, slot_without_writes, over, plain_at};
+ghost use Rattle.bw_level.specs.Turns.{IsNoWrite, slot_without_writes, over, plain_at};
 
 use crate::records::{append_writes, put_write};
 use bw_delta::{Arena, Delta, Write};

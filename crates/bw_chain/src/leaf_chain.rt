@@ -3,12 +3,12 @@ ghost use Rattle.std.specs.Prelude.{◌≡◌, IfOk};
 ghost use Rattle.std.specs.Option.{option_copied};
 ghost use Rattle.bw_delta.specs.History.{pointed_to, HasDistinctStamps};
 ghost use Rattle.bw_chain.specs.LeafChains.{IsLeafChain};
-ghost use Rattle.bw_chain.specs.Scans.{ArePairsOn, IsLeafReplay};
-ghost use Rattle.bw_chain.specs.Slots.{Slot};
+ghost use Rattle.bw_level.specs.Scans.{ArePairsOn, IsLeafReplay};
+ghost use Rattle.bw_level.specs.Slots.{Slot};
 
-use crate::ends::lower_end;
 use bw_delta::{Replay, Write, leaf_as_of};
 use bw_key::{Key, Memory};
+use bw_level::lower_end;
 use bw_memory::Alloc;
 use bw_model::Pairs;
 use bw_page::{Leaf, PageId};

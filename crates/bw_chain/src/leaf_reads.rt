@@ -3,18 +3,18 @@ ghost use Rattle.std.specs.Prelude.{◌≡◌, true, IfOk};
 ghost use Rattle.std.specs.Option.{option_copied};
 ghost use Rattle.bw_delta.specs.Batches.{writes_to};
 ghost use Rattle.bw_delta.specs.History.{pointed_to};
-ghost use Rattle.bw_chain.specs.Slots.{is_leaf, side_of_slot};
-ghost use Rattle.bw_chain.specs.Reading.{EndsAbove, HasPairsUnder, base_of, writes_on};
-ghost use Rattle.bw_chain.specs.Chains.{IsChain, page_at};
+ghost use Rattle.bw_level.specs.Slots.{is_leaf, side_of_slot};
+ghost use Rattle.bw_level.specs.Reading.{EndsAbove, HasPairsUnder, base_of};
+ghost use Rattle.bw_chain.specs.Chains.{writes_on, IsChain, page_at};
 ghost use Rattle.bw_chain.specs.LeafChains.{IsLeafChain, LeadsToSame};
-ghost use Rattle.bw_chain.specs.Scans.{EndsLeaf, high_of};
-ghost use Rattle.bw_chain.specs.Before.{low_of};
-ghost use Rattle.bw_chain.specs.Turns.{IsNoWrite};
+ghost use Rattle.bw_level.specs.Scans.{high_of};
+ghost use Rattle.bw_level.specs.Before.{low_of};
 
 use crate::chains::Chains;
 use crate::leaf_chain::LeafChain;
 use bw_delta::{Delta, Write};
 use bw_key::{Key, Memory};
+use bw_level::end_over;
 use bw_memory::Alloc;
 use bw_page::{Leaf, Page, PageId};
 
@@ -125,16 +125,5 @@ impl Chains {
             Page::Leaf(leaf) => leaf,
             _ => unreachable!(),
         }
-    }
-}
-
-// Where the range of a leaf ends, which a change may lie over, and its right neighbour.
-fn end_over<'a>(delta: Option<&'a Delta>, leaf: &'a Leaf) -> (Option<&'a Key>, Option<PageId>)
-    requires { IsNoWrite delta }
-    ensures { EndsLeaf delta.entry leaf.now (option_copied result.0) result.1 }
-{
-    match delta {
-        Some(Delta::Split { sep, to }) => (Some(sep), Some(*to)),
-        _ => (leaf.high(), leaf.side()),
     }
 }

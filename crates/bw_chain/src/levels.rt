@@ -1,9 +1,9 @@
 // On which level a page is, where it begins, and what is left of a removed one.
 ghost use Rattle.std.specs.Prelude.{◌≡◌};
 ghost use Rattle.std.specs.Option.{option_copied};
-ghost use Rattle.bw_chain.specs.Before.{low_at, removed_at};
+ghost use Rattle.bw_level.specs.Before.{low_at, removed_at};
 ghost use Rattle.bw_chain.specs.Chains.{IsChain, page_at};
-ghost use Rattle.bw_chain.specs.Slots.{slot_level};
+ghost use Rattle.bw_level.specs.Slots.{slot_level};
 
 use crate::chains::Chains;
 use bw_key::Key;

@@ -8,7 +8,6 @@ mod additions;
 mod bases;
 mod chains;
 mod counts;
-mod ends;
 mod entry_records;
 mod index_entries;
 mod inners;
@@ -21,19 +20,11 @@ mod merges;
 mod neighbours;
 mod records;
 mod splits;
-mod target;
 mod turn;
 
 pub use chains::{Chains, FLOOR};
-pub use ends::{lower_end, reaches};
-pub use laws::{
-    child_is_kept, contents_are_kept, dropped_child_is_kept, freed_page_is_kept, home_is_one,
-    home_is_there, levels_are_alike, levels_are_found, levels_are_grown, levels_are_kept,
-    levels_are_lowered, merges_are_kept, page_is_kept, parts_are_kept, way_is_one,
-};
+pub use laws::page_is_kept;
 pub use leaf_chain::LeafChain;
-pub use target::Target;
-pub use turn::Turn;
 
 /// Out of memory.
 pub use bw_key::Memory;

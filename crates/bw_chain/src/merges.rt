@@ -1,18 +1,20 @@
 // Base pages that take over their right neighbours, and that lose a child.
-ghost use Rattle.std.specs.Prelude.{◌≡◌, ◌≢◌, ◌+◌, ◌<◌, ◌^◌, ◌++◌, ◌∷◌, [], true, is_some, length, IfOk, OnOk, OnErr};
-ghost use Rattle.bw_chain.specs.Before.{low_at, low_of};
-ghost use Rattle.bw_chain.specs.Chains.{IsChain, floor_word, page_at, plain};
-ghost use Rattle.bw_chain.specs.Children.{HasLost, slot_without_child};
-ghost use Rattle.bw_chain.specs.Merges.{AreNeighbours, IsJoined, absorption, slot_joined, slot_removed};
-ghost use Rattle.bw_chain.specs.Slots.{IsSoundInner};
-ghost use Rattle.bw_chain.specs.Targets.{IsLinked};
-ghost use Rattle.bw_page.specs.declared.pages.Page.TheVariants.{Leaf as LeafPage, Inner as InnerPage};
+ghost use Rattle.std.specs.Prelude.{◌≡◌, ◌≢◌, ◌+◌, ◌<◌, ◌^◌, true, is_some, length, IfOk, OnOk, OnErr};
+ghost use Rattle.bw_level.specs.Before.{low_at, low_of};
+ghost use Rattle.bw_level.specs.Changes.{plain};
+ghost use Rattle.bw_chain.specs.Chains.{IsChain, floor_word, page_at};
+ghost use Rattle.bw_level.specs.Children.{slot_without_child};
+ghost use Rattle.bw_chain.specs.Restructuring.{HasLost, IsJoined, absorption};
+ghost use Rattle.bw_level.specs.Merges.{AreNeighbours, slot_joined, slot_removed};
+ghost use Rattle.bw_level.specs.Slots.{IsSoundInner};
+ghost use Rattle.bw_level.specs.Targets.{IsLinked};
 
 use crate::chains::Chains;
 use crate::records::append_both;
 use bw_delta::Delta;
 use bw_key::{Key, Memory};
-use bw_page::{Inner, Leaf, Page, PageId, RemovedPage};
+use bw_level::{join, without_child};
+use bw_page::{Page, PageId, RemovedPage};
 
 impl Chains {
     /// Joins a page and its right neighbour, neither of which has a record: the base page of the first gets the entries of
@@ -138,51 +140,5 @@ impl Chains {
             unreachable!();
         };
         without_child(page, sep)
-    }
-}
-
-// A page with its right neighbour.
-fn join(page: &Page, right: &Page) -> Result<Page, Memory>
-    requires { AreNeighbours (plain page.now) (plain right.now) }
-    ensures { IfOk result (λ joined. plain joined ≡ slot_joined (plain page.now) (plain right.now)) }
-{
-    match page {
-        Page::Leaf(leaf) => join_leaf(leaf, right),
-        Page::Inner(inner) => join_inner(inner, right),
-        Page::Gone(_) => unreachable!(),
-    }
-}
-
-// A leaf with its right neighbour.
-fn join_leaf(leaf: &Leaf, right: &Page) -> Result<Page, Memory>
-    requires { AreNeighbours (plain (LeafPage leaf.now)) (plain right.now) }
-    ensures { IfOk result (λ page. plain page ≡ slot_joined (plain (LeafPage leaf.now)) (plain right.now)) }
-{
-    match right {
-        Page::Leaf(other) => Ok(Page::Leaf(leaf.joined(other)?)),
-        Page::Inner(_) | Page::Gone(_) => unreachable!(),
-    }
-}
-
-// An inner page with its right neighbour.
-fn join_inner(inner: &Inner, right: &Page) -> Result<Page, Memory>
-    requires { AreNeighbours (plain (InnerPage inner.now)) (plain right.now) }
-    ensures { IfOk result (λ page. plain page ≡ slot_joined (plain (InnerPage inner.now)) (plain right.now)) }
-{
-    match right {
-        Page::Inner(other) => Ok(Page::Inner(inner.joined(other)?)),
-        Page::Leaf(_) | Page::Gone(_) => unreachable!(),
-    }
-}
-
-// An inner page without a child.
-fn without_child(page: &Page, sep: &Key) -> Result<Page, Memory>
-    requires inner { IsSoundInner (plain page.now) }
-    requires other { sep.now ≢ low_of (plain page.now) }
-    ensures { IfOk result (λ less. plain less ≡ slot_without_child sep.now (plain page.now)) }
-{
-    match page {
-        Page::Inner(inner) => Ok(Page::Inner(inner.without_child(sep)?)),
-        Page::Leaf(_) | Page::Gone(_) => unreachable!(),
     }
 }

@@ -1,16 +1,17 @@
 // Base pages that part in two, and that end where a split says.
 ghost use Rattle.std.specs.Prelude.{◌≡◌, ◌+◌, ◌<◌, ◌≤◌, ◌^◌, is_some, length, Some, IfOk, OnOk, OnErr, MatchOption};
-ghost use Rattle.bw_chain.specs.Chains.{Bases, IsChain, change, floor_word, page_at, plain, record_at};
-ghost use Rattle.bw_chain.specs.Slots.{IsSound};
-ghost use Rattle.bw_chain.specs.Splits.{IsCut, IsNarrowed, is_split, slot_entries, slot_left, slot_right, slot_separator};
-ghost use Rattle.bw_delta.specs.declared.deltas.Delta.TheVariants.{Split};
+ghost use Rattle.bw_chain.specs.Chains.{IsChain, floor_word, page_at, record_at};
+ghost use Rattle.bw_level.specs.Slots.{IsSound};
+ghost use Rattle.bw_level.specs.Splits.{slot_entries};
+ghost use Rattle.bw_chain.specs.Restructuring.{IsCut, IsNarrowed, is_split};
 
 use crate::bases::put_base;
 use crate::chains::{Chains, FLOOR};
 use crate::records::make_room;
 use bw_delta::Delta;
-use bw_key::{Key, Memory};
-use bw_page::{Page, PageId};
+use bw_key::Memory;
+use bw_level::{cut, narrow};
+use bw_page::PageId;
 
 impl Chains {
     /// Parts a page without a record: its base page keeps the entries before place `keep` and its bounds, and a record says
@@ -67,39 +68,5 @@ impl Chains {
         narrow(&mut base, high, side);
         self.bases.set(number as usize, Some(base));
         Ok(Some(number))
-    }
-}
-
-// Cuts a base page, which keeps its first entries, and answers the key at which the others begin and a page of them.
-fn cut(base: &mut Page, keep: usize) -> Result<(Key, Page), Memory>
-    requires some { 0 < keep }
-    requires fewer { keep < slot_entries (plain base.old) }
-    ensures separator { IfOk result (λ half. half.0 ≡ slot_separator keep (plain base.old)) }
-    ensures right { IfOk result (λ half. plain half.1 ≡ slot_right keep (plain base.old)) }
-    ensures left { OnOk result (plain base.new ≡ slot_left keep (plain base.old)) }
-    ensures err { OnErr result (base.new ≡ base.old) }
-{
-    match base {
-        Page::Leaf(leaf) => {
-            let sep = leaf.key_at(keep)?;
-            Ok((sep, Page::Leaf(leaf.cut(keep)?)))
-        }
-        Page::Inner(inner) => {
-            let sep = inner.children()[keep].0.copy()?;
-            Ok((sep, Page::Inner(inner.cut(keep)?)))
-        }
-        Page::Gone(_) => unreachable!(),
-    }
-}
-
-// Ends a base page at this key, before this right neighbour.
-fn narrow(base: &mut Page, high: Key, side: PageId)
-    requires { (bases : Bases) → IsSound (change bases (Split high side) (plain base.old)) }
-    ensures { (bases : Bases) → plain base.new ≡ change bases (Split high side) (plain base.old) }
-{
-    match base {
-        Page::Leaf(leaf) => leaf.narrow(high, side),
-        Page::Inner(inner) => inner.narrow(high, side),
-        Page::Gone(_) => unreachable!(),
     }
 }

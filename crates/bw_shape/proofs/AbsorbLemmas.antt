@@ -5,14 +5,14 @@ use Rattle.std.proofs.lemmas.List.{get_or-set_same, get_or-set_other, length-tak
 use Rattle.std.proofs.lemmas.List.Elements.{Contains-push_cases}
 use Rattle.std.specs.List.{Contains}
 use Rattle.bw_key.specs.Order.{KeyBytes}
-use Rattle.bw_chain.specs.Children.{body_without_child}
-use Rattle.bw_chain.specs.Levels.{AreLevels, row}
-use Rattle.bw_chain.specs.Merges.{bodies_joined, level_merged, without_page}
-use Rattle.bw_chain.specs.Reading.{body_pairs, body_writes, pairs_under, writes_over}
-use Rattle.bw_chain.specs.Searches.{IsInLevels}
-use Rattle.bw_chain.specs.Slots.{Slot, Body, Pairs, Children, Free, Gone, Live, is_leaf, slot_at, slot_level}
-use Rattle.bw_chain.specs.Splits.{slot_entries}
-use Rattle.bw_chain.proofs.AboveLemmas.{own_level}
+use Rattle.bw_level.specs.Children.{body_without_child}
+use Rattle.bw_level.specs.Levels.{AreLevels, row}
+use Rattle.bw_level.specs.Merges.{bodies_joined, level_merged, without_page}
+use Rattle.bw_level.specs.Reading.{body_pairs, body_writes, pairs_under, writes_over}
+use Rattle.bw_level.specs.Searches.{IsInLevels}
+use Rattle.bw_level.specs.Slots.{Slot, Body, Pairs, Children, Free, Gone, Live, is_leaf, slot_at, slot_level}
+use Rattle.bw_level.specs.Splits.{slot_entries}
+use Rattle.bw_level.proofs.AboveLemmas.{own_level}
 use Rattle.bw_tree.specs.Consolidation.{IsConsolidated, IsRebased}
 use Rattle.bw_tree.specs.Freeing.{IsTrimmed}
 use Rattle.bw_tree.specs.Merges.{HasLostChild, HasMerged, IsLowered, MayMerge}

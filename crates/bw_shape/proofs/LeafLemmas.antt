@@ -3,11 +3,11 @@ use Rattle.std.proofs.Common.{inl, inr, ◌⊎◌, ◌≡◌, ℕ, zero, suc, �
 use Rattle.std.proofs.lemmas.Bool.{cases_eq}
 use Rattle.std.specs.List.{Contains}
 use Rattle.bw_key.specs.Order.{KeyBytes}
-use Rattle.bw_chain.specs.Before.{low_of}
-use Rattle.bw_chain.specs.Levels.{AreLevels, BeginsWith, row}
-use Rattle.bw_chain.specs.Roots.{levels_grown}
-use Rattle.bw_chain.specs.Scans.{high_of}
-use Rattle.bw_chain.specs.Slots.{Slot, Body, Pairs, Children, Free, body_is_leaf, children_of, is_leaf, slot_at}
+use Rattle.bw_level.specs.Before.{low_of}
+use Rattle.bw_level.specs.Levels.{AreLevels, BeginsWith, row}
+use Rattle.bw_level.specs.Roots.{levels_grown}
+use Rattle.bw_level.specs.Scans.{high_of}
+use Rattle.bw_level.specs.Slots.{Slot, Body, Pairs, Children, Free, body_is_leaf, children_of, is_leaf, slot_at}
 use Rattle.bw_tree.specs.Merges.{IsLowered}
 use Rattle.bw_tree.specs.Roots.{HasNewRoot}
 use Rattle.bw_tree.specs.View.{TreeView}

@@ -8,9 +8,9 @@ use Rattle.std.specs.List.{Contains}
 use Rattle.std.specs.Option.{option_map}
 use Rattle.std.specs.Prelude.{slice_get}
 use Rattle.bw_key.specs.Order.{KeyBytes}
-use Rattle.bw_chain.specs.Levels.{AreLevels, row}
-use Rattle.bw_chain.specs.Slots.{Slot, Body, Pairs, Children, Free, Gone, Live, body_is_leaf, children_of, is_leaf, slot_at}
-use Rattle.bw_chain.specs.Splits.{level_parted, put_behind, slot_child, slot_entries}
+use Rattle.bw_level.specs.Levels.{AreLevels, row}
+use Rattle.bw_level.specs.Slots.{Slot, Body, Pairs, Children, Free, Gone, Live, body_is_leaf, children_of, is_leaf, slot_at}
+use Rattle.bw_level.specs.Splits.{level_parted, put_behind, slot_child, slot_entries}
 use Rattle.bw_tree.specs.Routing.{IsInLevel}
 use Rattle.bw_tree.specs.Splits.{IsSplittable}
 use Rattle.bw_tree.specs.View.{TreeView}

@@ -4,13 +4,13 @@ use Rattle.std.proofs.lemmas.Bool.{cases_eq, cases_lt}
 use Rattle.std.proofs.lemmas.List.{get_or-set_other, length-set}
 use Rattle.std.specs.List.{AllByRecursion, Contains}
 use Rattle.std.specs.Prelude.{slice_index}
-use Rattle.bw_chain.specs.Freeing.{IsUnreached}
-use Rattle.bw_chain.specs.Levels.{row}
-use Rattle.bw_chain.specs.Before.{low_of}
-use Rattle.bw_chain.specs.Reading.{writes_over}
-use Rattle.bw_chain.specs.Scans.{high_of}
-use Rattle.bw_chain.specs.Searches.{IsInLevels}
-use Rattle.bw_chain.specs.Slots.{Slot, Free, side_of_slot, slot_at}
+use Rattle.bw_level.specs.Freeing.{IsUnreached}
+use Rattle.bw_level.specs.Levels.{row}
+use Rattle.bw_level.specs.Before.{low_of}
+use Rattle.bw_level.specs.Reading.{writes_over}
+use Rattle.bw_level.specs.Scans.{high_of}
+use Rattle.bw_level.specs.Searches.{IsInLevels}
+use Rattle.bw_level.specs.Slots.{Slot, Free, side_of_slot, slot_at}
 use Rattle.bw_tree.specs.Consolidation.{IsConsolidated, IsRebased}
 use Rattle.bw_tree.specs.View.{TreeView, contents_at}
 use Rattle.bw_steps.specs.Steps.{HasLostChain, IsConsolidationStep}

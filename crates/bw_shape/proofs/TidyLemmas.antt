@@ -6,15 +6,15 @@ use Rattle.std.proofs.lemmas.List.Elements.{Contains-append_left, Contains-appen
 use Rattle.std.specs.List.{Contains}
 use Rattle.std.specs.Prelude.{slice_index}
 use Rattle.bw_key.specs.Order.{KeyBytes}
-use Rattle.bw_chain.specs.Children.{state_with_child}
-use Rattle.bw_chain.specs.Chains.{body_with_child}
-use Rattle.bw_chain.specs.Levels.{AreLevels, row}
-use Rattle.bw_chain.specs.Reading.{body_pairs, body_writes, pairs_under, writes_over}
-use Rattle.bw_chain.specs.Roots.{levels_grown}
-use Rattle.bw_chain.specs.Searches.{IsInLevels}
-use Rattle.bw_chain.specs.Slots.{Slot, PageState, Body, Pairs, Children, Free, Gone, Live, slot_at}
-use Rattle.bw_chain.specs.Splits.{level_parted, put_behind, slot_entries}
-use Rattle.bw_chain.proofs.SplitLemmas.{had}
+use Rattle.bw_level.specs.Children.{state_with_child}
+use Rattle.bw_level.specs.Changes.{body_with_child}
+use Rattle.bw_level.specs.Levels.{AreLevels, row}
+use Rattle.bw_level.specs.Reading.{body_pairs, body_writes, pairs_under, writes_over}
+use Rattle.bw_level.specs.Roots.{levels_grown}
+use Rattle.bw_level.specs.Searches.{IsInLevels}
+use Rattle.bw_level.specs.Slots.{Slot, PageState, Body, Pairs, Children, Free, Gone, Live, slot_at}
+use Rattle.bw_level.specs.Splits.{level_parted, put_behind, slot_entries}
+use Rattle.bw_level.proofs.SplitLemmas.{had}
 use Rattle.bw_tree.specs.Children.{AreNamed, IsNamed, state_with_children}
 use Rattle.bw_tree.specs.Roots.{HasNewRoot}
 use Rattle.bw_tree.specs.Splits.{IsSplit, IsSplittable}

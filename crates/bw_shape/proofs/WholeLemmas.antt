@@ -2,7 +2,7 @@
 use Rattle.std.proofs.Common.{◌≡◌, ℕ, zero, suc, ◌+◌, ◌<◌, List, [], ◌∷◌, ◌++◌, length, take, drop, refl, sym, ap, ◌∙◌, arith}
 use Rattle.std.proofs.lemmas.List.{take_all}
 use Rattle.std.specs.List.{concat}
-use Rattle.bw_chain.specs.Levels.{row}
+use Rattle.bw_level.specs.Levels.{row}
 
 nil_right : (l : List ℕ) → l ++ [] ≡ l
 nil_right [] = refl

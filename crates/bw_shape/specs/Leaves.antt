@@ -1,10 +1,10 @@
 -- The leaves of a tree, in the order of keys, each with its range.
 use Rattle.std.specs.Prelude.{ℕ, List, Option, map}
 use Rattle.bw_key.specs.Order.{KeyBytes}
-use Rattle.bw_chain.specs.Before.{low_of}
-use Rattle.bw_chain.specs.Levels.{row}
-use Rattle.bw_chain.specs.Scans.{high_of}
-use Rattle.bw_chain.specs.Slots.{Slot, slot_at}
+use Rattle.bw_level.specs.Before.{low_of}
+use Rattle.bw_level.specs.Levels.{row}
+use Rattle.bw_level.specs.Scans.{high_of}
+use Rattle.bw_level.specs.Slots.{Slot, slot_at}
 use Rattle.bw_tree.specs.View.{TreeView}
 
 -- a leaf has the keys from its low one on and below its high one, if there is one

@@ -1,9 +1,9 @@
 -- Limits of pages, and which leaves keep to them.
 use Rattle.std.specs.Prelude.{ℕ, ◌+◌, ◌≤◌, ◌⊎◌, List, length}
 use Rattle.std.specs.List.{Contains}
-use Rattle.bw_chain.specs.Levels.{row}
-use Rattle.bw_chain.specs.Reading.{pairs_under, writes_over}
-use Rattle.bw_chain.specs.Slots.{Slot, slot_at}
+use Rattle.bw_level.specs.Levels.{row}
+use Rattle.bw_level.specs.Reading.{pairs_under, writes_over}
+use Rattle.bw_level.specs.Slots.{Slot, slot_at}
 use Rattle.bw_tree.specs.Shapes.{pairs_on}
 use Rattle.bw_tree.specs.View.{TreeView}
 

@@ -1,10 +1,10 @@
 -- What a sweep does, on its way and at its end.
 use Rattle.std.specs.Prelude.{◌≡◌, ℕ, ◌<◌, ◌≤◌, ◌^◌, List, [], None, length, slice_index}
 use Rattle.std.specs.List.{AllByRecursion, Contains}
-use Rattle.bw_chain.specs.Before.{low_of}
-use Rattle.bw_chain.specs.Reading.{writes_over}
-use Rattle.bw_chain.specs.Scans.{high_of}
-use Rattle.bw_chain.specs.Slots.{Slot, Free, side_of_slot, slot_at}
+use Rattle.bw_level.specs.Before.{low_of}
+use Rattle.bw_level.specs.Reading.{writes_over}
+use Rattle.bw_level.specs.Scans.{high_of}
+use Rattle.bw_level.specs.Slots.{Slot, Free, side_of_slot, slot_at}
 use Rattle.bw_tree.specs.View.{TreeView, contents_at}
 use Rattle.bw_steps.specs.Releasing.{FreesUnreached, HasNoneToFree}
 

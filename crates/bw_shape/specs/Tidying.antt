@@ -1,7 +1,7 @@
 -- Tidying: pages that are over a limit are consolidated and split, and pages with few entries are merged.
 use Rattle.std.specs.Prelude.{◌≡◌, ℕ, ◌≤◌, ◌⊎◌, List, [], Option, None, drop, reverse}
 use Rattle.std.specs.List.{Contains, concat}
-use Rattle.bw_chain.specs.Levels.{row}
+use Rattle.bw_level.specs.Levels.{row}
 use Rattle.bw_tree.specs.View.{TreeView, contents_at}
 use Rattle.bw_tree.specs.Children.{HasNoUnnamed}
 use Rattle.bw_steps.specs.Naming.{AreFinished}

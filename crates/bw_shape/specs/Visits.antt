@@ -1,10 +1,10 @@
 -- One page that is due is looked at: it is consolidated where it has records, and split or merged by its number of entries.
 use Rattle.std.specs.Prelude.{◌≡◌, ℕ, Bool, true, false, ◌+◌, ◌*◌, ◌-◌, ◌≤◌, ◌<◌, ◌^◌, ◌⊎◌, ◌/◌, List, [], ◌∷◌, ◌++◌, None, length, drop, slice_index}
 use Rattle.std.specs.List.{Contains}
-use Rattle.bw_chain.specs.Levels.{row}
-use Rattle.bw_chain.specs.Reading.{writes_over}
-use Rattle.bw_chain.specs.Slots.{Slot, slot_at}
-use Rattle.bw_chain.specs.Splits.{slot_entries}
+use Rattle.bw_level.specs.Levels.{row}
+use Rattle.bw_level.specs.Reading.{writes_over}
+use Rattle.bw_level.specs.Slots.{Slot, slot_at}
+use Rattle.bw_level.specs.Splits.{slot_entries}
 use Rattle.bw_tree.specs.Pages.{IsLeft}
 use Rattle.bw_tree.specs.Routing.{IsInLevel}
 use Rattle.bw_tree.specs.Shapes.{pairs_on}

@@ -1,9 +1,9 @@
 // Pages with too few entries are merged into their left neighbours.
 ghost use Rattle.std.specs.Prelude.{◌≡◌, ◌<◌, true, None, length, IfOk, MatchOption, OnOk};
 ghost use Rattle.std.specs.List.{Contains};
-ghost use Rattle.bw_chain.specs.Levels.{row};
-ghost use Rattle.bw_chain.specs.Searches.{IsInLevels};
-ghost use Rattle.bw_chain.specs.Slots.{slot_at};
+ghost use Rattle.bw_level.specs.Levels.{row};
+ghost use Rattle.bw_level.specs.Searches.{IsInLevels};
+ghost use Rattle.bw_level.specs.Slots.{slot_at};
 ghost use Rattle.bw_tree.specs.Routing.{IsInLevel};
 ghost use Rattle.bw_tree.specs.Shapes.{pairs_on};
 ghost use Rattle.bw_shape.specs.Limits.{AreWithinBut, IsWithin};

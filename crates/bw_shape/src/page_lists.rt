@@ -1,7 +1,7 @@
 // Lists of a tree's pages, in the order in which tidying looks at them.
 ghost use Rattle.std.specs.Prelude.{◌≡◌, ℕ, ◌+◌, ◌<◌, ◌≤◌, ◌^◌, drop, length, IfOk, IfSome, OnOk, vec_capacity, true};
 ghost use Rattle.std.specs.List.{Contains, concat};
-ghost use Rattle.bw_chain.specs.Levels.{row};
+ghost use Rattle.bw_level.specs.Levels.{row};
 ghost use Rattle.bw_shape.specs.Sweeps.{HasAllRecorded};
 
 use bw_chain::FLOOR;

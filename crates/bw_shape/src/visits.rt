@@ -1,9 +1,9 @@
 // What tidying does where it comes to a page: it leaves the page alone, splits it, or merges it into its left neighbour.
 ghost use Rattle.std.specs.Prelude.{◌≡◌, ◌<◌, ◌≤◌, ◌⊎◌, false, true, None, length, OnOk};
 ghost use Rattle.std.specs.List.{Contains};
-ghost use Rattle.bw_chain.specs.Levels.{row};
-ghost use Rattle.bw_chain.specs.Slots.{slot_at};
-ghost use Rattle.bw_chain.specs.Splits.{slot_entries};
+ghost use Rattle.bw_level.specs.Levels.{row};
+ghost use Rattle.bw_level.specs.Slots.{slot_at};
+ghost use Rattle.bw_level.specs.Splits.{slot_entries};
 ghost use Rattle.bw_tree.specs.Routing.{IsInLevel};
 ghost use Rattle.bw_shape.specs.Limits.{AreWithinBut, IsWithin};
 ghost use Rattle.bw_shape.specs.Tidying.{HoldsAll};

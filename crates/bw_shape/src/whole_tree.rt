@@ -1,7 +1,7 @@
 // Tidying of all pages.
 ghost use Rattle.std.specs.Prelude.{◌≡◌, ℕ, false, [], None, IfOk};
 ghost use Rattle.std.specs.List.{Contains};
-ghost use Rattle.bw_chain.specs.Levels.{row};
+ghost use Rattle.bw_level.specs.Levels.{row};
 ghost use Rattle.bw_shape.specs.Limits.{AreWithinBut, HoldFew};
 ghost use Rattle.bw_shape.specs.Tidying.{AreAllPages, HoldsAll};
 

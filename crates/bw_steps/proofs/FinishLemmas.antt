@@ -3,7 +3,7 @@ use Rattle.std.proofs.Common.{inl, inr, ◌≡◌, ℕ, ◌∙◌, sym, subst, s
 use Rattle.std.proofs.lemmas.List.{set-set}
 use Rattle.std.specs.Prelude.{Result, Ok, Err, OnErr}
 use Rattle.bw_key.specs.Order.{KeyBytes}
-use Rattle.bw_chain.specs.Children.{FitsChild}
+use Rattle.bw_level.specs.Children.{FitsChild}
 use Rattle.bw_tree.specs.Children.{IsNamed, IsUnnamed}
 use Rattle.bw_tree.specs.Consolidation.{IsRebased}
 use Rattle.bw_tree.specs.Routing.{IsInnerPage}

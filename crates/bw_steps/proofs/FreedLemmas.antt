@@ -5,12 +5,12 @@ use Rattle.std.specs.List.{Contains}
 use Rattle.std.specs.Prelude.{IfSome}
 use Rattle.bw_key.specs.Order.{KeyBytes}
 use Rattle.bw_page.specs.declared.pages.RemovedPage.{RemovedPage}
-use Rattle.bw_chain.specs.Before.{removed_at}
-use Rattle.bw_chain.specs.Freeing.{IsUnreached}
-use Rattle.bw_chain.specs.Levels.{row}
-use Rattle.bw_chain.specs.Searches.{IsInLevels}
-use Rattle.bw_chain.specs.Slots.{Slot, Free, Gone, Live, left_of, left_of_slot, slot_at}
-use Rattle.bw_chain.specs.Steps.{IsTerm}
+use Rattle.bw_level.specs.Before.{removed_at}
+use Rattle.bw_level.specs.Freeing.{IsUnreached}
+use Rattle.bw_level.specs.Levels.{row}
+use Rattle.bw_level.specs.Searches.{IsInLevels}
+use Rattle.bw_level.specs.Slots.{Slot, Free, Gone, Live, left_of, left_of_slot, slot_at}
+use Rattle.bw_level.specs.Steps.{IsTerm}
 use Rattle.bw_tree.specs.Freeing.{HasFreed, MayBeFreed}
 use Rattle.bw_tree.specs.View.{TreeView}
 use Rattle.bw_steps.specs.Releasing.{AreFreed, HasNoneToFree, IsLeftOut, IsLeftToFree, IsReleaseStep, taken_count}

@@ -5,13 +5,13 @@ use Rattle.std.proofs.lemmas.List.{set-set}
 use Rattle.std.specs.List.{Contains}
 use Rattle.bw_key.specs.Order.{KeyBytes}
 use Rattle.bw_page.specs.declared.pages.RemovedPage.{RemovedPage}
-use Rattle.bw_chain.specs.Children.{HasChildAt, MayDropChild}
-use Rattle.bw_chain.specs.Entries.{AreExact}
-use Rattle.bw_chain.specs.Levels.{AreLevels, BeginsWith, IsHomeAt, row}
-use Rattle.bw_chain.specs.Roots.{HasOneChild}
-use Rattle.bw_chain.specs.Searches.{IsInLevels}
-use Rattle.bw_chain.specs.Slots.{Slot, PageState, Body, Pairs, Children, Gone, Live, IsSoundBody, children_of, level_of, side_of, side_of_slot, slot_at}
-use Rattle.bw_chain.specs.Splits.{entry_count, slot_entries}
+use Rattle.bw_level.specs.Children.{HasChildAt, MayDropChild}
+use Rattle.bw_level.specs.Entries.{AreExact}
+use Rattle.bw_level.specs.Levels.{AreLevels, BeginsWith, IsHomeAt, row}
+use Rattle.bw_level.specs.Roots.{HasOneChild}
+use Rattle.bw_level.specs.Searches.{IsInLevels}
+use Rattle.bw_level.specs.Slots.{Slot, PageState, Body, Pairs, Children, Gone, Live, IsSoundBody, children_of, level_of, side_of, side_of_slot, slot_at}
+use Rattle.bw_level.specs.Splits.{entry_count, slot_entries}
 use Rattle.bw_tree.specs.Consolidation.{IsRebased}
 use Rattle.bw_tree.specs.Merges.{HasLostChild, IsNamerOfRemoved, MayMerge}
 use Rattle.bw_tree.specs.Pages.{IsLeft, IsNamer, IsPlain}

@@ -7,17 +7,17 @@ use Rattle.bw_key.specs.Order.{KeyBytes, key_cmp}
 use Rattle.bw_model.specs.Contents.{is_below_end}
 use Rattle.bw_page.proofs.KeyLemmas.{below_back, below_self, upto_below}
 use Rattle.bw_page.proofs.Truths.{both_of, holds, true_holds}
-use Rattle.bw_chain.specs.Before.{low_of}
-use Rattle.bw_chain.specs.Entries.{AreExact}
-use Rattle.bw_chain.specs.Levels.{AreLevels, IsHomeAt, row}
-use Rattle.bw_chain.specs.Scans.{high_of}
-use Rattle.bw_chain.specs.Searches.{IsInLevels}
-use Rattle.bw_chain.specs.Slots.{Body, Pairs, Children, IsSoundBody, side_of, slot_at}
-use Rattle.bw_chain.specs.Walk.{walked}
-use Rattle.bw_chain.proofs.AboveLemmas.{one_above, own_level}
-use Rattle.bw_chain.proofs.RowLemmas.{InRow, in_row}
-use Rattle.bw_chain.proofs.RouteLemmas.{side_bounded}
-use Rattle.bw_chain.proofs.WalkLemmas.{way_falls}
+use Rattle.bw_level.specs.Before.{low_of}
+use Rattle.bw_level.specs.Entries.{AreExact}
+use Rattle.bw_level.specs.Levels.{AreLevels, IsHomeAt, row}
+use Rattle.bw_level.specs.Scans.{high_of}
+use Rattle.bw_level.specs.Searches.{IsInLevels}
+use Rattle.bw_level.specs.Slots.{Body, Pairs, Children, IsSoundBody, side_of, slot_at}
+use Rattle.bw_level.specs.Walk.{walked}
+use Rattle.bw_level.proofs.AboveLemmas.{one_above, own_level}
+use Rattle.bw_level.proofs.RowLemmas.{InRow, in_row}
+use Rattle.bw_level.proofs.RouteLemmas.{side_bounded}
+use Rattle.bw_level.proofs.WalkLemmas.{way_falls}
 use Rattle.bw_tree.specs.Children.{IsUnnamed, MayHaveChildren}
 use Rattle.bw_tree.specs.View.{TreeView}
 use Rattle.bw_tree.proofs.UnnamedLemmas.{fits_child}

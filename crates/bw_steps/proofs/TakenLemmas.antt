@@ -2,8 +2,8 @@
 use Rattle.std.proofs.Common.{inl, inr, ◌⊎◌, ◌≡◌, ℕ, zero, suc, ◌+◌, ◌≤◌, List, [], ◌∷◌, length, refl, sym, ap, ◌∙◌, arith}
 use Rattle.std.proofs.lemmas.Bool.{cases_eq}
 use Rattle.bw_page.specs.declared.pages.RemovedPage.{RemovedPage}
-use Rattle.bw_chain.specs.Slots.{Slot, PageState, Free, Gone, Live, slot_at}
-use Rattle.bw_chain.specs.Splits.{IsParted}
+use Rattle.bw_level.specs.Slots.{Slot, PageState, Free, Gone, Live, slot_at}
+use Rattle.bw_level.specs.Splits.{IsParted}
 use Rattle.bw_steps.specs.Releasing.{one_if_taken, taken_count}
 
 pub not_free : {s : PageState} → Live s ≡ Free → ⊥

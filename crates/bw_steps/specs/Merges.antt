@@ -1,6 +1,6 @@
 -- What the steps do by which pages are merged and the tree loses a level, and where they aren't needed.
 use Rattle.std.specs.Prelude.{◌≡◌, ℕ}
-use Rattle.bw_chain.specs.Roots.{HasOneChild}
+use Rattle.bw_level.specs.Roots.{HasOneChild}
 use Rattle.bw_tree.specs.Merges.{HasLostChild, HasMerged, HasNoNamerOfRemoved, IsLowered, IsNamerOfRemoved, MayMerge}
 use Rattle.bw_tree.specs.View.{TreeView}
 use Rattle.bw_steps.specs.declared.steps.Did.{Did}

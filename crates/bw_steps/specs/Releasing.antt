@@ -1,7 +1,7 @@
 -- What giving identifiers back does, and where it isn't needed.
 use Rattle.std.specs.Prelude.{◌≡◌, ℕ, ◌+◌, ◌⊎◌, List, [], ◌∷◌, None}
-use Rattle.bw_chain.specs.Freeing.{IsUnreached}
-use Rattle.bw_chain.specs.Slots.{Slot, Free, Gone, Live, slot_at}
+use Rattle.bw_level.specs.Freeing.{IsUnreached}
+use Rattle.bw_level.specs.Slots.{Slot, Free, Gone, Live, slot_at}
 use Rattle.bw_tree.specs.Freeing.{HasFreed, MayBeFreed}
 use Rattle.bw_tree.specs.View.{TreeView, contents_at}
 use Rattle.bw_steps.specs.declared.steps.Did.{Did}

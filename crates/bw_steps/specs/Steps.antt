@@ -1,7 +1,7 @@
 -- What the steps of restructuring do, and where they aren't needed.
 use Rattle.std.specs.Prelude.{◌≡◌, ℕ, ◌<◌, ◌≤◌, ◌^◌, ◌⊎◌, None, slice_index}
 use Rattle.bw_key.specs.Order.{KeyBytes}
-use Rattle.bw_chain.specs.Slots.{side_of}
+use Rattle.bw_level.specs.Slots.{side_of}
 use Rattle.bw_tree.specs.Children.{HasNoUnnamed, IsNamed, IsUnnamed}
 use Rattle.bw_tree.specs.Consolidation.{IsConsolidated, IsRebased}
 use Rattle.bw_tree.specs.Roots.{HasNewRoot}

@@ -1,7 +1,7 @@
 // The steps by which pages are merged, and by which the tree loses a level.
 ghost use Rattle.std.specs.Prelude.{◌≡◌, ℕ, None, Decides, MatchOption, IfOk, OnOk, OnErr};
-ghost use Rattle.bw_chain.specs.Children.{MayDropChild};
-ghost use Rattle.bw_chain.specs.Roots.{HasOneChild};
+ghost use Rattle.bw_level.specs.Children.{MayDropChild};
+ghost use Rattle.bw_level.specs.Roots.{HasOneChild};
 ghost use Rattle.bw_tree.specs.Merges.{HasLostChild, IsNamerOfRemoved, MayMerge};
 ghost use Rattle.bw_tree.specs.Pages.{IsNamer};
 ghost use Rattle.bw_steps.specs.Merges.{IsAbsorptionFinishStep, IsAbsorptionStep, IsLoweringStep};

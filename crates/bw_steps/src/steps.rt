@@ -1,9 +1,9 @@
 // The steps by which a tree changes its pages.
 ghost use Rattle.std.specs.Prelude.{◌≡◌, ◌<◌, ◌≤◌, ◌^◌, true, false, None, Decides, MatchOption, IfOk, OnOk, OnErr, length, slice_index};
-ghost use Rattle.bw_chain.specs.Children.{FitsChild};
-ghost use Rattle.bw_chain.specs.Splits.{HasNoRemovedAt};
+ghost use Rattle.bw_level.specs.Children.{FitsChild};
+ghost use Rattle.bw_level.specs.Splits.{HasNoRemovedAt};
 ghost use Rattle.bw_tree.specs.Children.{IsNamed};
-ghost use Rattle.bw_chain.specs.Searches.{IsInLevels};
+ghost use Rattle.bw_level.specs.Searches.{IsInLevels};
 ghost use Rattle.bw_tree.specs.Consolidation.{IsRebased};
 ghost use Rattle.bw_tree.specs.Routing.{IsInLevel, IsInnerPage};
 ghost use Rattle.bw_tree.specs.Pages.{IsPlain};

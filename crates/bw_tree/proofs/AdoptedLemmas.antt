@@ -1,5 +1,5 @@
 -- A tree that adopted the words that a board was closed with.
-use Rattle.bw_tree.specs.Stages.{writes_with}
+use Rattle.bw_tree.specs.Stages.{writes_with, IsPosted, IsPostedStage, adopted_stage}
 use Rattle.std.proofs.Common.{◌≡◌, ℕ, zero, suc, ◌+◌, ◌<◌, ◌≤◌, true, false, List, [], ◌∷◌, ◌++◌, length, take, drop, Option, Some, None, refl, sym, ap, ◌∙◌, subst, arith}
 use Rattle.std.specs.Prelude.{filter, slice_get, slice_index}
 use Rattle.std.specs.List.{Contains}
@@ -9,16 +9,16 @@ use Rattle.bw_core.specs.World.{Meets}
 use Rattle.bw_delta.specs.Arenas.{deltas_of, links_of}
 use Rattle.bw_delta.specs.Writes.{WriteView}
 use Rattle.bw_delta.specs.ContentsAsOf.{contents_as_of}
-use Rattle.bw_chain.specs.Slots.{Slot, slot_at, has_key}
-use Rattle.bw_chain.specs.Reading.{writes_over, row_pairs, row_writes}
-use Rattle.bw_chain.specs.Turns.{slot_without_writes}
-use Rattle.bw_chain.specs.Levels.{IsHome, row, levels_under}
-use Rattle.bw_chain.specs.Chains.{Bases, Records, slot_of_word, slots_of}
+use Rattle.bw_level.specs.Slots.{Slot, slot_at, has_key}
+use Rattle.bw_level.specs.Reading.{writes_over, row_pairs, row_writes}
+use Rattle.bw_level.specs.Turns.{slot_without_writes}
+use Rattle.bw_level.specs.Levels.{IsHome, row, levels_under}
+use Rattle.bw_level.specs.Changes.{Bases}
+use Rattle.bw_chain.specs.Chains.{Records, slot_of_word, slots_of}
 use Rattle.bw_tree.specs.Trees.{IsStanding, IsTree, StageWords, stage_of, view_of}
 use Rattle.bw_tree.specs.Words.{words_before}
 use Rattle.bw_tree.specs.declared.mapping_words.WordsBefore.{WordsBefore}
 use Rattle.bw_chain.specs.Records.{put_records, writes_in}
-use Rattle.bw_tree.specs.Stages.{IsPosted, IsPostedStage, adopted_stage}
 use Rattle.bw_tree.specs.View.{TreeView, StageView, contents_at, contents_with}
 use Rattle.bw_tree.proofs.AdoptLemmas.{ChainOf, contents_after_it, levels_after, pages_after, relinked, standing_after, writes_after, writes_put_in}
 use Rattle.bw_chain.proofs.GrowthLemmas.{append_extends, drop_front, same_map, still_ends, take_front}

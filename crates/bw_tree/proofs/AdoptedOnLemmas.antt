@@ -2,7 +2,8 @@
 use Rattle.std.proofs.Common.{◌≡◌, ℕ, ◌<◌, ◌≤◌, List, length, Option, Some, None, sym, ap, ◌∙◌, subst}
 use Rattle.std.specs.List.{AllByRecursion}
 use Rattle.bw_core.specs.World.{times}
-use Rattle.bw_chain.specs.Chains.{Bases, Records}
+use Rattle.bw_level.specs.Changes.{Bases}
+use Rattle.bw_chain.specs.Chains.{Records}
 use Rattle.bw_tree.specs.Stages.{IsPostedStage}
 use Rattle.bw_tree.specs.Trees.{IsTree, StageWords, view_of}
 use Rattle.bw_tree.specs.View.{TreeView, StageView}

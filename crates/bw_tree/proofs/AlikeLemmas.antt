@@ -7,15 +7,15 @@ use Rattle.bw_page.proofs.Truths.{both_of}
 use Rattle.bw_page.specs.declared.pages.RemovedPage.{RemovedPage}
 use Rattle.bw_delta.specs.Writes.{WriteView}
 use Rattle.bw_delta.specs.declared.deltas.Delta.TheVariants.{Put}
-use Rattle.bw_chain.specs.Slots.{Slot, PageState, Body, Pairs, Children, Free, Gone, Live, slot_at, level_of, children_of, IsSoundBody}
-use Rattle.bw_chain.specs.Levels.{AreLevels}
-use Rattle.bw_chain.specs.Entries.{AreExact}
-use Rattle.bw_chain.specs.Chains.{Bases, body_written, change}
-use Rattle.bw_chain.specs.Reading.{body_pairs, pairs_under, row_pairs}
-use Rattle.bw_chain.specs.Turns.{slot_without_writes}
-use Rattle.bw_chain.specs.Steps.{AreAlike, IsAlike}
-use Rattle.bw_chain.proofs.RowLemmas.{same_each}
-use Rattle.bw_chain.proofs.AlikeLemmas.{exact_alike, levels_alike}
+use Rattle.bw_level.specs.Slots.{Slot, PageState, Body, Pairs, Children, Free, Gone, Live, slot_at, level_of, children_of, IsSoundBody}
+use Rattle.bw_level.specs.Levels.{AreLevels}
+use Rattle.bw_level.specs.Entries.{AreExact}
+use Rattle.bw_level.specs.Changes.{Bases, body_written, change}
+use Rattle.bw_level.specs.Reading.{body_pairs, pairs_under, row_pairs}
+use Rattle.bw_level.specs.Turns.{slot_without_writes}
+use Rattle.bw_level.specs.Steps.{AreAlike, IsAlike}
+use Rattle.bw_level.proofs.RowLemmas.{same_each}
+use Rattle.bw_level.proofs.AlikeLemmas.{exact_alike, levels_alike}
 use Rattle.bw_chain.proofs.ChainLemmas.{bare_put}
 use Rattle.bw_tree.proofs.PostedLemmas.{put_over}
 

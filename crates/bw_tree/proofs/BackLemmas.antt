@@ -12,12 +12,12 @@ use Rattle.bw_model.specs.Values.{ValueBytes}
 use Rattle.bw_page.proofs.Truths.{holds, true_holds, holds_not, left_of, right_of}
 use Rattle.bw_page.proofs.KeyLemmas.{below_back, below_self, upto_trans}
 use Rattle.bw_delta.proofs.Maps.{sorted_in_range}
-use Rattle.bw_chain.specs.Slots.{Slot, PageState, Free, Gone, Live, slot_at, has_key}
-use Rattle.bw_chain.specs.Levels.{row}
-use Rattle.bw_chain.specs.Scans.{Reaches}
-use Rattle.bw_chain.specs.Before.{IsBefore, low_of}
+use Rattle.bw_level.specs.Slots.{Slot, PageState, Free, Gone, Live, slot_at, has_key}
+use Rattle.bw_level.specs.Levels.{row}
+use Rattle.bw_level.specs.Scans.{Reaches}
+use Rattle.bw_level.specs.Before.{IsBefore, low_of}
 use Rattle.bw_tree.proofs.RangeLemmas.{one_then_other, all_of_those, none_of_those, first_of_front}
-use Rattle.bw_chain.proofs.EndLemmas.{upto_end}
+use Rattle.bw_level.proofs.EndLemmas.{upto_end}
 
 different : true ≡ false → ⊥
 different e = cc

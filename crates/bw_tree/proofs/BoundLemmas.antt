@@ -17,13 +17,13 @@ use Rattle.bw_delta.specs.History.{action_at, history, HasDistinctStamps}
 use Rattle.bw_delta.specs.Writes.{WriteView}
 use Rattle.bw_delta.proofs.Histories.{quiet}
 use Rattle.bw_delta.proofs.Maps.{find_in_range, sorted_in_range}
-use Rattle.bw_chain.specs.Before.{low_of}
-use Rattle.bw_chain.specs.Levels.{AreLevels, IsHome, row}
-use Rattle.bw_chain.specs.Reading.{pairs_under, row_writes, value_in, writes_over}
-use Rattle.bw_chain.specs.Scans.{high_of}
-use Rattle.bw_chain.specs.Slots.{Slot, slot_at}
-use Rattle.bw_chain.specs.Splits.{slot_entries}
-use Rattle.bw_chain.proofs.HomeLemmas.{home_value}
+use Rattle.bw_level.specs.Before.{low_of}
+use Rattle.bw_level.specs.Levels.{AreLevels, IsHome, row}
+use Rattle.bw_level.specs.Reading.{pairs_under, row_writes, value_in, writes_over}
+use Rattle.bw_level.specs.Scans.{high_of}
+use Rattle.bw_level.specs.Slots.{Slot, slot_at}
+use Rattle.bw_level.specs.Splits.{slot_entries}
+use Rattle.bw_level.proofs.HomeLemmas.{home_value}
 use Rattle.bw_tree.specs.Shapes.{pairs_on}
 use Rattle.bw_tree.specs.View.{TreeView, contents_at}
 use Rattle.bw_tree.proofs.ScanLemmas.{leaf_in_row}

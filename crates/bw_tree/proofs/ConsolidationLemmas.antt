@@ -17,23 +17,24 @@ use Rattle.bw_delta.specs.History.{HasDistinctStamps, action_at}
 use Rattle.bw_delta.specs.Writes.{WriteView}
 use Rattle.bw_delta.proofs.Histories.{quiet}
 use Rattle.bw_delta.proofs.Maps.{find_in_range}
-use Rattle.bw_chain.specs.Chains.{Bases, Records, slot_of_word, slots_of}
-use Rattle.bw_chain.specs.Slots.{Slot, PageState, Body, Pairs, Children, Free, Gone, Live, IsSoundBody, children_of, level_of, side_of_slot, slot_at}
-use Rattle.bw_chain.specs.Before.{low_of}
-use Rattle.bw_chain.specs.Entries.{AreExact}
-use Rattle.bw_chain.specs.Levels.{AreLevels, IsHome, row, levels_under}
-use Rattle.bw_chain.specs.Reading.{contents_in, row_writes, value_in, writes_over}
-use Rattle.bw_chain.specs.Scans.{high_of}
-use Rattle.bw_chain.specs.Steps.{AreAlike, IsAlike}
+use Rattle.bw_level.specs.Changes.{Bases}
+use Rattle.bw_chain.specs.Chains.{Records, slot_of_word, slots_of}
+use Rattle.bw_level.specs.Slots.{Slot, PageState, Body, Pairs, Children, Free, Gone, Live, IsSoundBody, children_of, level_of, side_of_slot, slot_at}
+use Rattle.bw_level.specs.Before.{low_of}
+use Rattle.bw_level.specs.Entries.{AreExact}
+use Rattle.bw_level.specs.Levels.{AreLevels, IsHome, row, levels_under}
+use Rattle.bw_level.specs.Reading.{contents_in, row_writes, value_in, writes_over}
+use Rattle.bw_level.specs.Scans.{high_of}
+use Rattle.bw_level.specs.Steps.{AreAlike, IsAlike}
 use Rattle.bw_chain.specs.Supports.{base_under}
-use Rattle.bw_chain.proofs.AlikeLemmas.{exact_alike, levels_alike}
+use Rattle.bw_level.proofs.AlikeLemmas.{exact_alike, levels_alike}
 use Rattle.bw_chain.proofs.BaseLemmas.{low, others_kept, put_there}
-use Rattle.bw_chain.proofs.HomeLemmas.{home_value, one_home}
-use Rattle.bw_chain.proofs.LevelLemmas.{levels_now}
+use Rattle.bw_level.proofs.HomeLemmas.{home_value, one_home}
+use Rattle.bw_level.proofs.LevelLemmas.{levels_now}
 use Rattle.bw_chain.proofs.ReadingLemmas.{slot_of_head}
-use Rattle.bw_chain.proofs.RouteLemmas.{held}
-use Rattle.bw_chain.proofs.RowLemmas.{InRow}
-use Rattle.bw_chain.proofs.StepLemmas.{contents_kept}
+use Rattle.bw_level.proofs.RouteLemmas.{held}
+use Rattle.bw_level.proofs.RowLemmas.{InRow}
+use Rattle.bw_level.proofs.StepLemmas.{contents_kept}
 use Rattle.bw_tree.specs.Consolidation.{IsConsolidated}
 use Rattle.bw_tree.specs.Pages.{leaf_as_of}
 use Rattle.bw_tree.specs.Making.{leaf_slot}

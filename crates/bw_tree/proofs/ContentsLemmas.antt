@@ -8,15 +8,16 @@ use Rattle.bw_model.specs.Values.{ValueBytes}
 use Rattle.bw_delta.specs.Writes.{WriteView}
 use Rattle.bw_delta.specs.Batches.{writes_to}
 use Rattle.bw_delta.specs.History.{history, action_at, HasDistinctStamps}
-use Rattle.bw_chain.specs.Slots.{Slot, slot_at, is_leaf}
-use Rattle.bw_chain.specs.Levels.{IsHome, levels_under}
-use Rattle.bw_chain.specs.Reading.{EndsAbove, base_of, writes_over, value_in}
-use Rattle.bw_chain.specs.Chains.{Bases, Records, Ends, slot_of_word, slots_of}
-use Rattle.bw_chain.proofs.HomeLemmas.{home_distinct, home_value}
+use Rattle.bw_level.specs.Slots.{Slot, slot_at, is_leaf}
+use Rattle.bw_level.specs.Levels.{IsHome, levels_under}
+use Rattle.bw_level.specs.Reading.{EndsAbove, base_of, writes_over, value_in}
+use Rattle.bw_level.specs.Changes.{Bases}
+use Rattle.bw_chain.specs.Chains.{Records, Ends, slot_of_word, slots_of}
+use Rattle.bw_level.proofs.HomeLemmas.{home_distinct, home_value}
 use Rattle.bw_tree.specs.View.{TreeView, contents_at}
 use Rattle.bw_tree.specs.Trees.{IsStanding, StageWords, view_of}
 use Rattle.bw_chain.proofs.ReadingLemmas.{read_is, slot_of_head}
-use Rattle.bw_chain.proofs.RouteLemmas.{home_leaf}
+use Rattle.bw_level.proofs.RouteLemmas.{home_leaf}
 
 -- what is known of the mapping word of a key's home
 pub record FoundAt (tree : TreeView) (bases : Bases) (records : Records) (key : KeyBytes) (p head : ℕ) : Type 0 where

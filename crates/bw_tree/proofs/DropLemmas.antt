@@ -9,15 +9,17 @@ use Rattle.bw_page.specs.declared.pages.Page.{Page}
 use Rattle.bw_page.proofs.KeyLemmas.{below_self}
 use Rattle.bw_delta.specs.declared.deltas.Delta.{Delta}
 use Rattle.bw_delta.specs.declared.deltas.Delta.TheVariants.{DropChild}
-use Rattle.bw_chain.specs.Before.{low_of}
-use Rattle.bw_chain.specs.Chains.{AllEnd, Bases, Records, plain, slot_of_word}
-use Rattle.bw_chain.specs.Children.{HasDroppedChild, HasLost, MayDropChild, slot_without_child}
-use Rattle.bw_chain.specs.Laws.{KeepsAll}
-use Rattle.bw_chain.specs.Searches.{IsInLevels}
-use Rattle.bw_chain.specs.Slots.{Slot, slot_at}
+use Rattle.bw_level.specs.Before.{low_of}
+use Rattle.bw_level.specs.Changes.{Bases, plain}
+use Rattle.bw_chain.specs.Chains.{AllEnd, Records, slot_of_word}
+use Rattle.bw_level.specs.Children.{HasDroppedChild, MayDropChild, slot_without_child}
+use Rattle.bw_chain.specs.Restructuring.{HasLost}
+use Rattle.bw_level.specs.Laws.{KeepsAll}
+use Rattle.bw_level.specs.Searches.{IsInLevels}
+use Rattle.bw_level.specs.Slots.{Slot, slot_at}
 use Rattle.bw_chain.specs.Supports.{OwnBases}
 use Rattle.bw_chain.proofs.AdditionLemmas.{record_all_end, record_here, record_others, record_own}
-use Rattle.bw_chain.proofs.DropLemmas.{child_dropped}
+use Rattle.bw_level.proofs.DropLemmas.{child_dropped}
 use Rattle.bw_chain.proofs.InPlaceLemmas.{now_end, now_here, now_others, now_own}
 use Rattle.bw_chain.proofs.ReadingLemmas.{slot_of_head}
 use Rattle.bw_tree.specs.Merges.{HasLostChild, MayLoseChild}

@@ -6,12 +6,13 @@ use Rattle.std.specs.Prelude.{slice_get, slice_index}
 use Rattle.bw_key.specs.Order.{KeyBytes}
 use Rattle.bw_delta.specs.declared.deltas.Delta.{Delta}
 use Rattle.bw_delta.specs.declared.deltas.Delta.TheVariants.{AddChild}
-use Rattle.bw_chain.specs.Chains.{Bases, Records, change}
-use Rattle.bw_chain.specs.Children.{HasChild}
-use Rattle.bw_chain.specs.Laws.{KeepsAll}
-use Rattle.bw_chain.specs.Searches.{IsInLevels}
+use Rattle.bw_level.specs.Changes.{Bases, change}
+use Rattle.bw_chain.specs.Chains.{Records}
+use Rattle.bw_level.specs.Children.{HasChild}
+use Rattle.bw_level.specs.Laws.{KeepsAll}
+use Rattle.bw_level.specs.Searches.{IsInLevels}
 use Rattle.bw_chain.proofs.AdditionLemmas.{record_all_end, record_here, record_others, record_own}
-use Rattle.bw_chain.proofs.EntryLemmas.{child_kept}
+use Rattle.bw_level.proofs.EntryLemmas.{child_kept}
 use Rattle.bw_tree.specs.Children.{IsNamed, MayHaveChild}
 use Rattle.bw_tree.specs.Trees.{IsStanding, IsTree, StageWords, view_of}
 use Rattle.bw_tree.specs.View.{StageView, TreeView}

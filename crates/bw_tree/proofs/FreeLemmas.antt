@@ -4,11 +4,12 @@ use Rattle.std.proofs.lemmas.Bool.{cases_lt}
 use Rattle.std.proofs.lemmas.List.{length-map, length-set}
 use Rattle.std.proofs.lemmas.Option.{slice_get-get_or}
 use Rattle.std.specs.Prelude.{slice_get, slice_index}
-use Rattle.bw_chain.specs.Chains.{Bases, Records, slot_of_word}
-use Rattle.bw_chain.specs.Freeing.{IsFreed}
-use Rattle.bw_chain.specs.Laws.{KeepsAll}
-use Rattle.bw_chain.proofs.FreeingLemmas.{page_freed}
-use Rattle.bw_chain.proofs.RouteLemmas.{held}
+use Rattle.bw_level.specs.Changes.{Bases}
+use Rattle.bw_chain.specs.Chains.{Records, slot_of_word}
+use Rattle.bw_level.specs.Freeing.{IsFreed}
+use Rattle.bw_level.specs.Laws.{KeepsAll}
+use Rattle.bw_level.proofs.FreeingLemmas.{page_freed}
+use Rattle.bw_level.proofs.RouteLemmas.{held}
 use Rattle.bw_chain.proofs.VacancyLemmas.{vacant_end, vacant_own, vacated}
 use Rattle.bw_tree.specs.Freeing.{HasFreed, MayBeFreed}
 use Rattle.bw_tree.specs.Trees.{IsStanding, IsTree, StageWords, view_of}

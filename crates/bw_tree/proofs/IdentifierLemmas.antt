@@ -3,8 +3,9 @@ use Rattle.std.proofs.Common.{inl, inr, ◌⊎◌, ◌≡◌, ℕ, ◌<◌, ◌�
 use Rattle.std.proofs.lemmas.Bool.{cases_lt}
 use Rattle.std.proofs.lemmas.Option.{slice_get-get_or}
 use Rattle.std.specs.Prelude.{slice_get, slice_index}
-use Rattle.bw_chain.specs.Chains.{Bases, Records, based, slot_of_word, slots_of}
-use Rattle.bw_chain.specs.Slots.{Free, slot_at}
+use Rattle.bw_level.specs.Changes.{Bases, based}
+use Rattle.bw_chain.specs.Chains.{Records, slot_of_word, slots_of}
+use Rattle.bw_level.specs.Slots.{Free, slot_at}
 use Rattle.bw_chain.specs.Supports.{OwnBases}
 use Rattle.bw_chain.proofs.ReadingLemmas.{slot_of_head}
 use Rattle.bw_chain.proofs.VacancyLemmas.{vacant_free}

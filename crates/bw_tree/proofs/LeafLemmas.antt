@@ -12,16 +12,16 @@ use Rattle.bw_page.specs.Leaves.{LeafView}
 use Rattle.bw_page.specs.Pages.{IsPage}
 use Rattle.bw_delta.specs.History.{HasDistinctStamps}
 use Rattle.bw_delta.proofs.Maps.{sorted_in_range}
-use Rattle.bw_chain.specs.Slots.{Slot, Body, Pairs, Children, slot_at, side_of, side_of_slot, IsSoundBody, has_key}
-use Rattle.bw_chain.specs.Levels.{AreLevels, Stands, SideBySide, row}
-use Rattle.bw_chain.specs.Before.{low_of}
-use Rattle.bw_chain.specs.Scans.{ArePairsOn, high_of}
+use Rattle.bw_level.specs.Slots.{Slot, Body, Pairs, Children, slot_at, side_of, side_of_slot, IsSoundBody, has_key}
+use Rattle.bw_level.specs.Levels.{AreLevels, Stands, SideBySide, row}
+use Rattle.bw_level.specs.Before.{low_of}
+use Rattle.bw_level.specs.Scans.{ArePairsOn, high_of}
 use Rattle.bw_tree.specs.Making.{HasRules}
 use Rattle.bw_tree.specs.Pages.{leaf_as_of}
 use Rattle.bw_tree.specs.View.{TreeView, contents_at}
-use Rattle.bw_chain.specs.Reading.{row_writes}
-use Rattle.bw_chain.proofs.RowLemmas.{first_stands}
-use Rattle.bw_chain.proofs.LeafRowLemmas.{HasKey, one_has, wide_of}
+use Rattle.bw_level.specs.Reading.{row_writes}
+use Rattle.bw_level.proofs.RowLemmas.{first_stands}
+use Rattle.bw_level.proofs.LeafRowLemmas.{HasKey, one_has, wide_of}
 use Rattle.bw_tree.proofs.RangeLemmas.{all_of_those}
 use Rattle.bw_tree.proofs.ScanLemmas.{leaf_in_row, leaf_pairs}
 

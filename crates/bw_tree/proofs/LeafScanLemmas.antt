@@ -5,17 +5,18 @@ use Rattle.std.specs.List.{Contains}
 use Rattle.bw_key.specs.Order.{KeyBytes}
 use Rattle.bw_model.specs.Contents.{is_below_end}
 use Rattle.bw_delta.specs.History.{HasDistinctStamps}
-use Rattle.bw_chain.specs.Slots.{Slot, slot_at, is_leaf, side_of_slot}
+use Rattle.bw_level.specs.Slots.{Slot, slot_at, is_leaf, side_of_slot}
 use Rattle.bw_chain.specs.declared.leaf_chain.LeafChain.{LeafChain}
 use Rattle.bw_chain.specs.LeafChains.{IsLeafChain}
-use Rattle.bw_chain.specs.Levels.{AreLevels, row}
-use Rattle.bw_chain.specs.Reading.{writes_over, row_writes}
-use Rattle.bw_chain.specs.Scans.{Reaches, high_of}
-use Rattle.bw_chain.specs.Chains.{Bases, Records, Ends, slot_of_word, slots_of}
+use Rattle.bw_level.specs.Levels.{AreLevels, row}
+use Rattle.bw_level.specs.Reading.{writes_over, row_writes}
+use Rattle.bw_level.specs.Scans.{Reaches, high_of}
+use Rattle.bw_level.specs.Changes.{Bases}
+use Rattle.bw_chain.specs.Chains.{Records, Ends, slot_of_word, slots_of}
 use Rattle.bw_tree.specs.View.{ArePairsUnder, TreeView}
 use Rattle.bw_tree.specs.Trees.{IsStanding, StageWords, view_of}
-use Rattle.bw_chain.proofs.RowLemmas.{InRow}
-use Rattle.bw_chain.proofs.RouteLemmas.{home_leaf}
+use Rattle.bw_level.proofs.RowLemmas.{InRow}
+use Rattle.bw_level.proofs.RouteLemmas.{home_leaf}
 use Rattle.bw_tree.proofs.ContentsLemmas.{found_at}
 use Rattle.bw_tree.proofs.ScanLemmas.{page_distinct, leaf_in_row, own_home}
 

@@ -8,13 +8,14 @@ use Rattle.bw_page.specs.declared.pages.Page.TheVariants.{Leaf as LeafPage, Inne
 use Rattle.bw_page.specs.declared.pages.RemovedPage.{RemovedPage}
 use Rattle.bw_delta.specs.declared.deltas.Delta.{Delta}
 use Rattle.bw_delta.specs.declared.deltas.Delta.TheVariants.{Put, Split, Absorb, Removed, AddChild, DropChild}
-use Rattle.bw_chain.specs.Chains.{Bases, Records, based, change, changed, deltas_at, link_of, slot_of_word, slots_of}
+use Rattle.bw_level.specs.Changes.{Bases, based, change}
+use Rattle.bw_chain.specs.Chains.{Records, changed, deltas_at, link_of, slot_of_word, slots_of}
 use Rattle.bw_chain.specs.Removed.{IsRemovedInto}
-use Rattle.bw_chain.specs.Slots.{Slot, Free, Gone, Live, left_of, left_of_slot}
+use Rattle.bw_level.specs.Slots.{Slot, Free, Gone, Live, left_of, left_of_slot}
 use Rattle.bw_chain.specs.Supports.{OwnBases}
-use Rattle.bw_chain.specs.Walk.{walked}
+use Rattle.bw_level.specs.Walk.{walked}
 use Rattle.bw_chain.proofs.ReadingLemmas.{slot_of_head}
-use Rattle.bw_chain.proofs.RouteLemmas.{held}
+use Rattle.bw_level.proofs.RouteLemmas.{held}
 
 no_left : {p : ℕ} → None ≡ Some p → ⊥
 no_left e = cc

@@ -7,17 +7,18 @@ use Rattle.std.specs.Prelude.{slice_get, slice_index}
 use Rattle.bw_key.specs.Order.{KeyBytes}
 use Rattle.bw_page.specs.declared.pages.Page.{Page}
 use Rattle.bw_page.specs.declared.pages.Page.TheVariants.{Gone as GonePage}
-use Rattle.bw_chain.specs.Chains.{Bases, Records, slot_of_word, slots_of}
-use Rattle.bw_chain.specs.Freeing.{IsAside}
-use Rattle.bw_chain.specs.Laws.{KeepsAll}
-use Rattle.bw_chain.specs.Roots.{HasOneChild, IsRootRemoved, levels_lowered, removed_root}
-use Rattle.bw_chain.specs.Searches.{IsInLevels}
-use Rattle.bw_chain.specs.Slots.{PageState, Free, Live, children_of, slot_at, slot_level}
+use Rattle.bw_level.specs.Changes.{Bases}
+use Rattle.bw_chain.specs.Chains.{Records, slot_of_word, slots_of}
+use Rattle.bw_level.specs.Freeing.{IsAside}
+use Rattle.bw_level.specs.Laws.{KeepsAll}
+use Rattle.bw_level.specs.Roots.{HasOneChild, IsRootRemoved, levels_lowered, removed_root}
+use Rattle.bw_level.specs.Searches.{IsInLevels}
+use Rattle.bw_level.specs.Slots.{PageState, Free, Live, children_of, slot_at, slot_level}
 use Rattle.bw_chain.specs.Supports.{base_under}
 use Rattle.bw_chain.proofs.AdditionLemmas.{same_slot, slot_here}
 use Rattle.bw_chain.proofs.BaseLemmas.{all_end, get_set_other, get_set_same, low, others_kept, own_after, put_there}
-use Rattle.bw_chain.proofs.LoweringLemmas.{kept_lower, lowered_aside, still_below}
-use Rattle.bw_chain.proofs.RouteLemmas.{held}
+use Rattle.bw_level.proofs.LoweringLemmas.{kept_lower, lowered_aside, still_below}
+use Rattle.bw_level.proofs.RouteLemmas.{held}
 use Rattle.bw_tree.specs.Merges.{IsLowered}
 use Rattle.bw_tree.specs.Trees.{ArePlaced, IsStanding, IsTree, StageWords, view_of}
 use Rattle.bw_tree.specs.View.{StageView, TreeView}

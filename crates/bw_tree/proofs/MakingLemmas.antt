@@ -15,13 +15,14 @@ use Rattle.bw_page.specs.declared.pages.Page.{Page}
 use Rattle.bw_page.specs.declared.pages.Page.TheVariants.{Inner as InnerPage, Gone as GonePage}
 use Rattle.bw_page.proofs.Truths.{holds}
 use Rattle.bw_page.proofs.KeyLemmas.{below_trans}
-use Rattle.bw_chain.specs.Walk.{walked, ended}
-use Rattle.bw_chain.specs.Slots.{Slot, PageState, Pairs, Live, slot_at}
-use Rattle.bw_chain.specs.Levels.{SideBySide, Stands}
-use Rattle.bw_chain.specs.Chains.{Bases, based, slot_of_word, slots_of}
+use Rattle.bw_level.specs.Walk.{walked, ended}
+use Rattle.bw_level.specs.Slots.{Slot, PageState, Pairs, Live, slot_at}
+use Rattle.bw_level.specs.Levels.{SideBySide, Stands}
+use Rattle.bw_level.specs.Changes.{Bases, based}
+use Rattle.bw_chain.specs.Chains.{slot_of_word, slots_of}
 use Rattle.bw_chain.specs.Removed.{HasNoRemoved}
 use Rattle.bw_tree.specs.Making.{AreAbutting, HasRules, base_of_leaf, count_from, pairs_in, terms_from}
-use Rattle.bw_chain.specs.Reading.{pairs_under, writes_over, row_pairs, row_writes}
+use Rattle.bw_level.specs.Reading.{pairs_under, writes_over, row_pairs, row_writes}
 
 no_entry : {X : Type 0} {x : X} → None ≡ Some x → ⊥
 no_entry e = cc

@@ -10,23 +10,25 @@ use Rattle.bw_page.proofs.KeyLemmas.{below_self}
 use Rattle.bw_page.specs.declared.pages.Page.{Page}
 use Rattle.bw_delta.specs.declared.deltas.Delta.{Delta}
 use Rattle.bw_delta.specs.declared.deltas.Delta.TheVariants.{Removed}
-use Rattle.bw_chain.specs.Chains.{AllEnd, Bases, ChainsView, Records, plain, slot_of_word, slots_of}
-use Rattle.bw_chain.specs.Laws.{KeepsAll}
-use Rattle.bw_chain.specs.Levels.{AreLevels, row}
-use Rattle.bw_chain.specs.Merges.{AreNeighbours, IsJoined, IsMerged, IsNoFirstChild, absorption, level_merged, slot_joined, slot_removed, state_joined, without_page}
-use Rattle.bw_chain.specs.Reading.{body_writes, writes_over}
-use Rattle.bw_chain.specs.Searches.{IsInLevels}
-use Rattle.bw_chain.specs.Slots.{Slot, PageState, Body, Pairs, Children, Free, Gone, Live, IsSoundBody, body_is_leaf, level_of, slot_at}
+use Rattle.bw_level.specs.Changes.{Bases, plain}
+use Rattle.bw_chain.specs.Chains.{AllEnd, ChainsView, Records, slot_of_word, slots_of}
+use Rattle.bw_level.specs.Laws.{KeepsAll}
+use Rattle.bw_level.specs.Levels.{AreLevels, row}
+use Rattle.bw_level.specs.Merges.{AreNeighbours, IsMerged, IsNoFirstChild, level_merged, slot_joined, slot_removed, state_joined, without_page}
+use Rattle.bw_chain.specs.Restructuring.{IsJoined, absorption}
+use Rattle.bw_level.specs.Reading.{body_writes, writes_over}
+use Rattle.bw_level.specs.Searches.{IsInLevels}
+use Rattle.bw_level.specs.Slots.{Slot, PageState, Body, Pairs, Children, Free, Gone, Live, IsSoundBody, body_is_leaf, level_of, slot_at}
 use Rattle.bw_chain.specs.Supports.{OwnBases}
 use Rattle.bw_chain.proofs.AdditionLemmas.{record_all_end, record_here, record_others, record_own}
 use Rattle.bw_chain.proofs.ChainLemmas.{no_record, on_base}
 use Rattle.bw_chain.proofs.GrowthLemmas.{append_extends}
 use Rattle.bw_chain.proofs.InPlaceLemmas.{now_end, now_here, now_others, now_own}
-use Rattle.bw_chain.proofs.LeafRowLemmas.{low_below}
-use Rattle.bw_chain.proofs.MergeLemmas.{has_new, merges_kept}
+use Rattle.bw_level.proofs.LeafRowLemmas.{low_below}
+use Rattle.bw_level.proofs.MergeLemmas.{has_new, merges_kept}
 use Rattle.bw_chain.proofs.ReadingLemmas.{no_writes_on_base, slot_of_head}
-use Rattle.bw_chain.proofs.RouteLemmas.{held}
-use Rattle.bw_chain.proofs.RowLemmas.{InRow, in_row}
+use Rattle.bw_level.proofs.RouteLemmas.{held}
+use Rattle.bw_level.proofs.RowLemmas.{InRow, in_row}
 use Rattle.bw_tree.specs.Merges.{HasMerged, MayMerge}
 use Rattle.bw_tree.specs.Trees.{ArePlaced, IsStanding, IsTree, StageWords, view_of}
 use Rattle.bw_tree.specs.View.{StageView, TreeView}

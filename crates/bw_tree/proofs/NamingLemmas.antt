@@ -14,19 +14,20 @@ use Rattle.bw_page.specs.declared.pages.Page.{Page}
 use Rattle.bw_page.proofs.KeyLemmas.{below_back}
 use Rattle.bw_page.proofs.Truths.{both_of, not_holds}
 use Rattle.bw_delta.specs.History.{HasDistinctStamps}
-use Rattle.bw_chain.specs.Chains.{Bases, Records, Ends, plain, slot_of_word, slots_of}
-use Rattle.bw_chain.specs.Children.{FitsChild, HasChild, state_with_child}
-use Rattle.bw_chain.specs.Laws.{KeepsAll}
-use Rattle.bw_chain.specs.Levels.{AreLevels, row}
-use Rattle.bw_chain.specs.Searches.{plain_inner}
-use Rattle.bw_chain.specs.Slots.{Slot, PageState, Children, Free, Live, slot_at}
+use Rattle.bw_level.specs.Changes.{Bases, plain}
+use Rattle.bw_chain.specs.Chains.{Records, Ends, slot_of_word, slots_of}
+use Rattle.bw_level.specs.Children.{FitsChild, HasChild, state_with_child}
+use Rattle.bw_level.specs.Laws.{KeepsAll}
+use Rattle.bw_level.specs.Levels.{AreLevels, row}
+use Rattle.bw_level.specs.Searches.{plain_inner}
+use Rattle.bw_level.specs.Slots.{Slot, PageState, Children, Free, Live, slot_at}
 use Rattle.bw_chain.specs.Supports.{base_under}
 use Rattle.bw_chain.proofs.BaseLemmas.{all_end, low, others_kept, own_after, put_there}
-use Rattle.bw_chain.proofs.EntryLemmas.{child_kept}
+use Rattle.bw_level.proofs.EntryLemmas.{child_kept}
 use Rattle.bw_chain.proofs.GrowthLemmas.{append_extends, still_ends}
 use Rattle.bw_chain.proofs.ReadingLemmas.{slot_of_head}
-use Rattle.bw_chain.proofs.RouteLemmas.{held}
-use Rattle.bw_chain.proofs.RowLemmas.{in_row}
+use Rattle.bw_level.proofs.RouteLemmas.{held}
+use Rattle.bw_level.proofs.RowLemmas.{in_row}
 use Rattle.bw_page.specs.Merging.{put_all}
 use Rattle.bw_tree.specs.Children.{AreNamed, HasChildren, MayHaveChildren, state_with_children}
 use Rattle.bw_tree.specs.Routing.{IsInnerPage}

@@ -12,17 +12,18 @@ use Rattle.bw_delta.specs.Batches.{writes_to}
 use Rattle.bw_delta.specs.History.{HasDistinctStamps, action_at, history}
 use Rattle.bw_delta.specs.Writes.{WriteView}
 use Rattle.bw_delta.proofs.Histories.{quiet}
-use Rattle.bw_chain.specs.Before.{low_of}
-use Rattle.bw_chain.specs.Chains.{Bases, ChainsView, Records, slot_of_word}
-use Rattle.bw_chain.specs.Levels.{AreLevels, row}
-use Rattle.bw_chain.specs.Reading.{base_of, body_pairs, body_writes, pairs_under, row_writes, value_in, writes_over}
-use Rattle.bw_chain.specs.Scans.{high_of, value_in_range}
-use Rattle.bw_chain.specs.Searches.{IsInLevels}
-use Rattle.bw_chain.specs.Slots.{Slot, Body, Pairs, Children, Live, IsSound, IsSoundBody, level_of, side_of, side_of_slot, slot_at}
-use Rattle.bw_chain.specs.Splits.{IsNarrowed}
+use Rattle.bw_level.specs.Before.{low_of}
+use Rattle.bw_level.specs.Changes.{Bases}
+use Rattle.bw_chain.specs.Chains.{ChainsView, Records, slot_of_word}
+use Rattle.bw_level.specs.Levels.{AreLevels, row}
+use Rattle.bw_level.specs.Reading.{base_of, body_pairs, body_writes, pairs_under, row_writes, value_in, writes_over}
+use Rattle.bw_level.specs.Scans.{high_of, value_in_range}
+use Rattle.bw_level.specs.Searches.{IsInLevels}
+use Rattle.bw_level.specs.Slots.{Slot, Body, Pairs, Children, Live, IsSound, IsSoundBody, level_of, side_of, side_of_slot, slot_at}
+use Rattle.bw_chain.specs.Restructuring.{IsNarrowed}
 use Rattle.bw_chain.specs.Supports.{base_under}
-use Rattle.bw_chain.proofs.LeafRowLemmas.{page_outside}
-use Rattle.bw_chain.proofs.RowLemmas.{InRow, in_row}
+use Rattle.bw_level.proofs.LeafRowLemmas.{page_outside}
+use Rattle.bw_level.proofs.RowLemmas.{InRow, in_row}
 use Rattle.bw_tree.specs.Consolidation.{IsConsolidated, IsRebased}
 use Rattle.bw_tree.specs.Pages.{leaf_as_of}
 use Rattle.bw_tree.specs.Making.{leaf_slot}

@@ -6,11 +6,11 @@ use Rattle.bw_key.specs.Order.{KeyBytes, key_cmp}
 use Rattle.bw_model.specs.Contents.{is_below_end}
 use Rattle.bw_page.proofs.KeyLemmas.{below_back, below_self}
 use Rattle.bw_page.proofs.Truths.{not_holds, true_holds}
-use Rattle.bw_chain.specs.Levels.{AreLevels, IsHomeAt, Stands, row}
-use Rattle.bw_chain.specs.Slots.{Slot, PageState, Live, side_of_slot, slot_at}
-use Rattle.bw_chain.proofs.AboveLemmas.{one_above, own_level}
-use Rattle.bw_chain.proofs.LeafRowLemmas.{low_below}
-use Rattle.bw_chain.proofs.RowLemmas.{InRow, in_row}
+use Rattle.bw_level.specs.Levels.{AreLevels, IsHomeAt, Stands, row}
+use Rattle.bw_level.specs.Slots.{Slot, PageState, Live, side_of_slot, slot_at}
+use Rattle.bw_level.proofs.AboveLemmas.{one_above, own_level}
+use Rattle.bw_level.proofs.LeafRowLemmas.{low_below}
+use Rattle.bw_level.proofs.RowLemmas.{InRow, in_row}
 use Rattle.bw_tree.specs.Pages.{IsLeft}
 use Rattle.bw_tree.specs.View.{TreeView}
 

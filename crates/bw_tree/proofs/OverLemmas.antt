@@ -1,6 +1,7 @@
 -- The tree over leaves is lawful.
 use Rattle.std.specs.Prelude.{slice_get, slice_index}
-use Rattle.bw_chain.specs.Chains.{based, slot_of_word, Bases, link_of, linked_word, AllEnd}
+use Rattle.bw_level.specs.Changes.{based, Bases}
+use Rattle.bw_chain.specs.Chains.{slot_of_word, link_of, linked_word, AllEnd}
 use Rattle.bw_page.specs.declared.pages.Page.{Page}
 use Rattle.std.proofs.Common.{◌≡◌, ℕ, zero, suc, ◌+◌, ◌-◌, ◌<◌, ◌≤◌, ◌^◌, true, false, cond, not, T, List, [], ◌∷◌, ◌++◌, length, map, Option, Some, None, Result, Ok, Err, IfOk, refl, sym, ap, ◌∙◌, subst, arith, nat_lt, length-append}
 use Rattle.std.specs.List.{Contains, AllByRecursion, IsDistinct}
@@ -18,17 +19,17 @@ use Rattle.bw_page.proofs.KeyLemmas.{below_self}
 use Rattle.bw_delta.specs.Writes.{WriteView}
 use Rattle.bw_delta.specs.History.{HasDistinctStamps}
 use Rattle.bw_delta.specs.ContentsAsOf.{contents_as_of}
-use Rattle.bw_chain.specs.Slots.{Slot, PageState, Children, Gone, Live, slot_at, left_of_slot, children_of}
-use Rattle.bw_chain.specs.Levels.{AreLevels, SideBySide, Stands, StartsWith, LeadsBelow, BeginsWith, FirstChild, row}
-use Rattle.bw_chain.specs.Entries.{AreExact}
-use Rattle.bw_chain.specs.Steps.{IsTerm}
+use Rattle.bw_level.specs.Slots.{Slot, PageState, Children, Gone, Live, slot_at, left_of_slot, children_of}
+use Rattle.bw_level.specs.Levels.{AreLevels, SideBySide, Stands, StartsWith, LeadsBelow, BeginsWith, FirstChild, row}
+use Rattle.bw_level.specs.Entries.{AreExact}
+use Rattle.bw_level.specs.Steps.{IsTerm}
 use Rattle.bw_tree.specs.Making.{AreAbutting, HasRules, IsOverLeaves, base_of_leaf, count_from, leaf_slot, pages_over, pairs_in, terms_from, tree_over}
 use Rattle.bw_tree.specs.View.{TreeView, contents_at}
-use Rattle.bw_chain.specs.Reading.{row_pairs, row_writes}
+use Rattle.bw_level.specs.Reading.{row_pairs, row_writes}
 use Rattle.bw_chain.specs.Supports.{OwnBases, base_under}
-use Rattle.bw_chain.specs.Walk.{ended}
+use Rattle.bw_level.specs.Walk.{ended}
 use Rattle.bw_tree.specs.Trees.{IsTree}
-use Rattle.bw_chain.proofs.LevelLemmas.{levels_now}
+use Rattle.bw_level.proofs.LevelLemmas.{levels_now}
 use Rattle.bw_tree.proofs.MakingLemmas.{StandAt, over_slots, slot_based, from_none, there_is, counted_word, counted_length, counted_has, slot_there, leaf_there, root_there, leaf_state, leaf_row, leaf_pairs, leaf_writes, term_named, root_rules}
 
 one_state : {s t : PageState} → Live s ≡ Live t → s ≡ t

@@ -9,24 +9,24 @@ use Rattle.bw_model.specs.Contents.{is_below_end, is_in_range, is_pair_in_range}
 use Rattle.bw_page.specs.Inners.{IsUpto}
 use Rattle.bw_page.proofs.KeyLemmas.{below_back, below_self, neither_below, upto_below, upto_trans}
 use Rattle.bw_page.proofs.Truths.{holds, holds_not, left_of, not_holds, right_of, true_holds}
-use Rattle.bw_chain.specs.Before.{low_at, low_of}
-use Rattle.bw_chain.specs.Children.{HasChildAt}
-use Rattle.bw_chain.specs.Entries.{AreExact}
-use Rattle.bw_chain.specs.Levels.{AreLevels, IsHomeAt, LeadsBelow, Stands, row}
-use Rattle.bw_chain.specs.Merges.{IsNoFirstChild}
-use Rattle.bw_chain.specs.Searches.{IsInLevels}
-use Rattle.bw_chain.specs.Slots.{Slot, PageState, Body, Pairs, Children, Free, Gone, Live, IsSoundBody, IsSoundPage, body_is_leaf, children_of, is_leaf, level_of, side_of, slot_at}
-use Rattle.bw_chain.specs.Steps.{IsTerm}
-use Rattle.bw_chain.specs.Targets.{StandsFor, StandsOn, lies_from, lies_past}
-use Rattle.bw_chain.specs.Turns.{StartsUpto}
-use Rattle.bw_chain.specs.declared.target.Target.{Target}
-use Rattle.bw_chain.specs.declared.target.Target.TheVariants.{Home}
-use Rattle.bw_chain.proofs.AboveLemmas.{one_above, own_level, own_page}
-use Rattle.bw_chain.proofs.LeafRowLemmas.{low_below, wide_of}
-use Rattle.bw_chain.proofs.MarkLemmas.{key_stands, mark, mark_from, mark_stands}
-use Rattle.bw_chain.proofs.RouteLemmas.{least, live_way}
-use Rattle.bw_chain.proofs.RowLemmas.{InRow, in_row}
-use Rattle.bw_chain.proofs.StepLemmas.{child_there}
+use Rattle.bw_level.specs.Before.{low_at, low_of}
+use Rattle.bw_level.specs.Children.{HasChildAt}
+use Rattle.bw_level.specs.Entries.{AreExact}
+use Rattle.bw_level.specs.Levels.{AreLevels, IsHomeAt, LeadsBelow, Stands, row}
+use Rattle.bw_level.specs.Merges.{IsNoFirstChild}
+use Rattle.bw_level.specs.Searches.{IsInLevels}
+use Rattle.bw_level.specs.Slots.{Slot, PageState, Body, Pairs, Children, Free, Gone, Live, IsSoundBody, IsSoundPage, body_is_leaf, children_of, is_leaf, level_of, side_of, slot_at}
+use Rattle.bw_level.specs.Steps.{IsTerm}
+use Rattle.bw_level.specs.Targets.{StandsFor, StandsOn, lies_from, lies_past}
+use Rattle.bw_level.specs.Turns.{StartsUpto}
+use Rattle.bw_level.specs.declared.target.Target.{Target}
+use Rattle.bw_level.specs.declared.target.Target.TheVariants.{Home}
+use Rattle.bw_level.proofs.AboveLemmas.{one_above, own_level, own_page}
+use Rattle.bw_level.proofs.LeafRowLemmas.{low_below, wide_of}
+use Rattle.bw_level.proofs.MarkLemmas.{key_stands, mark, mark_from, mark_stands}
+use Rattle.bw_level.proofs.RouteLemmas.{least, live_way}
+use Rattle.bw_level.proofs.RowLemmas.{InRow, in_row}
+use Rattle.bw_level.proofs.StepLemmas.{child_there}
 use Rattle.bw_tree.specs.Pages.{HasNoLeft, HasNoNamer, IsAbove, IsLeft, IsNamer}
 use Rattle.bw_tree.specs.Routing.{AreAtHomeOn, IsInLevel, IsInNoLevel}
 use Rattle.bw_tree.specs.View.{TreeView}

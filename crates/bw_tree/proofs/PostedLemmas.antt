@@ -8,14 +8,15 @@ use Rattle.bw_core.proofs.Lists.{few, meets_low}
 use Rattle.bw_delta.specs.Writes.{WriteView}
 use Rattle.bw_delta.specs.declared.deltas.Delta.{Delta}
 use Rattle.bw_delta.specs.declared.deltas.Delta.TheVariants.{Put}
-use Rattle.bw_chain.specs.Slots.{Slot}
-use Rattle.bw_chain.specs.Walk.{Leads}
-use Rattle.bw_chain.specs.Chains.{Bases, Records, Ends, EndsAt, IsShaped, record_at, link_of, delta_in, deltas_at, change, changed, based, slot_of_word}
+use Rattle.bw_level.specs.Slots.{Slot}
+use Rattle.bw_level.specs.Walk.{Leads}
+use Rattle.bw_level.specs.Changes.{Bases, change, based}
+use Rattle.bw_chain.specs.Chains.{Records, Ends, EndsAt, IsShaped, record_at, link_of, delta_in, deltas_at, changed, slot_of_word}
 use Rattle.bw_chain.specs.Records.{put_records}
 use Rattle.bw_chain.specs.Supports.{base_under}
 use Rattle.bw_chain.proofs.ChainLemmas.{link_is, slot_of_way}
 use Rattle.bw_chain.proofs.GrowthLemmas.{append_extends, deltas_on, leads_on}
-use Rattle.bw_chain.proofs.WalkLemmas.{ended_is}
+use Rattle.bw_level.proofs.WalkLemmas.{ended_is}
 
 -- the write at a place, before others
 abbrev pub write_before : Option WriteView → List WriteView → List WriteView

@@ -6,14 +6,15 @@ use Rattle.std.specs.List.{AllByRecursion}
 use Rattle.std.specs.Prelude.{slice_get, slice_index}
 use Rattle.bw_page.specs.declared.pages.Page.{Page}
 use Rattle.bw_delta.specs.History.{HasDistinctStamps}
-use Rattle.bw_chain.specs.Chains.{Bases, Records, Ends, plain, slot_of_word, slots_of}
-use Rattle.bw_chain.specs.Entries.{AreExact}
-use Rattle.bw_chain.specs.Levels.{AreLevels, row, levels_under}
-use Rattle.bw_chain.specs.Slots.{Slot, Body, Pairs, Children, IsSoundInner, body_is_leaf, level_of, slot_at}
+use Rattle.bw_level.specs.Changes.{Bases, plain}
+use Rattle.bw_chain.specs.Chains.{Records, Ends, slot_of_word, slots_of}
+use Rattle.bw_level.specs.Entries.{AreExact}
+use Rattle.bw_level.specs.Levels.{AreLevels, row, levels_under}
+use Rattle.bw_level.specs.Slots.{Slot, Body, Pairs, Children, IsSoundInner, body_is_leaf, level_of, slot_at}
 use Rattle.bw_chain.specs.Supports.{base_under}
 use Rattle.bw_chain.proofs.BaseLemmas.{all_end, low, own_after, same_slots}
 use Rattle.bw_chain.proofs.ReadingLemmas.{slot_of_head}
-use Rattle.bw_chain.proofs.RowLemmas.{in_row}
+use Rattle.bw_level.proofs.RowLemmas.{in_row}
 use Rattle.bw_tree.specs.Consolidation.{IsRebased}
 use Rattle.bw_tree.specs.Routing.{IsInnerPage}
 use Rattle.bw_tree.specs.Trees.{ArePlaced, IsStanding, IsTree, StageWords, leaf_writes, view_of}

@@ -4,12 +4,12 @@ use Rattle.std.specs.Borrow.{Bor}
 use Rattle.std.specs.Option.{option_copied}
 use Rattle.bw_key.specs.Order.{KeyBytes}
 use Rattle.bw_page.specs.declared.pages.RemovedPage.{RemovedPage}
-use Rattle.bw_chain.specs.Before.{removed_at}
-use Rattle.bw_chain.specs.Children.{HasChildAt}
-use Rattle.bw_chain.specs.Levels.{AreLevels, IsHomeAt}
-use Rattle.bw_chain.specs.Slots.{Slot, Free, Gone, Live, slot_at}
-use Rattle.bw_chain.specs.Turns.{StartsUpto}
-use Rattle.bw_chain.proofs.AboveLemmas.{one_above}
+use Rattle.bw_level.specs.Before.{removed_at}
+use Rattle.bw_level.specs.Children.{HasChildAt}
+use Rattle.bw_level.specs.Levels.{AreLevels, IsHomeAt}
+use Rattle.bw_level.specs.Slots.{Slot, Free, Gone, Live, slot_at}
+use Rattle.bw_level.specs.Turns.{StartsUpto}
+use Rattle.bw_level.proofs.AboveLemmas.{one_above}
 use Rattle.bw_tree.specs.Merges.{HasNoNamerOfRemoved, IsNamerOfRemoved}
 use Rattle.bw_tree.specs.Routing.{IsInnerPage}
 use Rattle.bw_tree.specs.View.{TreeView}

@@ -18,18 +18,18 @@ use Rattle.bw_delta.specs.History.{HasDistinctStamps}
 use Rattle.bw_delta.specs.Replays.{ReplayView}
 use Rattle.bw_delta.proofs.Maps.{sorted_in_range}
 use Rattle.bw_delta.proofs.Replays.{pairs_now}
-use Rattle.bw_chain.specs.Walk.{walked}
-use Rattle.bw_chain.specs.Slots.{Slot, slot_at, side_of, side_of_slot, has_key}
-use Rattle.bw_chain.specs.Levels.{AreLevels, IsHome, row}
-use Rattle.bw_chain.specs.Reading.{base_of, value_in, writes_over, row_writes}
+use Rattle.bw_level.specs.Walk.{walked}
+use Rattle.bw_level.specs.Slots.{Slot, slot_at, side_of, side_of_slot, has_key}
+use Rattle.bw_level.specs.Levels.{AreLevels, IsHome, row}
+use Rattle.bw_level.specs.Reading.{base_of, value_in, writes_over, row_writes}
 use Rattle.bw_tree.specs.Replaying.{AreReadLeaves, IsKept}
-use Rattle.bw_chain.specs.Scans.{IsLeafReplay, ArePairsOn, Reaches, high_of}
-use Rattle.bw_chain.specs.Before.{IsBefore, low_of}
+use Rattle.bw_level.specs.Scans.{IsLeafReplay, ArePairsOn, Reaches, high_of}
+use Rattle.bw_level.specs.Before.{IsBefore, low_of}
 use Rattle.bw_tree.specs.declared.scans.ReadLeaf.{ReadLeaf}
 use Rattle.bw_tree.specs.View.{TreeView, contents_at}
 use Rattle.bw_tree.proofs.BackLemmas.{ScanningBack, PassedBack, begins_back, passed_back, ends_back, enough_back, goes_back}
 use Rattle.bw_tree.proofs.ScanLemmas.{Scanning, HasPassed, leaf_in_row, leaf_pairs, begins_scan, passes, ends_scan, goes_on, enough_read}
-use Rattle.bw_chain.proofs.RowLemmas.{InRow}
+use Rattle.bw_level.proofs.RowLemmas.{InRow}
 
 -- no first pairs of no pairs
 pub none_taken : (n : ℕ) → take {A = KeyBytes × ValueBytes} n [] ≡ []

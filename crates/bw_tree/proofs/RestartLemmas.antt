@@ -9,12 +9,13 @@ use Rattle.bw_key.specs.Order.{key_cmp}
 use Rattle.bw_delta.specs.ContentsAsOf.{contents_as_of}
 use Rattle.bw_delta.specs.History.{HasDistinctStamps}
 use Rattle.bw_delta.specs.Writes.{WriteView}
-use Rattle.bw_chain.specs.Chains.{Bases, Records, Ends, EndsAt, link_of, slot_of_word, slots_of}
-use Rattle.bw_chain.specs.Entries.{AreExact}
-use Rattle.bw_chain.specs.Levels.{AreLevels, row, levels_under}
-use Rattle.bw_chain.specs.Reading.{row_pairs, row_writes, writes_over}
-use Rattle.bw_chain.specs.Slots.{Slot, slot_at}
-use Rattle.bw_chain.specs.Walk.{Leads}
+use Rattle.bw_level.specs.Changes.{Bases}
+use Rattle.bw_chain.specs.Chains.{Records, Ends, EndsAt, link_of, slot_of_word, slots_of}
+use Rattle.bw_level.specs.Entries.{AreExact}
+use Rattle.bw_level.specs.Levels.{AreLevels, row, levels_under}
+use Rattle.bw_level.specs.Reading.{row_pairs, row_writes, writes_over}
+use Rattle.bw_level.specs.Slots.{Slot, slot_at}
+use Rattle.bw_level.specs.Walk.{Leads}
 use Rattle.bw_chain.proofs.ChainLemmas.{no_link, no_next, no_record, on_base, same_next}
 use Rattle.bw_chain.proofs.GrowthLemmas.{same_map}
 use Rattle.bw_chain.proofs.ReadingLemmas.{none_at_base, slot_of_head}

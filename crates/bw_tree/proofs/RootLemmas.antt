@@ -8,19 +8,20 @@ use Rattle.bw_key.specs.Order.{KeyBytes, key_cmp}
 use Rattle.bw_page.specs.Inners.{InnerView, IsInner}
 use Rattle.bw_page.specs.declared.pages.Page.{Page}
 use Rattle.bw_page.specs.declared.pages.Page.TheVariants.{Inner as InnerPage}
-use Rattle.bw_chain.specs.Chains.{Bases, Records, slot_of_word, slots_of}
-use Rattle.bw_chain.specs.Laws.{KeepsAll}
-use Rattle.bw_chain.specs.Levels.{AreLevels, Stands, row, levels_under}
+use Rattle.bw_level.specs.Changes.{Bases}
+use Rattle.bw_chain.specs.Chains.{Records, slot_of_word, slots_of}
+use Rattle.bw_level.specs.Laws.{KeepsAll}
+use Rattle.bw_level.specs.Levels.{AreLevels, Stands, row, levels_under}
 use Rattle.bw_chain.specs.Placing.{put_at}
-use Rattle.bw_chain.specs.Roots.{IsGrown, IsNeighbour, levels_grown, root_over, two_children}
-use Rattle.bw_chain.specs.Scans.{high_of}
-use Rattle.bw_chain.specs.Slots.{Slot, PageState, Free, Live, level_of, side_of_slot, slot_at, slot_level}
+use Rattle.bw_level.specs.Roots.{IsGrown, IsNeighbour, levels_grown, root_over, two_children}
+use Rattle.bw_level.specs.Scans.{high_of}
+use Rattle.bw_level.specs.Slots.{Slot, PageState, Free, Live, level_of, side_of_slot, slot_at, slot_level}
 use Rattle.bw_chain.specs.Supports.{OwnBases}
 use Rattle.bw_chain.proofs.AdditionLemmas.{page_all_end, page_others, page_own, page_there}
-use Rattle.bw_chain.proofs.LeafRowLemmas.{low_below}
+use Rattle.bw_level.proofs.LeafRowLemmas.{low_below}
 use Rattle.bw_chain.proofs.PlacingLemmas.{length_put}
-use Rattle.bw_chain.proofs.RootLemmas.{begins_row, levels_grow, row_before, two_sound}
-use Rattle.bw_chain.proofs.RouteLemmas.{held, row_first}
+use Rattle.bw_level.proofs.RootLemmas.{begins_row, levels_grow, row_before, two_sound}
+use Rattle.bw_level.proofs.RouteLemmas.{held, row_first}
 use Rattle.bw_tree.specs.Identifiers.{IsUnused}
 use Rattle.bw_tree.specs.Roots.{HasNewRoot, IsOverRoot}
 use Rattle.bw_tree.specs.Trees.{ArePlaced, IsStanding, IsTree, StageWords, view_of}

@@ -6,24 +6,25 @@ use Rattle.std.specs.List.{Contains}
 use Rattle.std.specs.Option.{option_copied}
 use Rattle.std.proofs.lemmas.List.{length-map}
 use Rattle.bw_key.specs.Order.{KeyBytes}
-use Rattle.bw_chain.specs.declared.target.Target.{Target}
-use Rattle.bw_chain.specs.declared.target.Target.TheVariants.{Home}
-use Rattle.bw_chain.specs.declared.turn.Turn.TheVariants.{Here, Down}
-use Rattle.bw_chain.specs.LeafEnds.{ends_at}
-use Rattle.bw_chain.specs.Scans.{high_of}
-use Rattle.bw_chain.specs.Slots.{Slot, PageState, Body, Pairs, Children, Free, Live, IsSoundBody, children_of, level_of, slot_at}
-use Rattle.bw_chain.specs.Turns.{IsTurn}
+use Rattle.bw_level.specs.declared.target.Target.{Target}
+use Rattle.bw_level.specs.declared.target.Target.TheVariants.{Home}
+use Rattle.bw_level.specs.declared.turns.Turn.TheVariants.{Here, Down}
+use Rattle.bw_level.specs.LeafEnds.{ends_at}
+use Rattle.bw_level.specs.Scans.{high_of}
+use Rattle.bw_level.specs.Slots.{Slot, PageState, Body, Pairs, Children, Free, Live, IsSoundBody, children_of, level_of, slot_at}
+use Rattle.bw_level.specs.Turns.{IsTurn}
 use Rattle.bw_page.specs.Inners.{IsLastUpto}
-use Rattle.bw_chain.specs.Levels.{AreLevels, row}
-use Rattle.bw_chain.specs.Chains.{Bases, Records, Ends, slot_of_word, slots_of}
-use Rattle.bw_chain.specs.Searches.{IsInLevels, IsSearching}
-use Rattle.bw_chain.specs.Targets.{AreAtHome, IsTurnFor, lies_from}
-use Rattle.bw_chain.proofs.LeafEndLemmas.{ends_here}
-use Rattle.bw_chain.proofs.MarkLemmas.{key_stands, mark, mark_stands}
+use Rattle.bw_level.specs.Levels.{AreLevels, row}
+use Rattle.bw_level.specs.Changes.{Bases}
+use Rattle.bw_chain.specs.Chains.{Records, Ends, slot_of_word, slots_of}
+use Rattle.bw_level.specs.Searches.{IsInLevels, IsSearching}
+use Rattle.bw_level.specs.Targets.{AreAtHome, IsTurnFor, lies_from}
+use Rattle.bw_level.proofs.LeafEndLemmas.{ends_here}
+use Rattle.bw_level.proofs.MarkLemmas.{key_stands, mark, mark_stands}
 use Rattle.bw_chain.proofs.ReadingLemmas.{read_is, slot_of_head}
-use Rattle.bw_chain.proofs.RouteLemmas.{held}
-use Rattle.bw_chain.proofs.RowLemmas.{in_row}
-use Rattle.bw_chain.proofs.SearchLemmas.{begins, ends_home, held_there, in_levels}
+use Rattle.bw_level.proofs.RouteLemmas.{held}
+use Rattle.bw_level.proofs.RowLemmas.{in_row}
+use Rattle.bw_level.proofs.SearchLemmas.{begins, ends_home, held_there, in_levels}
 use Rattle.bw_tree.specs.Routing.{IsFound, IsFoundEnd, IsInnerPage}
 use Rattle.bw_tree.specs.View.{TreeView}
 use Rattle.bw_tree.specs.Trees.{IsStanding, StageWords, view_of}

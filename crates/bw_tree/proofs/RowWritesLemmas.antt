@@ -10,13 +10,13 @@ use Rattle.bw_model.specs.Contents.{is_in_range}
 use Rattle.bw_page.proofs.KeyLemmas.{below_trans}
 use Rattle.bw_page.proofs.Ranges.{filter_filter}
 use Rattle.bw_delta.specs.Writes.{WriteView}
-use Rattle.bw_chain.specs.Slots.{Slot, PageState, Body, Pairs, Children, Live, slot_at, has_key, level_of, is_leaf, body_is_leaf, IsSoundBody}
-use Rattle.bw_chain.specs.Levels.{Stands, SideBySide}
-use Rattle.bw_chain.specs.Chains.{Bases}
-use Rattle.bw_chain.specs.Reading.{writes_over, row_writes}
+use Rattle.bw_level.specs.Slots.{Slot, PageState, Body, Pairs, Children, Live, slot_at, has_key, level_of, is_leaf, body_is_leaf, IsSoundBody}
+use Rattle.bw_level.specs.Levels.{Stands, SideBySide}
+use Rattle.bw_level.specs.Changes.{Bases}
+use Rattle.bw_level.specs.Reading.{writes_over, row_writes}
 use Rattle.bw_tree.proofs.PostedLemmas.{put_over}
 use Rattle.bw_chain.proofs.ReadingLemmas.{leaf_put, writes_put}
-use Rattle.bw_chain.proofs.LeafRowLemmas.{low_below}
+use Rattle.bw_level.proofs.LeafRowLemmas.{low_below}
 
 assoc : (a b c : List WriteView) → (a ++ b) ++ c ≡ a ++ (b ++ c)
 assoc [] b c = refl

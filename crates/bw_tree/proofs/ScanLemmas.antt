@@ -15,16 +15,16 @@ use Rattle.bw_delta.specs.History.{history, action_at, HasDistinctStamps}
 use Rattle.bw_delta.specs.ContentsAsOf.{contents_as_of}
 use Rattle.bw_delta.proofs.ContentsAsOf.{only_equal_tie}
 use Rattle.bw_delta.proofs.Maps.{find_in_range, sorted_in_range}
-use Rattle.bw_chain.specs.Walk.{walked}
-use Rattle.bw_chain.specs.Slots.{Slot, PageState, Live, slot_at, side_of, side_of_slot, has_key}
-use Rattle.bw_chain.specs.Levels.{Stands, AreLevels, IsHome, row}
-use Rattle.bw_chain.specs.Reading.{value_in, writes_over, row_pairs, row_writes}
-use Rattle.bw_chain.specs.Scans.{ArePairsOn, Reaches, high_of}
-use Rattle.bw_chain.proofs.WalkLemmas.{way_falls}
-use Rattle.bw_chain.proofs.RowLemmas.{InRow, in_row}
-use Rattle.bw_chain.proofs.RouteLemmas.{side_bounded}
-use Rattle.bw_chain.proofs.LeafRowLemmas.{page_outside, wide_of}
-use Rattle.bw_chain.proofs.HomeLemmas.{home_value}
+use Rattle.bw_level.specs.Walk.{walked}
+use Rattle.bw_level.specs.Slots.{Slot, PageState, Live, slot_at, side_of, side_of_slot, has_key}
+use Rattle.bw_level.specs.Levels.{Stands, AreLevels, IsHome, row}
+use Rattle.bw_level.specs.Reading.{value_in, writes_over, row_pairs, row_writes}
+use Rattle.bw_level.specs.Scans.{ArePairsOn, Reaches, high_of}
+use Rattle.bw_level.proofs.WalkLemmas.{way_falls}
+use Rattle.bw_level.proofs.RowLemmas.{InRow, in_row}
+use Rattle.bw_level.proofs.RouteLemmas.{side_bounded}
+use Rattle.bw_level.proofs.LeafRowLemmas.{page_outside, wide_of}
+use Rattle.bw_level.proofs.HomeLemmas.{home_value}
 use Rattle.bw_tree.proofs.RangeLemmas.{one_then_other, all_of_those, none_of_those, first_of_front}
 
 different : true ≡ false → ⊥

@@ -7,17 +7,17 @@ use Rattle.bw_model.specs.Contents.{pairs_of_range}
 use Rattle.bw_model.specs.Values.{ValueBytes}
 use Rattle.bw_page.specs.Inners.{InnerView}
 use Rattle.bw_delta.specs.History.{HasDistinctStamps}
-use Rattle.bw_chain.specs.Before.{low_of}
-use Rattle.bw_chain.specs.Levels.{AreLevels, IsHomeAt, row}
-use Rattle.bw_chain.specs.Reading.{row_writes, writes_over}
-use Rattle.bw_chain.specs.Scans.{ArePairsOn, high_of}
-use Rattle.bw_chain.specs.Searches.{plain_inner}
-use Rattle.bw_chain.specs.Slots.{Slot, Body, Pairs, Children, IsSoundBody, body_is_leaf, is_leaf, level_of, side_of, slot_at}
-use Rattle.bw_chain.specs.Splits.{slot_entries}
-use Rattle.bw_chain.specs.Walk.{walked}
-use Rattle.bw_chain.proofs.RouteLemmas.{side_bounded}
-use Rattle.bw_chain.proofs.RowLemmas.{InRow, in_row}
-use Rattle.bw_chain.proofs.WalkLemmas.{way_falls}
+use Rattle.bw_level.specs.Before.{low_of}
+use Rattle.bw_level.specs.Levels.{AreLevels, IsHomeAt, row}
+use Rattle.bw_level.specs.Reading.{row_writes, writes_over}
+use Rattle.bw_level.specs.Scans.{ArePairsOn, high_of}
+use Rattle.bw_level.specs.Searches.{plain_inner}
+use Rattle.bw_level.specs.Slots.{Slot, Body, Pairs, Children, IsSoundBody, body_is_leaf, is_leaf, level_of, side_of, slot_at}
+use Rattle.bw_level.specs.Splits.{slot_entries}
+use Rattle.bw_level.specs.Walk.{walked}
+use Rattle.bw_level.proofs.RouteLemmas.{side_bounded}
+use Rattle.bw_level.proofs.RowLemmas.{InRow, in_row}
+use Rattle.bw_level.proofs.WalkLemmas.{way_falls}
 use Rattle.bw_tree.specs.Routing.{IsInLevel, IsInnerPage}
 use Rattle.bw_tree.specs.Shapes.{page_shape, pairs_on}
 use Rattle.bw_tree.specs.View.{TreeView, contents_at}

@@ -7,23 +7,25 @@ use Rattle.std.specs.Prelude.{slice_get, slice_index}
 use Rattle.bw_page.specs.declared.pages.Page.{Page}
 use Rattle.bw_delta.specs.declared.deltas.Delta.{Delta}
 use Rattle.bw_delta.specs.declared.deltas.Delta.TheVariants.{Split}
-use Rattle.bw_chain.specs.Chains.{AllEnd, Bases, ChainsView, Records, change, plain, slot_of_word}
-use Rattle.bw_chain.specs.Slots.{Slot, PageState, Body, Free, Live, slot_at}
-use Rattle.bw_chain.specs.Laws.{KeepsAll}
-use Rattle.bw_chain.specs.Levels.{row}
+use Rattle.bw_level.specs.Changes.{Bases, change, plain}
+use Rattle.bw_chain.specs.Chains.{AllEnd, ChainsView, Records, slot_of_word}
+use Rattle.bw_level.specs.Slots.{Slot, PageState, Body, Free, Live, slot_at}
+use Rattle.bw_level.specs.Laws.{KeepsAll}
+use Rattle.bw_level.specs.Levels.{row}
 use Rattle.bw_chain.specs.Placing.{put_at}
-use Rattle.bw_chain.specs.Reading.{body_writes, writes_over}
-use Rattle.bw_chain.specs.Searches.{IsInLevels}
-use Rattle.bw_chain.specs.Splits.{IsCut, IsParted, entry_count, left_part, level_parted, put_behind, right_part, separator, slot_entries, slot_left, slot_right, slot_separator}
+use Rattle.bw_level.specs.Reading.{body_writes, writes_over}
+use Rattle.bw_level.specs.Searches.{IsInLevels}
+use Rattle.bw_level.specs.Splits.{IsParted, entry_count, left_part, level_parted, put_behind, right_part, separator, slot_entries, slot_left, slot_right, slot_separator}
+use Rattle.bw_chain.specs.Restructuring.{IsCut}
 use Rattle.bw_chain.specs.Supports.{OwnBases}
 use Rattle.bw_chain.proofs.AdditionLemmas.{page_all_end, page_others, page_own, page_there, record_all_end, record_here, record_others, record_own}
 use Rattle.bw_chain.proofs.ChainLemmas.{no_record, on_base}
 use Rattle.bw_chain.proofs.InPlaceLemmas.{now_end, now_here, now_others, now_own}
 use Rattle.bw_chain.proofs.PlacingLemmas.{length_put}
 use Rattle.bw_chain.proofs.ReadingLemmas.{no_writes_on_base, slot_of_head}
-use Rattle.bw_chain.proofs.RouteLemmas.{held}
-use Rattle.bw_chain.proofs.RowLemmas.{InRow, in_row}
-use Rattle.bw_chain.proofs.SplitLemmas.{cut_is, has_new, parts_kept}
+use Rattle.bw_level.proofs.RouteLemmas.{held}
+use Rattle.bw_level.proofs.RowLemmas.{InRow, in_row}
+use Rattle.bw_level.proofs.SplitLemmas.{cut_is, has_new, parts_kept}
 use Rattle.bw_tree.specs.Identifiers.{IsUnused}
 use Rattle.bw_tree.specs.Splits.{IsSplit, IsSplittable}
 use Rattle.bw_tree.specs.Trees.{ArePlaced, IsStanding, IsTree, StageWords, view_of}

@@ -7,7 +7,8 @@ use Rattle.std.proofs.lemmas.Option.{slice_get_within}
 use Rattle.bw_delta.specs.Writes.{WriteView}
 use Rattle.bw_delta.specs.declared.deltas.Delta.{Delta}
 use Rattle.bw_delta.specs.declared.deltas.Delta.TheVariants.{Put}
-use Rattle.bw_chain.specs.Chains.{Bases, Records, Ends, EndsAt, record_at}
+use Rattle.bw_level.specs.Changes.{Bases}
+use Rattle.bw_chain.specs.Chains.{Records, Ends, EndsAt, record_at}
 use Rattle.bw_tree.specs.Trees.{IsTree, IsStaged, StageWords, stage_of, view_of}
 use Rattle.bw_tree.specs.Words.{words_before}
 use Rattle.bw_tree.specs.declared.mapping_words.WordsBefore.{WordsBefore}

@@ -7,16 +7,17 @@ use Rattle.std.specs.Prelude.{slice_get, slice_index}
 use Rattle.std.specs.List.{AllByRecursion}
 use Rattle.bw_delta.specs.History.{HasDistinctStamps}
 use Rattle.bw_delta.specs.Writes.{WriteView}
-use Rattle.bw_chain.specs.Chains.{AllEnd, Bases, Records, slots_of}
-use Rattle.bw_chain.specs.Entries.{AreExact}
-use Rattle.bw_chain.specs.Laws.{KeepsAll}
-use Rattle.bw_chain.specs.Levels.{AreLevels, levels_under, row}
+use Rattle.bw_level.specs.Changes.{Bases}
+use Rattle.bw_chain.specs.Chains.{AllEnd, Records, slots_of}
+use Rattle.bw_level.specs.Entries.{AreExact}
+use Rattle.bw_level.specs.Laws.{KeepsAll}
+use Rattle.bw_level.specs.Levels.{AreLevels, levels_under, row}
 use Rattle.bw_chain.specs.Placing.{put_at}
-use Rattle.bw_chain.specs.Reading.{contents_in, row_writes}
-use Rattle.bw_chain.specs.Searches.{IsInLevels}
-use Rattle.bw_chain.specs.Slots.{Slot}
+use Rattle.bw_level.specs.Reading.{contents_in, row_writes}
+use Rattle.bw_level.specs.Searches.{IsInLevels}
+use Rattle.bw_level.specs.Slots.{Slot}
 use Rattle.bw_chain.specs.Supports.{OwnBases}
-use Rattle.bw_chain.proofs.LevelLemmas.{levels_now}
+use Rattle.bw_level.proofs.LevelLemmas.{levels_now}
 use Rattle.bw_chain.proofs.PlacingLemmas.{get_put, get_put_other, length_put}
 use Rattle.bw_tree.specs.Trees.{ArePlaced, IsStanding}
 

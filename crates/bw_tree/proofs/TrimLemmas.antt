@@ -4,14 +4,15 @@ use Rattle.std.proofs.lemmas.Bool.{cases_lt}
 use Rattle.std.proofs.lemmas.List.{get_or-take}
 use Rattle.std.proofs.lemmas.Option.{slice_get_past, slice_get-get_or}
 use Rattle.std.specs.Prelude.{slice_get, slice_index}
-use Rattle.bw_chain.specs.Chains.{Bases, Records, based, deltas_at, link_of, slot_of_word}
-use Rattle.bw_chain.specs.Laws.{KeepsAll}
-use Rattle.bw_chain.specs.Slots.{Free}
+use Rattle.bw_level.specs.Changes.{Bases, based}
+use Rattle.bw_chain.specs.Chains.{Records, deltas_at, link_of, slot_of_word}
+use Rattle.bw_level.specs.Laws.{KeepsAll}
+use Rattle.bw_level.specs.Slots.{Free}
 use Rattle.bw_chain.specs.Supports.{base_under}
 use Rattle.bw_chain.specs.Vacancy.{AreVacantFrom, IsTakenBefore}
-use Rattle.bw_chain.specs.Walk.{walked}
+use Rattle.bw_level.specs.Walk.{walked}
 use Rattle.bw_chain.proofs.AdditionLemmas.{slot_here}
-use Rattle.bw_chain.proofs.SameLemmas.{all_kept}
+use Rattle.bw_level.proofs.SameLemmas.{all_kept}
 use Rattle.bw_chain.proofs.TrimLemmas.{count_left, ends_left, own_left, slots_left}
 use Rattle.bw_chain.proofs.VacancyLemmas.{free_under}
 use Rattle.bw_tree.specs.Freeing.{EndsTaken, IsTrimmed}

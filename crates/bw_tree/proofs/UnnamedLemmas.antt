@@ -6,17 +6,17 @@ use Rattle.bw_key.specs.Order.{KeyBytes, key_cmp}
 use Rattle.bw_page.specs.Pages.{BeginsAt}
 use Rattle.bw_page.proofs.KeyLemmas.{below_self, neither_below}
 use Rattle.bw_page.proofs.Truths.{holds_not}
-use Rattle.bw_chain.specs.Before.{low_of}
-use Rattle.bw_chain.specs.Children.{FitsChild, HasChildAt}
-use Rattle.bw_chain.specs.Entries.{AreExact}
-use Rattle.bw_chain.specs.Levels.{AreLevels, IsHomeAt, row}
-use Rattle.bw_chain.specs.Roots.{IsNeighbour}
-use Rattle.bw_chain.specs.Scans.{high_of}
-use Rattle.bw_chain.specs.Searches.{IsInLevels}
-use Rattle.bw_chain.specs.Steps.{IsTerm}
-use Rattle.bw_chain.specs.Slots.{Slot, PageState, Body, Pairs, Children, Live, IsSoundBody, IsSoundPage, children_of, level_of, slot_at, slot_level}
-use Rattle.bw_chain.proofs.AboveLemmas.{one_above, own_level, root_level}
-use Rattle.bw_chain.proofs.RowLemmas.{InRow, in_row}
+use Rattle.bw_level.specs.Before.{low_of}
+use Rattle.bw_level.specs.Children.{FitsChild, HasChildAt}
+use Rattle.bw_level.specs.Entries.{AreExact}
+use Rattle.bw_level.specs.Levels.{AreLevels, IsHomeAt, row}
+use Rattle.bw_level.specs.Roots.{IsNeighbour}
+use Rattle.bw_level.specs.Scans.{high_of}
+use Rattle.bw_level.specs.Searches.{IsInLevels}
+use Rattle.bw_level.specs.Steps.{IsTerm}
+use Rattle.bw_level.specs.Slots.{Slot, PageState, Body, Pairs, Children, Live, IsSoundBody, IsSoundPage, children_of, level_of, slot_at, slot_level}
+use Rattle.bw_level.proofs.AboveLemmas.{one_above, own_level, root_level}
+use Rattle.bw_level.proofs.RowLemmas.{InRow, in_row}
 use Rattle.bw_tree.specs.Children.{HasNoUnnamed, IsUnnamed}
 use Rattle.bw_tree.specs.Routing.{IsInnerPage}
 use Rattle.bw_tree.specs.View.{TreeView}

@@ -6,15 +6,15 @@ use Rattle.std.specs.Option.{option_copied}
 use Rattle.std.specs.Prelude.{MatchOption, is_some}
 use Rattle.bw_key.specs.Order.{KeyBytes}
 use Rattle.bw_page.specs.declared.pages.RemovedPage.{RemovedPage}
-use Rattle.bw_chain.specs.Before.{low_at, removed_at}
-use Rattle.bw_chain.specs.Children.{HasChildAt}
-use Rattle.bw_chain.specs.Entries.{AreExact}
-use Rattle.bw_chain.specs.Freeing.{IsUnreached}
-use Rattle.bw_chain.specs.Levels.{AreLevels, LeadsBelow, row}
-use Rattle.bw_chain.specs.Slots.{Slot, Free, Gone, Live, left_of, left_of_slot, slot_at}
-use Rattle.bw_chain.specs.Steps.{IsTerm}
-use Rattle.bw_chain.specs.Walk.{Leads}
-use Rattle.bw_chain.proofs.StepLemmas.{child_there}
+use Rattle.bw_level.specs.Before.{low_at, removed_at}
+use Rattle.bw_level.specs.Children.{HasChildAt}
+use Rattle.bw_level.specs.Entries.{AreExact}
+use Rattle.bw_level.specs.Freeing.{IsUnreached}
+use Rattle.bw_level.specs.Levels.{AreLevels, LeadsBelow, row}
+use Rattle.bw_level.specs.Slots.{Slot, Free, Gone, Live, left_of, left_of_slot, slot_at}
+use Rattle.bw_level.specs.Steps.{IsTerm}
+use Rattle.bw_level.specs.Walk.{Leads}
+use Rattle.bw_level.proofs.StepLemmas.{child_there}
 use Rattle.bw_tree.specs.Merges.{HasNoNamerOfRemoved, IsNamerOfRemoved}
 use Rattle.bw_tree.specs.Routing.{IsInLevel, IsInNoLevel}
 use Rattle.bw_tree.specs.View.{TreeView}

@@ -2,10 +2,10 @@
 use Rattle.std.specs.Prelude.{◌≡◌, ℕ, suc, ◌+◌, ◌<◌, ◌≤◌, ◌^◌, List, [], ◌∷◌, length, Some, None, slice_index, slice_set}
 use Rattle.std.specs.List.{AllByRecursion, Contains}
 use Rattle.bw_key.specs.Order.{KeyBytes}
-use Rattle.bw_chain.specs.Children.{FitsChild, HasChild, HasChildAt, state_with_child}
-use Rattle.bw_chain.specs.Levels.{IsHomeAt, row}
-use Rattle.bw_chain.specs.Scans.{high_of}
-use Rattle.bw_chain.specs.Slots.{Slot, PageState, Live, side_of, slot_at}
+use Rattle.bw_level.specs.Children.{FitsChild, HasChild, HasChildAt, state_with_child}
+use Rattle.bw_level.specs.Levels.{IsHomeAt, row}
+use Rattle.bw_level.specs.Scans.{high_of}
+use Rattle.bw_level.specs.Slots.{Slot, PageState, Live, side_of, slot_at}
 use Rattle.bw_tree.specs.View.{TreeView, contents_at}
 
 -- the page is a base page by itself that may name the child

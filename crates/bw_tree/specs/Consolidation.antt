@@ -1,6 +1,6 @@
 -- Consolidation: what one chain makes of its base page takes the place of that page.
 use Rattle.std.specs.Prelude.{◌≡◌, ℕ, ◌<◌, ◌^◌, None, slice_index, slice_set}
-use Rattle.bw_chain.specs.Slots.{slot_at}
+use Rattle.bw_level.specs.Slots.{slot_at}
 use Rattle.bw_tree.specs.Making.{leaf_slot}
 use Rattle.bw_tree.specs.Pages.{leaf_as_of}
 use Rattle.bw_tree.specs.View.{TreeView, contents_at}

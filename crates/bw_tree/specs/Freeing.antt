@@ -1,7 +1,7 @@
 -- Identifiers that are given back.
 use Rattle.std.specs.Prelude.{◌≡◌, ℕ, suc, length, take, None}
-use Rattle.bw_chain.specs.Freeing.{IsUnreached, IsFreed}
-use Rattle.bw_chain.specs.Slots.{Free, slot_at}
+use Rattle.bw_level.specs.Freeing.{IsUnreached, IsFreed}
+use Rattle.bw_level.specs.Slots.{Free, slot_at}
 use Rattle.bw_tree.specs.View.{TreeView, contents_at}
 
 -- an identifier that isn't free, of a page on no level to which nothing leads

@@ -1,6 +1,6 @@
 -- Identifiers that a new page may take.
 use Rattle.std.specs.Prelude.{◌≡◌, ℕ, ◌≤◌, length}
-use Rattle.bw_chain.specs.Slots.{Free, slot_at}
+use Rattle.bw_level.specs.Slots.{Free, slot_at}
 use Rattle.bw_tree.specs.View.{TreeView}
 
 -- an identifier that is free, among those that have a mapping word, or the one behind all others

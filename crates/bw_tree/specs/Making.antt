@@ -1,6 +1,5 @@
 -- Trees that are made of leaves.
-use Rattle.std.specs.Prelude.{◌≡◌, ℕ, zero, suc, ◌+◌, ◌-◌, Option, Some, None}
-use Rattle.std.specs.Prelude.{List, [], ◌∷◌, ◌++◌, length, map, flat_map}
+use Rattle.std.specs.Prelude.{◌≡◌, ℕ, zero, suc, ◌+◌, ◌-◌, Option, Some, None, List, [], ◌∷◌, ◌++◌, length, map, flat_map}
 use Rattle.std.specs.FinMap.{from_entries}
 use Rattle.bw_key.specs.Order.{KeyBytes}
 use Rattle.bw_model.specs.Values.{ValueBytes}
@@ -8,9 +7,10 @@ use Rattle.bw_page.specs.Leaves.{LeafView}
 use Rattle.bw_page.specs.Pages.{IsPage}
 use Rattle.bw_page.specs.declared.pages.Page.{Page}
 use Rattle.bw_page.specs.declared.pages.Page.TheVariants.{Leaf as LeafPage}
-use Rattle.bw_chain.specs.Slots.{Slot, Children, Live}
-use Rattle.bw_chain.specs.Chains.{Bases, plain, slots_of}
-use Rattle.bw_chain.specs.Levels.{row, levels_under}
+use Rattle.bw_level.specs.Slots.{Slot, Children, Live}
+use Rattle.bw_level.specs.Changes.{Bases, plain}
+use Rattle.bw_chain.specs.Chains.{slots_of}
+use Rattle.bw_level.specs.Levels.{row, levels_under}
 use Rattle.bw_tree.specs.View.{TreeView, contents_at}
 
 -- Leaves side by side from a low key on, the first at this place: each ends where the next begins and names it, by its

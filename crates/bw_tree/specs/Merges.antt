@@ -3,12 +3,12 @@ use Rattle.std.specs.Prelude.{◌≡◌, ℕ, suc, ◌+◌, ◌<◌, ◌≤◌, 
 use Rattle.std.specs.List.{Contains}
 use Rattle.bw_key.specs.Order.{KeyBytes}
 use Rattle.bw_page.specs.declared.pages.RemovedPage.{RemovedPage}
-use Rattle.bw_chain.specs.Children.{HasChildAt, HasDroppedChild, MayDropChild}
-use Rattle.bw_chain.specs.Freeing.{IsAside}
-use Rattle.bw_chain.specs.Levels.{row}
-use Rattle.bw_chain.specs.Merges.{IsMerged, level_merged}
-use Rattle.bw_chain.specs.Roots.{IsRootRemoved, levels_lowered}
-use Rattle.bw_chain.specs.Slots.{Gone, side_of, slot_at}
+use Rattle.bw_level.specs.Children.{HasChildAt, HasDroppedChild, MayDropChild}
+use Rattle.bw_level.specs.Freeing.{IsAside}
+use Rattle.bw_level.specs.Levels.{row}
+use Rattle.bw_level.specs.Merges.{IsMerged, level_merged}
+use Rattle.bw_level.specs.Roots.{IsRootRemoved, levels_lowered}
+use Rattle.bw_level.specs.Slots.{Gone, side_of, slot_at}
 use Rattle.bw_tree.specs.Pages.{IsNamer}
 use Rattle.bw_tree.specs.Routing.{IsInLevel}
 use Rattle.bw_tree.specs.View.{TreeView, contents_at}

@@ -5,12 +5,12 @@ use Rattle.bw_model.specs.Values.{ValueBytes}
 use Rattle.bw_page.specs.Leaves.{LeafView}
 use Rattle.bw_page.specs.declared.pages.Page.{Page}
 use Rattle.bw_page.specs.declared.pages.Page.TheVariants.{Leaf, Inner, Gone}
-use Rattle.bw_chain.specs.Before.{low_of}
-use Rattle.bw_chain.specs.Children.{HasChildAt}
-use Rattle.bw_chain.specs.Levels.{IsHomeAt}
-use Rattle.bw_chain.specs.Scans.{high_of}
-use Rattle.bw_chain.specs.Searches.{IsInLevels, plain_inner}
-use Rattle.bw_chain.specs.Slots.{is_leaf, side_of, slot_at}
+use Rattle.bw_level.specs.Before.{low_of}
+use Rattle.bw_level.specs.Children.{HasChildAt}
+use Rattle.bw_level.specs.Levels.{IsHomeAt}
+use Rattle.bw_level.specs.Scans.{high_of}
+use Rattle.bw_level.specs.Searches.{IsInLevels, plain_inner}
+use Rattle.bw_level.specs.Slots.{is_leaf, side_of, slot_at}
 use Rattle.bw_tree.specs.Routing.{IsInLevel}
 use Rattle.bw_tree.specs.View.{TreeView, contents_at}
 

@@ -12,10 +12,10 @@ use Rattle.std.specs.List.{Contains}
 use Rattle.std.specs.Option.{option_copied}
 use Rattle.std.specs.Ordering.{nat_cmp}
 use Rattle.bw_tree.specs.declared.scans.ReadLeaf.{ReadLeaf}
-use Rattle.bw_chain.specs.Before.{low_of}
-use Rattle.bw_chain.specs.Levels.{row}
-use Rattle.bw_chain.specs.Slots.{Slot, has_key, side_of_slot, slot_at}
-use Rattle.bw_chain.specs.Scans.{IsLeafReplay, high_of}
+use Rattle.bw_level.specs.Before.{low_of}
+use Rattle.bw_level.specs.Levels.{row}
+use Rattle.bw_level.specs.Slots.{Slot, has_key, side_of_slot, slot_at}
+use Rattle.bw_level.specs.Scans.{IsLeafReplay, high_of}
 use Rattle.bw_tree.specs.View.{TreeView, contents_at}
 
 -- it has a leaf's bounds, right neighbour and replay

@@ -3,9 +3,9 @@ use Rattle.std.specs.Prelude.{◌≡◌, ℕ, suc, ◌<◌, ◌^◌, None, slice
 use Rattle.bw_key.specs.Order.{KeyBytes}
 use Rattle.bw_page.specs.Inners.{InnerView}
 use Rattle.bw_chain.specs.Placing.{put_at}
-use Rattle.bw_chain.specs.Roots.{IsGrown, IsNeighbour, levels_grown, root_over}
-use Rattle.bw_chain.specs.Searches.{plain_inner}
-use Rattle.bw_chain.specs.Slots.{Live, slot_at}
+use Rattle.bw_level.specs.Roots.{IsGrown, IsNeighbour, levels_grown, root_over}
+use Rattle.bw_level.specs.Searches.{plain_inner}
+use Rattle.bw_level.specs.Slots.{Live, slot_at}
 use Rattle.bw_tree.specs.Identifiers.{IsUnused}
 use Rattle.bw_tree.specs.View.{TreeView, contents_at}
 

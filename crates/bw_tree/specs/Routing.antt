@@ -6,12 +6,12 @@ use Rattle.std.specs.Option.{option_copied}
 use Rattle.bw_key.specs.Order.{KeyBytes}
 use Rattle.bw_model.specs.Contents.{is_below_end}
 use Rattle.bw_page.specs.Inners.{InnerView}
-use Rattle.bw_chain.specs.Searches.{IsInLevels, plain_inner}
-use Rattle.bw_chain.specs.declared.target.Target.{Target}
-use Rattle.bw_chain.specs.Levels.{IsHome, IsHomeAt, row}
-use Rattle.bw_chain.specs.Scans.{high_of}
-use Rattle.bw_chain.specs.Slots.{slot_at}
-use Rattle.bw_chain.specs.Targets.{AreAtHome, StandsOnAll}
+use Rattle.bw_level.specs.Searches.{IsInLevels, plain_inner}
+use Rattle.bw_level.specs.declared.target.Target.{Target}
+use Rattle.bw_level.specs.Levels.{IsHome, IsHomeAt, row}
+use Rattle.bw_level.specs.Scans.{high_of}
+use Rattle.bw_level.specs.Slots.{slot_at}
+use Rattle.bw_level.specs.Targets.{AreAtHome, StandsOnAll}
 use Rattle.bw_tree.specs.View.{TreeView}
 
 -- what contracts see of searches: the tree, and where the range of the leaf ends that the last one found

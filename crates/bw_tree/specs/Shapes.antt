@@ -1,12 +1,12 @@
 -- The list of a tree's pages.
 use Rattle.std.specs.Prelude.{ℕ, zero, suc, List, [], ◌++◌, length, map, if◌then◌else◌}
 use Rattle.bw_model.specs.Contents.{pairs_of_range}
-use Rattle.bw_chain.specs.Before.{low_of}
-use Rattle.bw_chain.specs.Levels.{row}
-use Rattle.bw_chain.specs.Reading.{writes_over}
-use Rattle.bw_chain.specs.Scans.{high_of}
-use Rattle.bw_chain.specs.Slots.{Slot, is_leaf, slot_at}
-use Rattle.bw_chain.specs.Splits.{slot_entries}
+use Rattle.bw_level.specs.Before.{low_of}
+use Rattle.bw_level.specs.Levels.{row}
+use Rattle.bw_level.specs.Reading.{writes_over}
+use Rattle.bw_level.specs.Scans.{high_of}
+use Rattle.bw_level.specs.Slots.{Slot, is_leaf, slot_at}
+use Rattle.bw_level.specs.Splits.{slot_entries}
 use Rattle.bw_tree.specs.View.{TreeView, contents_at}
 use Rattle.bw_tree.specs.declared.tree.shape.PageShape.{PageShape}
 

@@ -1,9 +1,9 @@
 -- Splits: a page keeps its first entries, and a new page right of it has the others.
 use Rattle.std.specs.Prelude.{◌≡◌, ℕ, ◌+◌, ◌<◌, ◌≤◌, ◌^◌, length, max, None, slice_index}
 use Rattle.std.specs.List.{Contains}
-use Rattle.bw_chain.specs.Levels.{row}
-use Rattle.bw_chain.specs.Slots.{slot_at}
-use Rattle.bw_chain.specs.Splits.{HasNoRemovedAt, IsParted, level_parted, slot_entries}
+use Rattle.bw_level.specs.Levels.{row}
+use Rattle.bw_level.specs.Slots.{slot_at}
+use Rattle.bw_level.specs.Splits.{HasNoRemovedAt, IsParted, level_parted, slot_entries}
 use Rattle.bw_tree.specs.Identifiers.{IsUnused}
 use Rattle.bw_tree.specs.View.{TreeView, contents_at}
 

@@ -1,6 +1,5 @@
 -- The life of a batch: staged, adopted, and then accepted or undone.
-use Rattle.std.specs.Prelude.{◌≡◌, ℕ, ◌+◌, ◌^◌, ◌<◌, ◌≤◌, Bool, true, false, Option, Some, None}
-use Rattle.std.specs.Prelude.{List, ◌++◌, length, filter, take, slice_get, slice_index}
+use Rattle.std.specs.Prelude.{◌≡◌, ℕ, ◌+◌, ◌^◌, ◌<◌, ◌≤◌, Bool, true, false, Option, Some, None, List, ◌++◌, length, filter, take, slice_get, slice_index}
 use Rattle.std.specs.List.{Contains}
 use Rattle.std.specs.List.Sorted.{IsPermutation}
 use Rattle.bw_model.specs.Model.{contents_after}
@@ -8,9 +7,9 @@ use Rattle.bw_model.specs.declared.operations.Op.{Op}
 use Rattle.bw_core.specs.World.{Meets, times}
 use Rattle.bw_delta.specs.Writes.{WriteView}
 use Rattle.bw_delta.specs.Batches.{writes_of}
-use Rattle.bw_chain.specs.Levels.{IsHome, row}
-use Rattle.bw_chain.specs.Reading.{writes_over}
-use Rattle.bw_chain.specs.Slots.{slot_at, has_key}
+use Rattle.bw_level.specs.Levels.{IsHome, row}
+use Rattle.bw_level.specs.Reading.{writes_over}
+use Rattle.bw_level.specs.Slots.{slot_at, has_key}
 use Rattle.bw_tree.specs.View.{TreeView, StageView, contents_at, contents_with, staged_writes}
 use Rattle.bw_tree.specs.declared.staging.Staged.{Staged}
 

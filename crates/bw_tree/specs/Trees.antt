@@ -5,13 +5,14 @@ use Rattle.std.specs.Option.{option_map}
 use Rattle.bw_delta.specs.Writes.{WriteView}
 use Rattle.bw_delta.specs.History.{HasDistinctStamps}
 use Rattle.bw_delta.specs.Rising.{HasRisingStamps}
-use Rattle.bw_chain.specs.Slots.{Slot}
-use Rattle.bw_chain.specs.Levels.{AreLevels, row, levels_under}
-use Rattle.bw_chain.specs.Entries.{AreExact}
-use Rattle.bw_chain.specs.Chains.{AllEnd, Bases, Records, slots_of}
+use Rattle.bw_level.specs.Slots.{Slot}
+use Rattle.bw_level.specs.Levels.{AreLevels, row, levels_under}
+use Rattle.bw_level.specs.Entries.{AreExact}
+use Rattle.bw_level.specs.Changes.{Bases}
+use Rattle.bw_chain.specs.Chains.{AllEnd, Records, slots_of}
 use Rattle.bw_chain.specs.Records.{put_records, writes_in}
-use Rattle.bw_chain.specs.Reading.{row_writes}
-use Rattle.bw_chain.specs.Searches.{IsInLevels}
+use Rattle.bw_level.specs.Reading.{row_writes}
+use Rattle.bw_level.specs.Searches.{IsInLevels}
 use Rattle.bw_chain.specs.Supports.{OwnBases}
 use Rattle.bw_tree.specs.View.{TreeView, StageView}
 use Rattle.bw_tree.specs.declared.mapping_words.WordsBefore.{WordsBefore}

@@ -8,9 +8,9 @@ use Rattle.bw_model.specs.Values.{ValueBytes}
 use Rattle.bw_delta.specs.Writes.{WriteView}
 use Rattle.bw_delta.specs.ContentsAsOf.{contents_as_of}
 use Rattle.bw_delta.specs.History.{HasDistinctStamps}
-use Rattle.bw_chain.specs.Reading.{base_of, contents_in, value_in, writes_over, row_pairs, row_writes}
-use Rattle.bw_chain.specs.Slots.{Slot, slot_at}
-use Rattle.bw_chain.specs.Levels.{IsHome, row}
+use Rattle.bw_level.specs.Reading.{base_of, contents_in, value_in, writes_over, row_pairs, row_writes}
+use Rattle.bw_level.specs.Slots.{Slot, slot_at}
+use Rattle.bw_level.specs.Levels.{IsHome, row}
 
 -- A staged batch: what stood before it, how many stamps it takes, its writes, and whether they stand in the chains.
 pub record StageView : Type 0 where

@@ -3,7 +3,7 @@ use Rattle.std.specs.Prelude.{◌≡◌, ℕ, ◌<◌, ◌≤◌, false, List, [
 use Rattle.std.specs.List.{AllByRecursion, slice_set}
 use Rattle.bw_core.specs.World.{times}
 use Rattle.bw_delta.specs.Writes.{WriteView}
-use Rattle.bw_chain.specs.Levels.{IsHome}
+use Rattle.bw_level.specs.Levels.{IsHome}
 use Rattle.bw_tree.specs.declared.mapping_words.WordsBefore.{WordsBefore}
 use Rattle.bw_tree.specs.declared.mapping_words.WordsBefore.TheVariants.{OfAll, OfPages}
 use Rattle.bw_tree.specs.View.{TreeView, StageView}

@@ -1,8 +1,8 @@
 // Identifiers that were given back.
 ghost use Rattle.std.specs.Prelude.{◌≡◌, ◌<◌, ◌≤◌, ◌^◌, length, slice_get, IfOk, IfSome, OnOk};
 ghost use Rattle.std.specs.BinaryHeap.{heap_capacity, heap_len};
-ghost use Rattle.bw_chain.specs.Chains.{based};
-ghost use Rattle.bw_chain.specs.Slots.{Free};
+ghost use Rattle.bw_level.specs.Changes.{based};
+ghost use Rattle.bw_level.specs.Slots.{Free};
 
 use bw_chain::{Chains, FLOOR};
 use bw_key::Memory;

@@ -1,15 +1,15 @@
 // Searches of a tree along rising keys.
 ghost use Rattle.std.specs.Prelude.{◌≡◌, ℕ, ◌<◌, true, length, IfSome};
 ghost use Rattle.std.specs.Option.{option_copied};
-ghost use Rattle.bw_chain.specs.Slots.{slot_at, is_leaf};
-ghost use Rattle.bw_chain.specs.Scans.{high_of};
-ghost use Rattle.bw_chain.specs.Levels.{IsHome};
-ghost use Rattle.bw_chain.specs.Searches.{IsSearching};
+ghost use Rattle.bw_level.specs.Slots.{slot_at, is_leaf};
+ghost use Rattle.bw_level.specs.Scans.{high_of};
+ghost use Rattle.bw_level.specs.Levels.{IsHome};
+ghost use Rattle.bw_level.specs.Searches.{IsSearching};
 ghost use Rattle.bw_tree.specs.Routing.{IsFound, IsInnerPage, IsKeptFor};
 
 use crate::tree::Tree;
-use bw_chain::Target;
 use bw_key::Key;
+use bw_level::Target;
 use bw_model::is_below;
 use bw_page::{Inner, PageId};
 use std::marker::Model;

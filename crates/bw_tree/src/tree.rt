@@ -1,10 +1,10 @@
 // The tree.
 ghost use Rattle.std.specs.Prelude.{◌≡◌, ℕ, ◌-◌, ◌<◌, ◌≤◌, ◌^◌, [], ◌∷◌, None, length, slice_index, IfOk};
 ghost use Rattle.std.specs.FinMap.{empty};
-ghost use Rattle.bw_chain.specs.Entries.{AreExact};
-ghost use Rattle.bw_chain.specs.Levels.{AreLevels, row};
+ghost use Rattle.bw_level.specs.Entries.{AreExact};
+ghost use Rattle.bw_level.specs.Levels.{AreLevels, row};
 ghost use Rattle.bw_chain.specs.Removed.{HasNoRemoved};
-ghost use Rattle.bw_chain.specs.Searches.{IsInLevels};
+ghost use Rattle.bw_level.specs.Searches.{IsInLevels};
 ghost use Rattle.bw_delta.specs.History.{HasDistinctStamps};
 
 use crate::freed::Freed;
@@ -78,8 +78,8 @@ impl Model for Tree {
 }
 
 impl Tree {
-    ghost use Rattle.bw_chain.specs.Reading.{row_writes, writes_over};
-    ghost use Rattle.bw_chain.specs.Slots.{slot_at};
+    ghost use Rattle.bw_level.specs.Reading.{row_writes, writes_over};
+    ghost use Rattle.bw_level.specs.Slots.{slot_at};
     ghost use Rattle.bw_tree.specs.Trees.{ArePlaced, IsTree};
     ghost use Rattle.bw_tree.specs.View.{HomeIsOneIn, HomesHoldAll, LeavesHaveDistinctStamps, contents_at};
     ghost use Rattle.bw_tree.specs.Making.{AreAbutting, IsOverLeaves, count_from, tree_over};

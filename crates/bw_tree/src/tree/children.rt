@@ -1,9 +1,9 @@
 // Index entries: inner pages that name one more page.
 ghost use Rattle.std.specs.Prelude.{◌≡◌, None, Decides, MatchOption, OnOk, OnErr};
-ghost use Rattle.bw_chain.specs.Children.{HasChildAt};
-ghost use Rattle.bw_chain.specs.Searches.{IsInLevels};
-ghost use Rattle.bw_chain.specs.Slots.{slot_at};
-ghost use Rattle.bw_chain.specs.Turns.{StartsUpto};
+ghost use Rattle.bw_level.specs.Children.{HasChildAt};
+ghost use Rattle.bw_level.specs.Searches.{IsInLevels};
+ghost use Rattle.bw_level.specs.Slots.{slot_at};
+ghost use Rattle.bw_level.specs.Turns.{StartsUpto};
 
 use super::Tree;
 use bw_delta::Delta;

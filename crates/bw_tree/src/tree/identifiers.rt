@@ -1,7 +1,7 @@
 // Identifiers of pages that are given back.
 ghost use Rattle.std.specs.Prelude.{◌≡◌, ℕ, Some, None, Decides, OnOk, OnErr};
-ghost use Rattle.bw_chain.specs.Freeing.{IsUnreached};
-ghost use Rattle.bw_chain.specs.Slots.{Free, left_of, slot_at};
+ghost use Rattle.bw_level.specs.Freeing.{IsUnreached};
+ghost use Rattle.bw_level.specs.Slots.{Free, left_of, slot_at};
 
 use super::Tree;
 use bw_key::Memory;

@@ -1,11 +1,11 @@
 // Pages that are absorbed by their left neighbours, their index entries, and roots that have one child.
 ghost use Rattle.std.specs.Prelude.{◌≡◌, ℕ, None, Decides, MatchOption, OnOk, OnErr};
 ghost use Rattle.std.specs.Option.{option_copied};
-ghost use Rattle.bw_chain.specs.Before.{removed_at};
-ghost use Rattle.bw_chain.specs.Children.{HasChildAt};
-ghost use Rattle.bw_chain.specs.Roots.{HasOneChild, removed_root};
-ghost use Rattle.bw_chain.specs.Slots.{slot_at, slot_level};
-ghost use Rattle.bw_chain.specs.Turns.{StartsUpto};
+ghost use Rattle.bw_level.specs.Before.{removed_at};
+ghost use Rattle.bw_level.specs.Children.{HasChildAt};
+ghost use Rattle.bw_level.specs.Roots.{HasOneChild, removed_root};
+ghost use Rattle.bw_level.specs.Slots.{slot_at, slot_level};
+ghost use Rattle.bw_level.specs.Turns.{StartsUpto};
 
 use super::Tree;
 use bw_key::{Key, Memory};

@@ -3,8 +3,8 @@ ghost use Rattle.std.specs.Prelude.{◌≡◌, T, None, map, IfOk, OnOk, OnErr};
 ghost use Rattle.std.specs.FinMap.{is_sorted};
 ghost use Rattle.bw_key.specs.Order.{key_cmp};
 ghost use Rattle.bw_delta.specs.declared.deltas.Delta.TheVariants.{AddChild};
-ghost use Rattle.bw_chain.specs.Searches.{plain_inner};
-ghost use Rattle.bw_chain.specs.Slots.{PageState, Live, slot_at};
+ghost use Rattle.bw_level.specs.Searches.{plain_inner};
+ghost use Rattle.bw_level.specs.Slots.{PageState, Live, slot_at};
 
 use super::Tree;
 use bw_delta::Delta;

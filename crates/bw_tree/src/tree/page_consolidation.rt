@@ -10,10 +10,10 @@ use bw_page::{Inner, Leaf, Page, PageId};
 
 impl Tree {
     ghost use Rattle.bw_chain.specs.Removed.{IsNotRemoved};
-    ghost use Rattle.bw_chain.specs.Levels.{row};
-    ghost use Rattle.bw_chain.specs.Chains.{plain};
-    ghost use Rattle.bw_chain.specs.Searches.{IsInLevels, plain_inner};
-    ghost use Rattle.bw_chain.specs.Slots.{slot_at};
+    ghost use Rattle.bw_level.specs.Levels.{row};
+    ghost use Rattle.bw_level.specs.Changes.{plain};
+    ghost use Rattle.bw_level.specs.Searches.{IsInLevels, plain_inner};
+    ghost use Rattle.bw_level.specs.Slots.{slot_at};
     ghost use Rattle.bw_tree.specs.Consolidation.{IsConsolidated, IsRebased};
     ghost use Rattle.bw_tree.specs.Pages.{leaf_as_of};
     ghost use Rattle.bw_tree.specs.Routing.{IsInnerPage};

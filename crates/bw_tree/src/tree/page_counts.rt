@@ -1,8 +1,8 @@
 // How much a page has.
 ghost use Rattle.std.specs.Prelude.{◌≡◌, ◌<◌, length};
-ghost use Rattle.bw_chain.specs.Reading.{writes_over};
-ghost use Rattle.bw_chain.specs.Slots.{slot_at};
-ghost use Rattle.bw_chain.specs.Splits.{slot_child, slot_entries};
+ghost use Rattle.bw_level.specs.Reading.{writes_over};
+ghost use Rattle.bw_level.specs.Slots.{slot_at};
+ghost use Rattle.bw_level.specs.Splits.{slot_child, slot_entries};
 ghost use Rattle.bw_tree.specs.Pages.{IsPlain};
 
 use super::Tree;

@@ -2,16 +2,17 @@
 ghost use Rattle.std.specs.Prelude.{◌≡◌, Decides, IfOk, MatchOption};
 ghost use Rattle.std.specs.List.{Contains};
 ghost use Rattle.std.specs.Option.{option_copied};
-ghost use Rattle.bw_chain.specs.Before.{low_at, low_of};
-ghost use Rattle.bw_chain.specs.Levels.{row};
-ghost use Rattle.bw_chain.specs.Searches.{IsInLevels};
-ghost use Rattle.bw_chain.specs.Slots.{slot_at};
+ghost use Rattle.bw_level.specs.Before.{low_at, low_of};
+ghost use Rattle.bw_level.specs.Levels.{row};
+ghost use Rattle.bw_level.specs.Searches.{IsInLevels};
+ghost use Rattle.bw_level.specs.Slots.{slot_at};
 ghost use Rattle.bw_tree.specs.Routing.{IsInNoLevel};
 
 use super::Tree;
 use super::page_consolidation::copy_end;
-use bw_chain::{FLOOR, Target};
+use bw_chain::FLOOR;
 use bw_key::{Key, Memory};
+use bw_level::Target;
 use bw_page::{Leaf, Page, PageId};
 
 impl Tree {

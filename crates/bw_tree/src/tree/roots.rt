@@ -1,7 +1,7 @@
 // Roots that grow.
 ghost use Rattle.std.specs.Prelude.{◌≡◌, true, None, is_some, IfOk, OnErr};
-ghost use Rattle.bw_chain.specs.Roots.{two_children};
-ghost use Rattle.bw_chain.specs.Slots.{side_of};
+ghost use Rattle.bw_level.specs.Roots.{two_children};
+ghost use Rattle.bw_level.specs.Slots.{side_of};
 
 use super::Tree;
 use crate::mapping_words::put_own;

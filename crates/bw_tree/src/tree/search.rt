@@ -2,17 +2,17 @@
 ghost use Rattle.std.specs.Prelude.{◌≡◌, ℕ, ◌<◌, ◌≤◌, [], true, T, length, is_some, IfSome, MatchOption};
 ghost use Rattle.std.specs.Option.{option_copied};
 ghost use Rattle.bw_model.specs.Contents.{is_below_end};
-ghost use Rattle.bw_chain.specs.Slots.{slot_at, slot_level, side_of, is_leaf};
-ghost use Rattle.bw_chain.specs.Levels.{IsHome, IsHomeAt};
-ghost use Rattle.bw_chain.specs.Before.{IsBefore};
-ghost use Rattle.bw_chain.specs.Roots.{IsNeighbour};
-ghost use Rattle.bw_chain.specs.Searches.{IsInLevels, IsSearching, plain_inner};
-ghost use Rattle.bw_chain.specs.Targets.{AreAtHome, IsLinked, IsTurnFor, StartsFrom, lies_from};
+ghost use Rattle.bw_level.specs.Slots.{slot_at, slot_level, side_of, is_leaf};
+ghost use Rattle.bw_level.specs.Levels.{IsHome, IsHomeAt};
+ghost use Rattle.bw_level.specs.Before.{IsBefore};
+ghost use Rattle.bw_level.specs.Roots.{IsNeighbour};
+ghost use Rattle.bw_level.specs.Searches.{IsInLevels, IsSearching, plain_inner};
+ghost use Rattle.bw_level.specs.Targets.{AreAtHome, IsLinked, IsTurnFor, StartsFrom, lies_from};
 ghost use Rattle.bw_tree.specs.Routing.{AreAtHomeOn, IsFoundEnd, IsInLevel, IsInNoLevel, IsInnerPage};
 
 use super::Tree;
-use bw_chain::{Target, Turn};
 use bw_key::Key;
+use bw_level::{Target, Turn};
 use bw_page::{Inner, PageId};
 
 /// The leaf that a search found, and the last page from which it went down, if it went down.

@@ -2,9 +2,9 @@
 ghost use Rattle.std.specs.Prelude.{◌≡◌, ℕ, ◌+◌, ◌<◌, ◌≤◌, ◌++◌, [], length, IfOk, OnOk};
 ghost use Rattle.std.specs.List.{Contains};
 ghost use Rattle.std.specs.Option.{option_copied};
-ghost use Rattle.bw_chain.specs.Levels.{IsHomeAt, row};
-ghost use Rattle.bw_chain.specs.Reading.{pairs_under, writes_over};
-ghost use Rattle.bw_chain.specs.Slots.{slot_at};
+ghost use Rattle.bw_level.specs.Levels.{IsHomeAt, row};
+ghost use Rattle.bw_level.specs.Reading.{pairs_under, writes_over};
+ghost use Rattle.bw_level.specs.Slots.{slot_at};
 ghost use Rattle.bw_tree.specs.Routing.{IsInLevel};
 ghost use Rattle.bw_tree.specs.Shapes.{level_shape, page_shape, pairs_on, shape_of};
 

@@ -1,6 +1,6 @@
 // Trees of one leaf and of three, and what tests compare with.
 ghost use Rattle.std.specs.Prelude.{◌≡◌, true, [], None};
-ghost use Rattle.bw_chain.specs.Splits.{HasNoRemovedAt};
+ghost use Rattle.bw_level.specs.Splits.{HasNoRemovedAt};
 ghost use Rattle.bw_tree.specs.Making.{AreAbutting};
 ghost use Rattle.bw_tree.specs.Pages.{IsPlain};
 

@@ -1,7 +1,7 @@
 use Rattle.std.proofs.Common.{◌<◌, ◌≤◌, ◌/◌, length, refl, ap, arith}
-use Rattle.bw_chain.specs.Reading.{writes_over}
-use Rattle.bw_chain.specs.Slots.{slot_at}
-use Rattle.bw_chain.specs.Splits.{slot_entries}
+use Rattle.bw_level.specs.Reading.{writes_over}
+use Rattle.bw_level.specs.Slots.{slot_at}
+use Rattle.bw_level.specs.Splits.{slot_entries}
 use Rattle.bw_shape.proofs.PartLemmas.{leaf_parts}
 use Rattle.bw_shape.proofs.TidyLemmas.{few_within, within_pass}
 use Rattle.bw_shape.proofs.halving.part.Goals as goal

@@ -1,7 +1,7 @@
 use Rattle.std.proofs.Common.{◌≤◌, [], ◌∷◌, length, ◌∙◌, sym, subst, ap, arith}
 use Rattle.std.proofs.lemmas.List.{length-append}
-use Rattle.bw_chain.specs.Slots.{slot_at}
-use Rattle.bw_chain.specs.Splits.{slot_entries}
+use Rattle.bw_level.specs.Slots.{slot_at}
+use Rattle.bw_level.specs.Splits.{slot_entries}
 use Rattle.bw_shape.specs.Limits.{AreWithinBut}
 use Rattle.bw_shape.proofs.TidyLemmas.{few_within, holds_on, holds_same, within_bare, within_pass}
 use Rattle.bw_shape.proofs.visits.look.Goals as goal

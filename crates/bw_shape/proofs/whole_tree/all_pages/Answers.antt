@@ -1,7 +1,7 @@
 use Rattle.std.proofs.Common.{◌≡◌, ℕ, List, Option, None, reverse, sym, ap, ◌∙◌, subst}
 use Rattle.std.proofs.lemmas.List.Sorted.{Contains-permutation, IsPermutation-reverse}
 use Rattle.std.specs.List.{Contains}
-use Rattle.bw_chain.specs.Levels.{row}
+use Rattle.bw_level.specs.Levels.{row}
 use Rattle.bw_shape.specs.Tidying.{DueView}
 use Rattle.bw_shape.proofs.whole_tree.all_pages.Goals as goal
 

@@ -1,6 +1,6 @@
 use Rattle.std.proofs.Common.{◌<◌, length, not, sym, subst, ap, ◌∙◌, arith}
-use Rattle.bw_chain.specs.Slots.{side_of, slot_at}
-use Rattle.bw_chain.specs.Splits.{slot_entries}
+use Rattle.bw_level.specs.Slots.{side_of, slot_at}
+use Rattle.bw_level.specs.Splits.{slot_entries}
 use Rattle.bw_steps.proofs.MergeLemmas.{decides_one, none_of, root_on}
 use Rattle.bw_steps.proofs.merges.has_one_child.Goals as goal
 

@@ -1,7 +1,7 @@
 use Rattle.std.proofs.Common.{◌∙◌, ℕ, Option, sym, ap, subst}
 use Rattle.std.specs.Prelude.{MatchOption}
 use Rattle.bw_key.specs.Order.{KeyBytes}
-use Rattle.bw_chain.specs.Searches.{IsInLevels}
+use Rattle.bw_level.specs.Searches.{IsInLevels}
 use Rattle.bw_tree.specs.Children.{IsUnnamed}
 use Rattle.bw_tree.specs.View.{TreeView}
 use Rattle.bw_steps.specs.Naming.{AreUnnamed, HasNoUnnamedOn, last_page}

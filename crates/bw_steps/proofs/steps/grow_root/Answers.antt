@@ -1,7 +1,7 @@
 use Rattle.std.proofs.Common.{◌-◌, ℕ, List, [], ◌∷◌, length, sym, subst, arith}
 use Rattle.std.specs.List.{Contains}
-use Rattle.bw_chain.specs.Levels.{BeginsWith}
-use Rattle.bw_chain.specs.Searches.{IsInLevels}
+use Rattle.bw_level.specs.Levels.{BeginsWith}
+use Rattle.bw_level.specs.Searches.{IsInLevels}
 use Rattle.bw_steps.proofs.steps.grow_root.Goals as goal
 
 begins_there : (ps : List ℕ) (p : ℕ) → BeginsWith ps p → Contains ps p

@@ -1,5 +1,5 @@
 use Rattle.std.proofs.Common.{◌∙◌, Some, ap, sym, subst}
-use Rattle.bw_chain.specs.Chains.{Bases}
+use Rattle.bw_level.specs.Changes.{Bases}
 use Rattle.bw_chain.specs.Placing.{put_at}
 use Rattle.bw_chain.specs.Removed.{HasAllRemoved}
 use Rattle.bw_chain.proofs.RemovedLemmas.{all_put}

@@ -1,7 +1,7 @@
 use Rattle.std.proofs.Common.{length}
 use Rattle.bw_chain.specs.Chains.{link_of}
 use Rattle.bw_chain.specs.Supports.{base_under}
-use Rattle.bw_chain.specs.Walk.{walked}
+use Rattle.bw_level.specs.Walk.{walked}
 use Rattle.bw_chain.proofs.SupportLemmas.{LeadsTo}
 use Rattle.bw_chain.proofs.chains.Chains.base_number.Given as goal
 

@@ -1,9 +1,10 @@
 use Rattle.std.proofs.Common.{◌∙◌, sym, ap, Option}
 use Rattle.std.specs.Borrow.{Bor}
 use Rattle.bw_page.specs.declared.pages.Page.{Page}
-use Rattle.bw_chain.specs.Chains.{plain, slot_of_word}
-use Rattle.bw_chain.specs.Turns.{plain_at}
-use Rattle.bw_chain.specs.Reading.{base_of}
+use Rattle.bw_level.specs.Changes.{plain}
+use Rattle.bw_chain.specs.Chains.{slot_of_word}
+use Rattle.bw_level.specs.Turns.{plain_at}
+use Rattle.bw_level.specs.Reading.{base_of}
 use Rattle.bw_chain.proofs.ReadingLemmas.{base_through}
 use Rattle.bw_chain.proofs.chains.Chains.base_value_at.Goals as goal
 

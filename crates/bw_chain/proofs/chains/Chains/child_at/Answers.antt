@@ -1,6 +1,6 @@
 use Rattle.std.proofs.Common.{sym, ap, ◌∙◌}
-use Rattle.bw_chain.specs.Splits.{slot_child}
-use Rattle.bw_chain.proofs.JoiningLemmas.{read_plain}
+use Rattle.bw_level.specs.Splits.{slot_child}
+use Rattle.bw_chain.proofs.BaseReadLemmas.{read_plain}
 use Rattle.bw_chain.proofs.chains.Chains.child_at.Goals as goal
 
 pub returns : goal.returns

@@ -1,5 +1,6 @@
 use Rattle.std.proofs.Common.{sym, ◌∙◌}
-use Rattle.bw_chain.specs.Chains.{change, page_at, plain}
+use Rattle.bw_level.specs.Changes.{change, plain}
+use Rattle.bw_chain.specs.Chains.{page_at}
 use Rattle.bw_chain.proofs.BareLemmas.{same_entries, under_change}
 use Rattle.bw_chain.proofs.chains.Chains.count_entries.Goals as goal
 

@@ -1,7 +1,7 @@
 use Rattle.std.proofs.Common.{length, ap, refl, sym, ◌∙◌, arith}
 use Rattle.bw_chain.specs.Chains.{link_of}
 use Rattle.bw_chain.proofs.ChainLemmas.{no_record_there, put_over, same_next}
-use Rattle.bw_chain.proofs.CountLemmas.{walk_fits}
+use Rattle.bw_level.proofs.CountLemmas.{walk_fits}
 use Rattle.bw_chain.proofs.PageScanLemmas.{passed_write}
 use Rattle.bw_chain.proofs.ReadingLemmas.{none_at_base}
 use Rattle.bw_chain.proofs.chains.Chains.count_puts.Goals as goal

@@ -1,6 +1,7 @@
 use Rattle.std.proofs.Common.{◌∙◌, ap, length, sym, subst, arith}
-use Rattle.bw_chain.specs.Chains.{Bases, ChainsView, page_at}
-use Rattle.bw_chain.specs.Children.{slot_without_child, state_without_child}
+use Rattle.bw_level.specs.Changes.{Bases}
+use Rattle.bw_chain.specs.Chains.{ChainsView, page_at}
+use Rattle.bw_level.specs.Children.{slot_without_child, state_without_child}
 use Rattle.bw_chain.specs.Removed.{HasAllRemoved}
 use Rattle.bw_chain.proofs.InPlaceLemmas.{plain_within}
 use Rattle.bw_chain.proofs.RemovedLemmas.{all_set, inner_live, live_page}

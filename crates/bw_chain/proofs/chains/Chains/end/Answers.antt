@@ -1,8 +1,9 @@
 use Rattle.std.proofs.Common.{sym, ap, ◌∙◌}
 use Rattle.bw_page.specs.declared.pages.Page.TheVariants.{Leaf as LeafPage}
-use Rattle.bw_chain.specs.Chains.{page_at, plain}
-use Rattle.bw_chain.specs.Slots.{Slot}
-use Rattle.bw_chain.specs.Turns.{over, plain_at, slot_without_writes}
+use Rattle.bw_level.specs.Changes.{plain}
+use Rattle.bw_chain.specs.Chains.{page_at}
+use Rattle.bw_level.specs.Slots.{Slot}
+use Rattle.bw_level.specs.Turns.{over, plain_at, slot_without_writes}
 use Rattle.bw_chain.proofs.BareLemmas.{same_high, same_side}
 use Rattle.bw_chain.proofs.chains.Chains.end.Goals as goal
 

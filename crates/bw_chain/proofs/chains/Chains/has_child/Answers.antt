@@ -1,9 +1,10 @@
 use Rattle.std.proofs.Common.{ap, ◌∙◌}
-use Rattle.bw_chain.specs.Chains.{page_at, plain}
-use Rattle.bw_chain.specs.Searches.{plain_inner}
-use Rattle.bw_chain.specs.Slots.{Slot}
-use Rattle.bw_chain.specs.Turns.{over, plain_at, slot_without_writes}
-use Rattle.bw_chain.proofs.IndexLemmas.{children_alike, starts_alike, starts_under}
+use Rattle.bw_level.specs.Changes.{plain}
+use Rattle.bw_chain.specs.Chains.{page_at}
+use Rattle.bw_level.specs.Searches.{plain_inner}
+use Rattle.bw_level.specs.Slots.{Slot}
+use Rattle.bw_level.specs.Turns.{over, plain_at, slot_without_writes}
+use Rattle.bw_level.proofs.IndexLemmas.{children_alike, starts_alike, starts_under}
 use Rattle.bw_chain.proofs.chains.Chains.has_child.Goals as goal
 
 pub child_over-requires-clause-starts : goal.child_over-requires-clause-starts

@@ -3,11 +3,11 @@ use Rattle.bw_model.specs.Values.{ValueBytes}
 use Rattle.bw_page.specs.Leaves.{LeafView}
 use Rattle.bw_page.specs.declared.pages.RemovedPage.{RemovedPage}
 use Rattle.bw_page.specs.declared.pages.Page.TheVariants.{Leaf as LeafPage, Gone as GonePage}
-use Rattle.bw_chain.specs.Chains.{plain}
-use Rattle.bw_chain.specs.Searches.{plain_inner}
-use Rattle.bw_chain.specs.Turns.{plain_at}
+use Rattle.bw_level.specs.Changes.{plain}
+use Rattle.bw_level.specs.Searches.{plain_inner}
+use Rattle.bw_level.specs.Turns.{plain_at}
 use Rattle.bw_chain.proofs.ChainLemmas.{on_base}
-use Rattle.bw_chain.proofs.InnerLemmas.{inner_is, none_mapped}
+use Rattle.bw_level.proofs.InnerLemmas.{inner_is, none_mapped}
 use Rattle.bw_chain.proofs.chains.Chains.inner.Goals as goal
 
 pub returns-in_default-clause-some : goal.returns-in_default-clause-some

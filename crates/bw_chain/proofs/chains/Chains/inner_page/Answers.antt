@@ -1,9 +1,10 @@
 use Rattle.std.proofs.Common.{ap, ◌∙◌, subst}
-use Rattle.bw_chain.specs.Chains.{page_at, plain}
-use Rattle.bw_chain.specs.Searches.{plain_inner}
-use Rattle.bw_chain.specs.Slots.{IsSoundInner, Slot}
-use Rattle.bw_chain.specs.Turns.{over, plain_at}
-use Rattle.bw_chain.proofs.InnerLemmas.{bare_inner, inner_bare, over_any}
+use Rattle.bw_level.specs.Changes.{plain}
+use Rattle.bw_chain.specs.Chains.{page_at}
+use Rattle.bw_level.specs.Searches.{plain_inner}
+use Rattle.bw_level.specs.Slots.{IsSoundInner, Slot}
+use Rattle.bw_level.specs.Turns.{over, plain_at}
+use Rattle.bw_level.proofs.InnerLemmas.{bare_inner, inner_bare, over_any}
 use Rattle.bw_chain.proofs.chains.Chains.inner_page.Goals as goal
 
 pub inner_over-requires-clause-sound : goal.inner_over-requires-clause-sound

@@ -1,6 +1,7 @@
 use Rattle.std.proofs.Common.{inl, inr, ◌⊎◌, ◌≡◌, ℕ, zero, suc, ◌+◌, ◌<◌, true, false, List, [], ◌∷◌, get_or, length, slice_index, sym, ap, ◌∙◌, subst, arith}
 use Rattle.std.specs.List.{Contains}
-use Rattle.bw_chain.specs.Chains.{Bases, ChainsView}
+use Rattle.bw_level.specs.Changes.{Bases}
+use Rattle.bw_chain.specs.Chains.{ChainsView}
 use Rattle.bw_chain.specs.Removed.{IsRemovedAt, IsRemovedInto}
 use Rattle.bw_chain.proofs.chains.Chains.is_left.Goals as goal
 

@@ -1,10 +1,11 @@
 use Rattle.std.proofs.Common.{◌≡◌, sym, subst}
 use Rattle.std.specs.Prelude.{IfOk}
 use Rattle.bw_page.specs.declared.pages.Page.{Page}
-use Rattle.bw_chain.specs.Chains.{page_at, plain}
-use Rattle.bw_chain.specs.Merges.{AreNeighbours, slot_joined}
-use Rattle.bw_chain.specs.Slots.{Slot}
-use Rattle.bw_chain.proofs.JoiningLemmas.{read_page, read_there}
+use Rattle.bw_level.specs.Changes.{plain}
+use Rattle.bw_chain.specs.Chains.{page_at}
+use Rattle.bw_level.specs.Merges.{AreNeighbours, slot_joined}
+use Rattle.bw_level.specs.Slots.{Slot}
+use Rattle.bw_chain.proofs.BaseReadLemmas.{read_page, read_there}
 use Rattle.bw_chain.proofs.chains.Chains.joined.Goals as goal
 
 pub unreachable-requires : goal.unreachable-requires

@@ -1,7 +1,7 @@
 use Rattle.std.proofs.Common.{◌≡◌, length}
-use Rattle.bw_chain.specs.Walk.{walked}
+use Rattle.bw_level.specs.Walk.{walked}
 use Rattle.bw_chain.specs.Chains.{Ends, link_of, slot_of_word}
-use Rattle.bw_chain.specs.Turns.{slot_without_writes}
+use Rattle.bw_level.specs.Turns.{slot_without_writes}
 use Rattle.bw_chain.proofs.chains.Chains.lowest.Given as goal
 
 abbrev pub invariant-loop-under : goal.invariant-loop-under

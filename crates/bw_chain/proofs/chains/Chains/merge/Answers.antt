@@ -1,9 +1,10 @@
 use Rattle.std.proofs.Common.{◌≡◌, ℕ, ◌∙◌, List, [], ◌∷◌, ◌++◌, set, Some, ap, length, sym, subst, arith}
 use Rattle.std.proofs.lemmas.List.{length-set}
-use Rattle.bw_chain.specs.Chains.{Bases, ChainsView, page_at}
-use Rattle.bw_chain.specs.Merges.{slot_joined, state_joined}
+use Rattle.bw_level.specs.Changes.{Bases}
+use Rattle.bw_chain.specs.Chains.{ChainsView, page_at}
+use Rattle.bw_level.specs.Merges.{slot_joined, state_joined}
 use Rattle.bw_chain.specs.Removed.{HasAllRemoved}
-use Rattle.bw_chain.specs.Slots.{Slot, Live}
+use Rattle.bw_level.specs.Slots.{Slot, Live}
 use Rattle.bw_chain.proofs.InPlaceLemmas.{plain_within}
 use Rattle.bw_chain.proofs.RemovedLemmas.{all_removed, all_set, live_page}
 use Rattle.bw_chain.proofs.chains.Chains.merge.Goals as goal

@@ -5,8 +5,9 @@ use Rattle.bw_key.specs.Order.{KeyBytes}
 use Rattle.bw_page.specs.declared.pages.Page.{Page}
 use Rattle.bw_delta.specs.declared.deltas.Delta.{Delta}
 use Rattle.bw_delta.specs.declared.deltas.Delta.TheVariants.{Split}
-use Rattle.bw_chain.specs.Chains.{Bases, ChainsView, based, change, plain}
-use Rattle.bw_chain.specs.Slots.{IsSound}
+use Rattle.bw_level.specs.Changes.{Bases, based, change, plain}
+use Rattle.bw_chain.specs.Chains.{ChainsView}
+use Rattle.bw_level.specs.Slots.{IsSound}
 use Rattle.bw_chain.specs.Removed.{HasAllRemoved}
 use Rattle.bw_chain.proofs.InPlaceLemmas.{split_at, split_within}
 use Rattle.bw_chain.proofs.RemovedLemmas.{all_replaced, live_page, sound_live}

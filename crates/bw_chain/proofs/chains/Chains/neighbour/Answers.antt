@@ -1,5 +1,6 @@
 use Rattle.std.proofs.Common.{is_some, sym, ap, ◌∙◌}
-use Rattle.bw_chain.specs.Chains.{change, page_at, plain}
+use Rattle.bw_level.specs.Changes.{change, plain}
+use Rattle.bw_chain.specs.Chains.{page_at}
 use Rattle.bw_chain.proofs.BareLemmas.{if_all, same_neighbour, same_side, under_change}
 use Rattle.bw_chain.proofs.chains.Chains.neighbour.Goals as goal
 

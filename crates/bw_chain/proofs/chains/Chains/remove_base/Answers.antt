@@ -1,6 +1,7 @@
 use Rattle.std.proofs.Common.{◌≡◌, ℕ, ◌∙◌, List, [], ◌∷◌, ◌++◌, set, Some, ap, length, sym, subst, arith}
 use Rattle.bw_page.specs.declared.pages.Page.TheVariants.{Gone as GonePage}
-use Rattle.bw_chain.specs.Chains.{Bases, ChainsView}
+use Rattle.bw_level.specs.Changes.{Bases}
+use Rattle.bw_chain.specs.Chains.{ChainsView}
 use Rattle.bw_chain.specs.Removed.{HasAllRemoved}
 use Rattle.bw_chain.proofs.BaseLemmas.{base_low}
 use Rattle.bw_chain.proofs.RemovedLemmas.{all_removed}

@@ -4,10 +4,11 @@ use Rattle.std.proofs.lemmas.Option.{get_or_from_slice_get}
 use Rattle.bw_key.specs.Order.{KeyBytes}
 use Rattle.bw_page.specs.declared.pages.Page.{Page}
 use Rattle.bw_delta.specs.declared.deltas.Delta.TheVariants.{Split}
-use Rattle.bw_chain.specs.Chains.{Bases, ChainsView, IsChain, Records, based, floor_word, page_at, plain}
+use Rattle.bw_level.specs.Changes.{Bases, based, plain}
+use Rattle.bw_chain.specs.Chains.{ChainsView, IsChain, Records, floor_word, page_at}
 use Rattle.bw_chain.specs.Placing.{put_at}
 use Rattle.bw_chain.specs.Removed.{HasAllRemoved}
-use Rattle.bw_chain.specs.Splits.{first_entries, right_part, slot_entries, slot_left, slot_right, slot_separator}
+use Rattle.bw_level.specs.Splits.{first_entries, right_part, slot_entries, slot_left, slot_right, slot_separator}
 use Rattle.bw_chain.proofs.InPlaceLemmas.{plain_at, plain_within}
 use Rattle.bw_chain.proofs.RemovedLemmas.{all_put, all_replaced, entries_live, live_page}
 use Rattle.bw_chain.proofs.chains.Chains.split.Goals as goal

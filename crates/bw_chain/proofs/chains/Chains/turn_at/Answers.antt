@@ -2,9 +2,10 @@ use Rattle.std.proofs.Common.{ap, ◌∙◌, Option, Some}
 use Rattle.std.specs.Borrow.{Bor}
 use Rattle.bw_page.specs.declared.pages.Page.{Page}
 use Rattle.bw_delta.specs.declared.deltas.Delta.{Delta}
-use Rattle.bw_chain.specs.Chains.{change, page_at, plain}
-use Rattle.bw_chain.specs.Turns.{slot_without_writes, over, plain_at}
-use Rattle.bw_chain.proofs.TurnLemmas.{turns_alike}
+use Rattle.bw_level.specs.Changes.{change, plain}
+use Rattle.bw_chain.specs.Chains.{page_at}
+use Rattle.bw_level.specs.Turns.{slot_without_writes, over, plain_at}
+use Rattle.bw_level.proofs.TurnLemmas.{turns_alike}
 use Rattle.bw_chain.proofs.chains.Chains.turn_at.Goals as goal
 
 pub returns-in-Some-Some : goal.returns-in-Some-Some

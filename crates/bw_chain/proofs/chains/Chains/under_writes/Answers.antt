@@ -1,6 +1,6 @@
 use Rattle.std.proofs.Common.{◌∙◌, sym, ap}
-use Rattle.bw_chain.specs.Chains.{change}
-use Rattle.bw_chain.specs.Turns.{slot_without_writes}
+use Rattle.bw_level.specs.Changes.{change}
+use Rattle.bw_level.specs.Turns.{slot_without_writes}
 use Rattle.bw_chain.proofs.ChainLemmas.{link_is, no_record, under_put, under_other, on_base}
 use Rattle.bw_chain.proofs.chains.Chains.under_writes.Goals as goal
 

@@ -1,9 +1,9 @@
 use Rattle.std.proofs.Common.{◌≡◌, ◌++◌, length}
 use Rattle.bw_delta.specs.History.{pointed_to}
-use Rattle.bw_chain.specs.Walk.{walked}
+use Rattle.bw_level.specs.Walk.{walked}
 use Rattle.bw_chain.specs.Chains.{link_of, slot_of_word}
 use Rattle.bw_chain.specs.LeafChains.{LeadsToSame}
-use Rattle.bw_chain.specs.Reading.{writes_over}
+use Rattle.bw_level.specs.Reading.{writes_over}
 use Rattle.bw_chain.proofs.chains.Chains.walk.Given as goal
 
 abbrev pub invariant-loop-delta : goal.invariant-loop-delta

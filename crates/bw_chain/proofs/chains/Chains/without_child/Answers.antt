@@ -1,11 +1,11 @@
 use Rattle.std.proofs.Common.{◌≡◌, sym, subst}
 use Rattle.std.specs.Prelude.{IfOk}
 use Rattle.bw_page.specs.declared.pages.Page.{Page}
-use Rattle.bw_chain.specs.Before.{low_of}
-use Rattle.bw_chain.specs.Chains.{plain}
-use Rattle.bw_chain.specs.Children.{slot_without_child}
-use Rattle.bw_chain.specs.Slots.{IsSoundInner, Slot}
-use Rattle.bw_chain.proofs.JoiningLemmas.{read_page, read_sound}
+use Rattle.bw_level.specs.Before.{low_of}
+use Rattle.bw_level.specs.Changes.{plain}
+use Rattle.bw_level.specs.Children.{slot_without_child}
+use Rattle.bw_level.specs.Slots.{IsSoundInner, Slot}
+use Rattle.bw_chain.proofs.BaseReadLemmas.{read_page, read_sound}
 use Rattle.bw_chain.proofs.chains.Chains.without_child.Goals as goal
 
 pub unreachable-requires : goal.unreachable-requires

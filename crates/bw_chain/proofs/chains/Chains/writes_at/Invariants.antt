@@ -1,10 +1,10 @@
 use Rattle.std.proofs.Common.{◌≡◌, ◌++◌, true, length}
 use Rattle.bw_delta.specs.Batches.{writes_to}
 use Rattle.bw_delta.specs.History.{pointed_to}
-use Rattle.bw_chain.specs.Slots.{is_leaf}
-use Rattle.bw_chain.specs.Walk.{walked}
+use Rattle.bw_level.specs.Slots.{is_leaf}
+use Rattle.bw_level.specs.Walk.{walked}
 use Rattle.bw_chain.specs.Chains.{Ends, link_of, slot_of_word}
-use Rattle.bw_chain.specs.Reading.{writes_over}
+use Rattle.bw_level.specs.Reading.{writes_over}
 use Rattle.bw_chain.proofs.chains.Chains.writes_at.Given as goal
 
 abbrev pub invariant-loop-delta : goal.invariant-loop-delta

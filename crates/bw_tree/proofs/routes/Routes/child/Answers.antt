@@ -1,9 +1,9 @@
 use Rattle.std.proofs.Common.{ℕ, List, get_or, sym, subst}
 use Rattle.bw_key.specs.Order.{KeyBytes}
-use Rattle.bw_chain.specs.declared.target.Target.TheVariants.{Home}
-use Rattle.bw_chain.specs.Levels.{AreLevels}
-use Rattle.bw_chain.specs.Searches.{IsSearching}
-use Rattle.bw_chain.proofs.SearchLemmas.{begins_under}
+use Rattle.bw_level.specs.declared.target.Target.TheVariants.{Home}
+use Rattle.bw_level.specs.Levels.{AreLevels}
+use Rattle.bw_level.specs.Searches.{IsSearching}
+use Rattle.bw_level.proofs.SearchLemmas.{begins_under}
 use Rattle.bw_tree.specs.Routing.{RoutesView}
 use Rattle.bw_tree.proofs.routes.Routes.child.Goals as goal
 

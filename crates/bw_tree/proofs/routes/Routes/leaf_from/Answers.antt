@@ -1,6 +1,6 @@
 use Rattle.std.proofs.Common.{◌≡◌, ap, subst}
 use Rattle.std.specs.Option.{option_copied}
-use Rattle.bw_chain.proofs.RouteLemmas.{least}
+use Rattle.bw_level.proofs.RouteLemmas.{least}
 use Rattle.bw_tree.specs.Routing.{IsFound, RoutesView}
 use Rattle.bw_tree.specs.View.{TreeView}
 use Rattle.bw_tree.proofs.RoutingLemmas.{home_found, home_in_row}

@@ -1,7 +1,7 @@
 use Rattle.std.proofs.Common.{subst}
-use Rattle.bw_chain.specs.Levels.{AreLevels, IsHome}
-use Rattle.bw_chain.proofs.HomeLemmas.{one_home}
-use Rattle.bw_chain.proofs.RouteLemmas.{home_leaf}
+use Rattle.bw_level.specs.Levels.{AreLevels, IsHome}
+use Rattle.bw_level.proofs.HomeLemmas.{one_home}
+use Rattle.bw_level.proofs.RouteLemmas.{home_leaf}
 use Rattle.bw_tree.specs.Routing.{RoutesView}
 use Rattle.bw_tree.specs.View.{TreeView}
 use Rattle.bw_tree.proofs.routes.Routes.route.Goals as goal

@@ -1,5 +1,5 @@
-use Rattle.bw_chain.specs.Reading.{base_of, writes_over}
-use Rattle.bw_chain.specs.Scans.{high_of}
+use Rattle.bw_level.specs.Reading.{base_of, writes_over}
+use Rattle.bw_level.specs.Scans.{high_of}
 use Rattle.bw_tree.proofs.scans.ReadLeaf.as_of.Goals as goal
 
 pub returns-clause-leaf : goal.returns-clause-leaf

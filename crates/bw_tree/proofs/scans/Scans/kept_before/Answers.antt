@@ -1,6 +1,6 @@
 use Rattle.std.proofs.Common.{T, subst}
 use Rattle.std.specs.Option.{option_copied}
-use Rattle.bw_chain.specs.Before.{IsBefore}
+use Rattle.bw_level.specs.Before.{IsBefore}
 use Rattle.bw_tree.specs.Replaying.{ScansView}
 use Rattle.bw_tree.proofs.ReplayLemmas.{kept_before, kept_one}
 use Rattle.bw_tree.proofs.scans.Scans.kept_before.Goals as goal

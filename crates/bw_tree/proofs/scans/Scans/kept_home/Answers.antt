@@ -1,5 +1,5 @@
 use Rattle.std.proofs.Common.{T, sym, subst, ◌∙◌}
-use Rattle.bw_chain.specs.Levels.{IsHome}
+use Rattle.bw_level.specs.Levels.{IsHome}
 use Rattle.bw_tree.specs.Replaying.{ScansView}
 use Rattle.bw_tree.proofs.ReplayLemmas.{kept_home, kept_one}
 use Rattle.bw_tree.proofs.scans.Scans.kept_home.Goals as goal

@@ -1,10 +1,10 @@
 use Rattle.std.proofs.Common.{◌≡◌, MatchOption, Some, sym, subst, ◌∙◌}
 use Rattle.std.specs.Option.{option_copied}
-use Rattle.bw_chain.specs.Levels.{AreLevels}
-use Rattle.bw_chain.specs.Slots.{side_of_slot, slot_at}
-use Rattle.bw_chain.specs.Scans.{Reaches, high_of}
+use Rattle.bw_level.specs.Levels.{AreLevels}
+use Rattle.bw_level.specs.Slots.{side_of_slot, slot_at}
+use Rattle.bw_level.specs.Scans.{Reaches, high_of}
 use Rattle.bw_tree.specs.Replaying.{ScansView}
-use Rattle.bw_chain.proofs.EndLemmas.{reaches_same}
+use Rattle.bw_level.proofs.EndLemmas.{reaches_same}
 use Rattle.bw_tree.proofs.LeafScanLemmas.{side_or_end}
 use Rattle.bw_tree.proofs.scans.Scans.read_leaf.Goals as goal
 use Rattle.bw_tree.proofs.scans.Scans.read_leaf.Goals.{then-reaches, else-reaches}

@@ -6,9 +6,9 @@ use Rattle.std.specs.FinMap.Entries.{where_key}
 use Rattle.bw_key.specs.Order.{key_cmp}
 use Rattle.bw_model.specs.Contents.{is_below_end, is_pair_in_range, pairs_of_range}
 use Rattle.bw_model.specs.Values.{Pair}
-use Rattle.bw_chain.specs.Levels.{row}
-use Rattle.bw_chain.specs.Slots.{slot_at, has_key}
-use Rattle.bw_chain.specs.Scans.{IsLeafReplay, high_of}
+use Rattle.bw_level.specs.Levels.{row}
+use Rattle.bw_level.specs.Slots.{slot_at, has_key}
+use Rattle.bw_level.specs.Scans.{IsLeafReplay, high_of}
 use Rattle.bw_tree.specs.Replaying.{ScansView, in_order}
 use Rattle.bw_tree.specs.View.{TreeView, contents_at}
 use Rattle.bw_tree.proofs.ReplayLemmas.{pairs_on_leaf}

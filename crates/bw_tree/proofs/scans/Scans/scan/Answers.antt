@@ -2,12 +2,12 @@ use Rattle.std.proofs.Common.{◌≡◌, ◌-◌, ◌++◌, length, take, refl, 
 use Rattle.std.specs.List.{Contains}
 use Rattle.std.specs.Option.{option_copied}
 use Rattle.bw_delta.specs.History.{HasDistinctStamps}
-use Rattle.bw_chain.specs.Levels.{AreLevels, row}
+use Rattle.bw_level.specs.Levels.{AreLevels, row}
 use Rattle.bw_tree.specs.Replaying.{ScansView}
-use Rattle.bw_chain.specs.Scans.{Reaches, high_of}
-use Rattle.bw_chain.specs.Slots.{side_of_slot, slot_at}
+use Rattle.bw_level.specs.Scans.{Reaches, high_of}
+use Rattle.bw_level.specs.Slots.{side_of_slot, slot_at}
 use Rattle.bw_tree.specs.View.{TreeView, contents_at}
-use Rattle.bw_chain.specs.Reading.{row_writes}
+use Rattle.bw_level.specs.Reading.{row_writes}
 use Rattle.bw_tree.proofs.ReplayLemmas.{begins, ends_read, is_enough_read, next_read, leaf_of}
 use Rattle.bw_tree.proofs.scans.Scans.scan.Goals as goal
 

@@ -1,8 +1,8 @@
 use Rattle.std.proofs.Common.{◌≡◌, length}
 use Rattle.std.specs.Option.{option_copied}
 use Rattle.bw_model.specs.Contents.{pairs_of_range}
-use Rattle.bw_chain.specs.Walk.{walked}
-use Rattle.bw_chain.specs.Slots.{side_of}
+use Rattle.bw_level.specs.Walk.{walked}
+use Rattle.bw_level.specs.Slots.{side_of}
 use Rattle.bw_tree.specs.View.{contents_at}
 use Rattle.bw_tree.proofs.ReplayLemmas.{HasRead}
 use Rattle.bw_tree.proofs.scans.Scans.scan.Given as goal

@@ -1,9 +1,9 @@
 use Rattle.std.proofs.Common.{◌-◌, ◌++◌, length, reverse, take, refl, sym, ap, subst, ◌∙◌, arith}
 use Rattle.std.specs.Option.{option_copied}
-use Rattle.bw_chain.specs.Before.{IsBefore, low_of}
-use Rattle.bw_chain.specs.Slots.{slot_at}
+use Rattle.bw_level.specs.Before.{IsBefore, low_of}
+use Rattle.bw_level.specs.Slots.{slot_at}
 use Rattle.bw_tree.specs.View.{TreeView, contents_at}
-use Rattle.bw_chain.proofs.EndLemmas.{not_below, no_le}
+use Rattle.bw_level.proofs.EndLemmas.{not_below, no_le}
 use Rattle.bw_tree.proofs.BackLemmas.{least_below}
 use Rattle.bw_tree.proofs.ReplayLemmas.{begins_at_end, is_back, ends_at_leaf, enough_at_leaf, goes_before, leaf_of}
 use Rattle.bw_tree.proofs.scans.Scans.scan_back.Goals as goal

@@ -1,5 +1,5 @@
 use Rattle.std.proofs.Common.{sym, subst, ◌∙◌}
-use Rattle.bw_chain.specs.Slots.{slot_at}
+use Rattle.bw_level.specs.Slots.{slot_at}
 use Rattle.bw_tree.specs.Replaying.{IsReadLeaf, ScansView}
 use Rattle.bw_tree.proofs.ReplayLemmas.{kept_without, kept_one}
 use Rattle.bw_tree.proofs.scans.Scans.take_kept.Goals as goal

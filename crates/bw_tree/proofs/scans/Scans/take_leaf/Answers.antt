@@ -1,7 +1,7 @@
 use Rattle.std.proofs.Common.{sym, subst}
 use Rattle.std.proofs.lemmas.Result.{IfOk-weaker}
 use Rattle.bw_tree.specs.declared.scans.ReadLeaf.{ReadLeaf}
-use Rattle.bw_chain.specs.Slots.{slot_at}
+use Rattle.bw_level.specs.Slots.{slot_at}
 use Rattle.bw_tree.specs.Replaying.{IsReadLeaf}
 use Rattle.bw_tree.specs.View.{TreeView}
 use Rattle.bw_tree.proofs.scans.Scans.take_leaf.Goals as goal

@@ -1,4 +1,4 @@
-use Rattle.bw_chain.proofs.RouteLemmas.{least}
+use Rattle.bw_level.proofs.RouteLemmas.{least}
 use Rattle.bw_tree.proofs.PageLemmas.{home_on}
 use Rattle.bw_tree.proofs.tree.Tree.above.Goals as goal
 

@@ -1,5 +1,5 @@
 use Rattle.std.proofs.Common.{◌∙◌, sym, ap, get_or, arith}
-use Rattle.bw_chain.specs.Scans.{high_of}
+use Rattle.bw_level.specs.Scans.{high_of}
 use Rattle.bw_tree.proofs.LeafScanLemmas.{leaf_held, leaf_at}
 use Rattle.bw_tree.proofs.tree.Tree.end.Goals as goal
 

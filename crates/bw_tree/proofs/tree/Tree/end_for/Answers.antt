@@ -1,6 +1,6 @@
 use Rattle.std.proofs.Common.{◌∙◌, ap, get_or, arith}
 use Rattle.std.proofs.lemmas.Option.{IfSome_then}
-use Rattle.bw_chain.proofs.LeafEndLemmas.{where_some}
+use Rattle.bw_level.proofs.LeafEndLemmas.{where_some}
 use Rattle.bw_tree.proofs.RoutingLemmas.{found_end, searched_at_head, searched_there}
 use Rattle.bw_tree.proofs.tree.Tree.end_for.Goals as goal
 

@@ -1,7 +1,7 @@
 use Rattle.std.proofs.Common.{◌∙◌, sym, ap, get_or, subst, Decides, arith}
-use Rattle.bw_chain.specs.Children.{HasChildAt}
-use Rattle.bw_chain.specs.Slots.{Slot}
-use Rattle.bw_chain.specs.Turns.{StartsUpto}
+use Rattle.bw_level.specs.Children.{HasChildAt}
+use Rattle.bw_level.specs.Slots.{Slot}
+use Rattle.bw_level.specs.Turns.{StartsUpto}
 use Rattle.bw_tree.proofs.RebaseLemmas.{sound_there}
 use Rattle.bw_tree.proofs.RoutingLemmas.{page_at_head, page_there}
 use Rattle.bw_tree.proofs.tree.Tree.has_child.Goals as goal

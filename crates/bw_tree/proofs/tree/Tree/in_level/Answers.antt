@@ -1,10 +1,10 @@
 use Rattle.std.proofs.Common.{◌≡◌, ℕ, Some, None, get_or, sym, ap, ◌∙◌, subst, arith}
 use Rattle.std.specs.Option.{option_copied}
 use Rattle.bw_key.specs.Order.{KeyBytes}
-use Rattle.bw_chain.specs.Before.{low_at}
-use Rattle.bw_chain.specs.Levels.{AreLevels, IsHomeAt}
-use Rattle.bw_chain.specs.Slots.{slot_at, slot_level}
-use Rattle.bw_chain.proofs.AboveLemmas.{own_level, own_low, own_page}
+use Rattle.bw_level.specs.Before.{low_at}
+use Rattle.bw_level.specs.Levels.{AreLevels, IsHomeAt}
+use Rattle.bw_level.specs.Slots.{slot_at, slot_level}
+use Rattle.bw_level.proofs.AboveLemmas.{own_level, own_low, own_page}
 use Rattle.bw_tree.specs.View.{TreeView}
 use Rattle.bw_tree.proofs.RoutingLemmas.{at_head, page_there}
 use Rattle.bw_tree.proofs.tree.Tree.in_level.Goals as goal

@@ -1,5 +1,5 @@
 use Rattle.std.proofs.Common.{◌≡◌, false, true, Decides, sym, ◌∙◌}
-use Rattle.bw_chain.specs.Slots.{slot_at}
+use Rattle.bw_level.specs.Slots.{slot_at}
 use Rattle.bw_tree.proofs.UnreachedLemmas.{taken_low}
 use Rattle.bw_tree.proofs.tree.Tree.is_free.Goals as goal
 

@@ -1,5 +1,5 @@
 use Rattle.std.proofs.Common.{ℕ, Some, ◌≡◌, Decides, subst}
-use Rattle.bw_chain.specs.Slots.{left_of}
+use Rattle.bw_level.specs.Slots.{left_of}
 use Rattle.bw_tree.specs.View.{TreeView}
 use Rattle.bw_tree.proofs.LeftLemmas.{decides_left}
 use Rattle.bw_tree.proofs.tree.Tree.is_left.Goals as goal

@@ -1,6 +1,6 @@
 use Rattle.std.proofs.Common.{◌≡◌, ℕ, true, false, Bool, Decides, Some, not, refl, sym, ◌∙◌}
-use Rattle.bw_chain.specs.Freeing.{IsUnreached}
-use Rattle.bw_chain.specs.Slots.{left_of}
+use Rattle.bw_level.specs.Freeing.{IsUnreached}
+use Rattle.bw_level.specs.Slots.{left_of}
 use Rattle.bw_tree.specs.View.{TreeView}
 use Rattle.bw_tree.proofs.UnreachedLemmas.{unreached, level_none, named_none, named_some}
 use Rattle.bw_tree.proofs.tree.Tree.is_unreached.Goals as goal

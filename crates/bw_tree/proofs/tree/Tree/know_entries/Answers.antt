@@ -1,5 +1,5 @@
 use Rattle.std.proofs.Common.{subst}
-use Rattle.bw_chain.specs.Entries.{AreExact}
+use Rattle.bw_level.specs.Entries.{AreExact}
 use Rattle.bw_tree.specs.View.{TreeView}
 use Rattle.bw_tree.proofs.tree.Tree.know_entries.Goals as goal
 

@@ -1,5 +1,5 @@
-use Rattle.bw_chain.specs.Levels.{row}
-use Rattle.bw_chain.proofs.HomeLemmas.{home_value, one_home}
+use Rattle.bw_level.specs.Levels.{row}
+use Rattle.bw_level.proofs.HomeLemmas.{home_value, one_home}
 use Rattle.bw_tree.proofs.LeafScanLemmas.{distinct_here, lawful_here}
 use Rattle.bw_tree.proofs.ScanLemmas.{page_distinct}
 use Rattle.bw_tree.proofs.tree.Tree.know_homes.Goals as goal

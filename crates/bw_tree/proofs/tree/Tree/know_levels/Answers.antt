@@ -1,8 +1,8 @@
 use Rattle.std.proofs.Common.{subst}
 use Rattle.bw_delta.specs.History.{HasDistinctStamps}
-use Rattle.bw_chain.specs.Levels.{AreLevels, row}
+use Rattle.bw_level.specs.Levels.{AreLevels, row}
 use Rattle.bw_tree.specs.View.{TreeView}
-use Rattle.bw_chain.specs.Reading.{row_writes}
+use Rattle.bw_level.specs.Reading.{row_writes}
 use Rattle.bw_tree.proofs.tree.Tree.know_levels.Goals as goal
 
 pub returns-clause-lawful : goal.returns-clause-lawful

@@ -1,8 +1,8 @@
 use Rattle.std.proofs.Common.{◌≡◌, ◌<◌, ◌≤◌, ◌^◌, length, slice_index, ap, sym, ◌∙◌, subst}
 use Rattle.std.proofs.lemmas.List.{length-map}
 use Rattle.bw_chain.specs.Chains.{slot_of_word}
-use Rattle.bw_chain.specs.Reading.{writes_over}
-use Rattle.bw_chain.specs.Slots.{slot_at}
+use Rattle.bw_level.specs.Reading.{writes_over}
+use Rattle.bw_level.specs.Slots.{slot_at}
 use Rattle.bw_tree.specs.Trees.{ArePlaced}
 use Rattle.bw_tree.specs.View.{TreeView}
 use Rattle.bw_tree.proofs.RestartLemmas.{none_on}

@@ -1,7 +1,7 @@
 use Rattle.std.proofs.Common.{◌∙◌, sym, ap, subst, get_or, arith}
 use Rattle.std.specs.Prelude.{IfOk}
 use Rattle.bw_chain.specs.LeafChains.{IsLeafChain}
-use Rattle.bw_chain.specs.Slots.{Slot}
+use Rattle.bw_level.specs.Slots.{Slot}
 use Rattle.bw_tree.proofs.LeafScanLemmas.{leaf_held, leaf_at, lawful_here, read_values}
 use Rattle.bw_tree.proofs.tree.Tree.leaf.Goals as goal
 

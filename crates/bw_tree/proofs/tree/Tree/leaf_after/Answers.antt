@@ -1,9 +1,9 @@
 use Rattle.std.proofs.Common.{◌∙◌, sym, ap, get_or, arith}
 use Rattle.std.specs.Option.{option_copied}
-use Rattle.bw_chain.specs.Scans.{high_of}
-use Rattle.bw_chain.specs.Slots.{side_of_slot}
+use Rattle.bw_level.specs.Scans.{high_of}
+use Rattle.bw_level.specs.Slots.{side_of_slot}
 use Rattle.bw_tree.proofs.LeafScanLemmas.{leaf_held, leaf_at, lawful_here, side_or_end}
-use Rattle.bw_chain.proofs.EndLemmas.{reaches_same}
+use Rattle.bw_level.proofs.EndLemmas.{reaches_same}
 use Rattle.bw_tree.proofs.tree.Tree.leaf_after.Goals as goal
 
 pub index-requires : goal.index-requires

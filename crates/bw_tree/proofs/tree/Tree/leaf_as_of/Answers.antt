@@ -1,8 +1,8 @@
 use Rattle.std.proofs.Common.{refl, sym, ◌∙◌, subst}
 use Rattle.std.specs.Option.{option_copied}
 use Rattle.bw_delta.specs.History.{HasDistinctStamps}
-use Rattle.bw_chain.specs.Levels.{row}
-use Rattle.bw_chain.specs.Slots.{slot_at}
+use Rattle.bw_level.specs.Levels.{row}
+use Rattle.bw_level.specs.Slots.{slot_at}
 use Rattle.bw_tree.specs.View.{TreeView}
 use Rattle.bw_tree.proofs.LeafLemmas.{AreParts, consolidated_parts, is_leaf_as_of, parts_rules}
 use Rattle.bw_tree.proofs.ScanLemmas.{page_distinct}

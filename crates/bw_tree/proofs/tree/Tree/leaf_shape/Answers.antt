@@ -2,8 +2,8 @@ use Rattle.std.proofs.Common.{◌≡◌, ◌∙◌, length, sym, ap, subst, arit
 use Rattle.std.proofs.lemmas.List.{length-map}
 use Rattle.std.specs.Option.{option_copied}
 use Rattle.bw_delta.specs.History.{HasDistinctStamps}
-use Rattle.bw_chain.specs.Levels.{row}
-use Rattle.bw_chain.specs.Slots.{slot_at}
+use Rattle.bw_level.specs.Levels.{row}
+use Rattle.bw_level.specs.Slots.{slot_at}
 use Rattle.bw_tree.specs.View.{TreeView}
 use Rattle.bw_tree.proofs.ContentsLemmas.{if_same}
 use Rattle.bw_tree.proofs.ScanLemmas.{page_distinct}

@@ -2,7 +2,7 @@ use Rattle.std.proofs.Common.{◌<◌, length, Some, sym, ap, ◌∙◌, arith}
 use Rattle.std.proofs.lemmas.Bool.Decides.{nat_tests}
 use Rattle.bw_key.specs.Order.{KeyBytes}
 use Rattle.bw_model.specs.Contents.{is_below_end}
-use Rattle.bw_chain.specs.declared.target.Target.TheVariants.{Before}
+use Rattle.bw_level.specs.declared.target.Target.TheVariants.{Before}
 use Rattle.bw_tree.proofs.PageLemmas.{found_left, no_byte, none_first, none_off, some_byte}
 use Rattle.bw_tree.proofs.tree.Tree.left_of.Goals as goal
 

@@ -1,6 +1,6 @@
 use Rattle.std.proofs.Common.{length}
-use Rattle.bw_chain.specs.Slots.{side_of}
-use Rattle.bw_chain.specs.Walk.{walked}
+use Rattle.bw_level.specs.Slots.{side_of}
+use Rattle.bw_level.specs.Walk.{walked}
 use Rattle.bw_tree.proofs.ShapeLemmas.{AreListed}
 use Rattle.bw_tree.proofs.tree.Tree.level_pages.Given as goal
 

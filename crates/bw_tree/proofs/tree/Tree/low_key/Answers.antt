@@ -1,7 +1,7 @@
 use Rattle.std.proofs.Common.{get_or, sym, ap, ◌∙◌, arith}
-use Rattle.bw_chain.specs.Before.{low_at}
+use Rattle.bw_level.specs.Before.{low_at}
 use Rattle.bw_chain.specs.Chains.{slot_of_word}
-use Rattle.bw_chain.specs.Slots.{slot_at}
+use Rattle.bw_level.specs.Slots.{slot_at}
 use Rattle.bw_tree.specs.View.{TreeView}
 use Rattle.bw_tree.proofs.AdoptLemmas.{slot_past}
 use Rattle.bw_tree.proofs.RoutingLemmas.{at_head}

@@ -3,7 +3,8 @@ use Rattle.std.proofs.lemmas.List.{get_or_default, length-map}
 use Rattle.bw_delta.specs.declared.deltas.Delta.{Delta}
 use Rattle.bw_delta.specs.declared.deltas.Delta.TheVariants.{AddChild}
 use Rattle.bw_page.specs.declared.pages.Page.TheVariants.{Inner as InnerPage}
-use Rattle.bw_chain.specs.Chains.{Bases, Records}
+use Rattle.bw_level.specs.Changes.{Bases}
+use Rattle.bw_chain.specs.Chains.{Records}
 use Rattle.bw_chain.specs.Records.{with_link}
 use Rattle.bw_chain.specs.Supports.{base_under}
 use Rattle.bw_tree.specs.Children.{AreNamed}

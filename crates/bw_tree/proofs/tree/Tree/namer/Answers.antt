@@ -1,11 +1,11 @@
 use Rattle.std.proofs.Common.{◌≡◌, ℕ, suc, ◌+◌, true, false, sym, ◌∙◌, subst, arith}
 use Rattle.bw_key.specs.Order.{KeyBytes}
-use Rattle.bw_chain.specs.Levels.{IsHomeAt}
+use Rattle.bw_level.specs.Levels.{IsHomeAt}
 use Rattle.bw_tree.specs.Pages.{IsAbove}
 use Rattle.bw_tree.specs.Routing.{IsInLevel}
 use Rattle.bw_tree.specs.View.{TreeView}
-use Rattle.bw_chain.specs.Before.{low_of}
-use Rattle.bw_chain.specs.Slots.{slot_at}
+use Rattle.bw_level.specs.Before.{low_of}
+use Rattle.bw_level.specs.Slots.{slot_at}
 use Rattle.bw_tree.proofs.PageLemmas.{no_namer_off, no_namer_there, no_namer_top}
 use Rattle.bw_tree.proofs.tree.Tree.namer.Goals as goal
 

@@ -1,8 +1,8 @@
 use Rattle.std.proofs.Common.{◌≡◌, ℕ, suc, ◌+◌, true, false, sym, ap, ◌∙◌, subst, arith}
 use Rattle.std.specs.Option.{option_copied}
 use Rattle.bw_key.specs.Order.{KeyBytes}
-use Rattle.bw_chain.specs.Levels.{IsHomeAt}
-use Rattle.bw_chain.specs.Slots.{slot_at}
+use Rattle.bw_level.specs.Levels.{IsHomeAt}
+use Rattle.bw_level.specs.Slots.{slot_at}
 use Rattle.bw_tree.specs.View.{TreeView}
 use Rattle.bw_tree.proofs.RemovedLemmas.{gone_of, inner_there, none_removed, none_there}
 use Rattle.bw_tree.proofs.tree.Tree.namer_of_removed.Goals as goal

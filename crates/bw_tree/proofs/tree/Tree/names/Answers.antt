@@ -1,8 +1,8 @@
 use Rattle.std.proofs.Common.{sym, subst, Decides, arith}
 use Rattle.bw_key.specs.Order.{KeyBytes}
-use Rattle.bw_chain.specs.Children.{HasChildAt}
-use Rattle.bw_chain.specs.Slots.{slot_at}
-use Rattle.bw_chain.specs.Turns.{StartsUpto}
+use Rattle.bw_level.specs.Children.{HasChildAt}
+use Rattle.bw_level.specs.Slots.{slot_at}
+use Rattle.bw_level.specs.Turns.{StartsUpto}
 use Rattle.bw_tree.proofs.PageLemmas.{decides_namer, starts_above}
 use Rattle.bw_tree.proofs.UnnamedLemmas.{home_inner}
 use Rattle.bw_tree.proofs.tree.Tree.names.Goals as goal

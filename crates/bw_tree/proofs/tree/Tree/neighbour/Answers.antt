@@ -1,9 +1,9 @@
 use Rattle.std.proofs.Common.{IfSome, ◌≡◌, get_or, is_some, sym, ap, ◌∙◌, subst, arith}
-use Rattle.bw_chain.specs.Levels.{AreLevels}
-use Rattle.bw_chain.specs.Roots.{IsNeighbour}
-use Rattle.bw_chain.specs.Slots.{Slot, side_of_slot}
-use Rattle.bw_chain.specs.Targets.{IsLinked}
-use Rattle.bw_chain.proofs.AboveLemmas.{own_linked}
+use Rattle.bw_level.specs.Levels.{AreLevels}
+use Rattle.bw_level.specs.Roots.{IsNeighbour}
+use Rattle.bw_level.specs.Slots.{Slot, side_of_slot}
+use Rattle.bw_level.specs.Targets.{IsLinked}
+use Rattle.bw_level.proofs.AboveLemmas.{own_linked}
 use Rattle.bw_tree.specs.View.{TreeView}
 use Rattle.bw_tree.proofs.RoutingLemmas.{page_at_head, page_there}
 use Rattle.bw_tree.proofs.tree.Tree.neighbour.Goals as goal

@@ -1,9 +1,9 @@
 use Rattle.std.proofs.Common.{◌≡◌, ℕ, sym, subst, arith}
-use Rattle.bw_chain.specs.Levels.{AreLevels, IsHomeAt}
-use Rattle.bw_chain.proofs.AboveLemmas.{down_at, down_home, down_level, here_level, left_level, right_level, root_at}
-use Rattle.bw_chain.proofs.MarkLemmas.{mark, mark_stands}
-use Rattle.bw_chain.proofs.RouteLemmas.{turned_here}
-use Rattle.bw_chain.proofs.SearchLemmas.{begins, goes_down, goes_left, goes_right, held_there, linked_there, starts_from}
+use Rattle.bw_level.specs.Levels.{AreLevels, IsHomeAt}
+use Rattle.bw_level.proofs.AboveLemmas.{down_at, down_home, down_level, here_level, left_level, right_level, root_at}
+use Rattle.bw_level.proofs.MarkLemmas.{mark, mark_stands}
+use Rattle.bw_level.proofs.RouteLemmas.{turned_here}
+use Rattle.bw_level.proofs.SearchLemmas.{begins, goes_down, goes_left, goes_right, held_there, linked_there, starts_from}
 use Rattle.bw_tree.specs.View.{TreeView}
 use Rattle.bw_tree.proofs.tree.Tree.on_level.Goals as goal
 

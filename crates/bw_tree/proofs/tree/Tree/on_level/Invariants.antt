@@ -1,6 +1,6 @@
 use Rattle.std.proofs.Common.{◌≤◌}
-use Rattle.bw_chain.specs.Searches.{IsSearching, level_at}
-use Rattle.bw_chain.proofs.RouteLemmas.{rank}
+use Rattle.bw_level.specs.Searches.{IsSearching, level_at}
+use Rattle.bw_level.proofs.RouteLemmas.{rank}
 use Rattle.bw_tree.proofs.tree.Tree.on_level.Given as goal
 
 abbrev pub invariant-loop-next : goal.invariant-loop-next

@@ -1,6 +1,6 @@
 use Rattle.std.proofs.Common.{sym, subst, arith}
-use Rattle.bw_chain.specs.Roots.{HasOneChild}
-use Rattle.bw_chain.proofs.LoweringLemmas.{least_below, two}
+use Rattle.bw_level.specs.Roots.{HasOneChild}
+use Rattle.bw_level.proofs.LoweringLemmas.{least_below, two}
 use Rattle.bw_tree.proofs.tree.Tree.only_child.Goals as goal
 
 pub returns : goal.returns

@@ -1,6 +1,6 @@
 use Rattle.std.proofs.Common.{◌∙◌, sym, subst}
 use Rattle.bw_delta.specs.History.{HasDistinctStamps}
-use Rattle.bw_chain.specs.Slots.{slot_at}
+use Rattle.bw_level.specs.Slots.{slot_at}
 use Rattle.bw_tree.proofs.tree.Tree.read_leaf.Goals as goal
 
 pub replay-requires : goal.replay-requires

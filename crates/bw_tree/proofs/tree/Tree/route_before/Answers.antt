@@ -1,7 +1,7 @@
 use Rattle.std.proofs.Common.{refl}
 use Rattle.std.specs.Option.{option_copied}
-use Rattle.bw_chain.specs.declared.target.Target.TheVariants.{Before}
-use Rattle.bw_chain.proofs.SearchLemmas.{home_before}
+use Rattle.bw_level.specs.declared.target.Target.TheVariants.{Before}
+use Rattle.bw_level.proofs.SearchLemmas.{home_before}
 use Rattle.bw_tree.proofs.tree.Tree.route_before.Goals as goal
 
 pub returns : goal.returns

@@ -1,9 +1,9 @@
 use Rattle.std.proofs.Common.{◌≡◌, ℕ, sym, subst, ap, length, arith}
 use Rattle.std.proofs.lemmas.List.{length-map}
 use Rattle.bw_chain.specs.Chains.{slot_of_word}
-use Rattle.bw_chain.specs.Levels.{AreLevels}
-use Rattle.bw_chain.specs.Searches.{IsSearching}
-use Rattle.bw_chain.proofs.SearchLemmas.{ends_home, goes_down, goes_left, goes_right, held_there, linked_there, starts_from}
+use Rattle.bw_level.specs.Levels.{AreLevels}
+use Rattle.bw_level.specs.Searches.{IsSearching}
+use Rattle.bw_level.proofs.SearchLemmas.{ends_home, goes_down, goes_left, goes_right, held_there, linked_there, starts_from}
 use Rattle.bw_tree.specs.View.{TreeView}
 use Rattle.bw_tree.proofs.RoutingLemmas.{begins_at, inner_above}
 use Rattle.bw_tree.proofs.tree.Tree.search_from.Goals as goal

@@ -1,6 +1,6 @@
 use Rattle.std.specs.Prelude.{IfSome}
-use Rattle.bw_chain.specs.Searches.{IsSearching}
-use Rattle.bw_chain.proofs.RouteLemmas.{rank}
+use Rattle.bw_level.specs.Searches.{IsSearching}
+use Rattle.bw_level.proofs.RouteLemmas.{rank}
 use Rattle.bw_tree.specs.Routing.{IsInnerPage}
 use Rattle.bw_tree.proofs.tree.Tree.search_from.Given as goal
 

@@ -1,5 +1,5 @@
 use Rattle.std.proofs.Common.{◌≡◌, ℕ, suc, ◌+◌, true, false, sym, ◌∙◌, subst, arith}
-use Rattle.bw_chain.specs.Levels.{AreLevels, IsHomeAt}
+use Rattle.bw_level.specs.Levels.{AreLevels, IsHomeAt}
 use Rattle.bw_tree.specs.View.{TreeView}
 use Rattle.bw_tree.proofs.UnnamedLemmas.{home_inner, none_at_top, none_named, one_unnamed}
 use Rattle.bw_tree.proofs.tree.Tree.unnamed_right.Goals as goal

@@ -1,5 +1,0 @@
-use Rattle.bw_chain.proofs.EntryLemmas.{child_kept}
-use Rattle.bw_chain.proofs.laws.child_is_kept.Goals as goal
-
-pub returns : goal.returns
-returns c = child_kept

@@ -1,5 +1,0 @@
-use Rattle.bw_chain.proofs.HomeLemmas.{one_home}
-use Rattle.bw_chain.proofs.laws.home_is_one.Goals as goal
-
-pub returns : goal.returns
-returns c = λ slots root levels key p q lawful. one_home slots root levels lawful key p q

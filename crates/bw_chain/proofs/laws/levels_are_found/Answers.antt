@@ -1,5 +1,0 @@
-use Rattle.bw_chain.proofs.LevelLemmas.{levels_now}
-use Rattle.bw_chain.proofs.laws.levels_are_found.Goals as goal
-
-pub returns : goal.returns
-returns c = levels_now

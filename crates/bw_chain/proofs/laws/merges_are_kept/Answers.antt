@@ -1,5 +1,0 @@
-use Rattle.bw_chain.proofs.MergeLemmas.{merges_kept}
-use Rattle.bw_chain.proofs.laws.merges_are_kept.Goals as goal
-
-pub returns : goal.returns
-returns c = merges_kept

@@ -1,5 +1,0 @@
-use Rattle.bw_chain.proofs.SplitLemmas.{parts_kept}
-use Rattle.bw_chain.proofs.laws.parts_are_kept.Goals as goal
-
-pub returns : goal.returns
-returns c = parts_kept

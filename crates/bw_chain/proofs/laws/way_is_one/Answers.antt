@@ -1,5 +1,0 @@
-use Rattle.bw_chain.proofs.WalkLemmas.{one_way_one_end}
-use Rattle.bw_chain.proofs.laws.way_is_one.Goals as goal
-
-pub returns : goal.returns
-returns c = one_way_one_end
