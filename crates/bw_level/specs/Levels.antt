@@ -5,7 +5,8 @@ use Rattle.bw_key.specs.Order.{KeyBytes}
 use Rattle.bw_model.specs.Contents.{is_below_end}
 use Rattle.bw_page.specs.Inners.{IsUpto}
 use Rattle.bw_level.specs.Walk.{Leads, walked, ended}
-use Rattle.bw_level.specs.Slots.{Slot, PageState, Free, Gone, Live, slot_at, side_of, left_of, level_of, slot_level, children_of, IsSoundPage}
+use Rattle.bw_level.specs.Slots.{Slot, PageState, Free, Gone, Live, slot_at, side_of, left_of}
+use Rattle.bw_level.specs.Slots.{level_of, slot_level, children_of, IsSoundPage}
 
 -- the page p is of this level, with these bounds and this side link
 pub record Stands (slots : List Slot) (level : ℕ) (low : KeyBytes) (high : Option KeyBytes) (side : Option ℕ)

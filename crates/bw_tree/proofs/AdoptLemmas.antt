@@ -1,5 +1,5 @@
 -- Adopting the words that a board was closed with.
-use Rattle.bw_tree.proofs.RowWritesLemmas.{leaf_of, page_has_writes, row_has_all}
+use Rattle.bw_tree.proofs.RowWritesLemmas.{leaf_of, page_has_writes}
 use Rattle.bw_level.proofs.RowLemmas.{in_row}
 use Rattle.std.proofs.Common.{◌≡◌, ℕ, zero, suc, ◌+◌, ◌<◌, ◌≤◌, ◌^◌, true, T, List, [], ◌∷◌, ◌++◌, length, map, take, drop, Some, None, inl, inr, refl, sym, ap, ◌∙◌, subst, arith, length-append}
 use Rattle.std.specs.Prelude.{filter, slice_get, slice_index}
@@ -12,7 +12,7 @@ use Rattle.std.proofs.lemmas.List.{length-map, map-append}
 use Rattle.std.proofs.lemmas.List.Elements.{All-from_recursion, recursion_from_All}
 use Rattle.std.proofs.lemmas.List.Sorted.{All-permutation}
 use Rattle.std.proofs.lemmas.Option.{slice_get-get_or}
-use Rattle.bw_key.specs.Order.{KeyBytes, key_eq}
+use Rattle.bw_key.specs.Order.{KeyBytes}
 use Rattle.bw_model.specs.Contents.{is_in_range}
 use Rattle.bw_model.specs.Values.{ValueBytes}
 use Rattle.bw_core.specs.World.{Meets, times}
@@ -27,6 +27,7 @@ use Rattle.bw_delta.proofs.ContentsAsOf.{same_as_of}
 use Rattle.bw_delta.proofs.Filters.{same_filtered}
 use Rattle.bw_delta.proofs.Orders.{distinct_permuted}
 use Rattle.bw_delta.proofs.Stagings.{AreBelow, below_all, distinct_over}
+use Rattle.bw_key.specs.Order.{key_eq}
 use Rattle.bw_page.proofs.Truths.{holds, true_holds, left_of, right_of, both_of}
 use Rattle.bw_level.specs.Slots.{Slot, PageState, Live, Free, slot_at, has_key, is_leaf}
 use Rattle.bw_level.specs.Reading.{writes_over, row_pairs, row_writes}
@@ -45,6 +46,7 @@ use Rattle.bw_level.proofs.LevelLemmas.{levels_now}
 use Rattle.bw_tree.proofs.PlacedLemmas.{named_are, named_pass}
 use Rattle.bw_tree.proofs.PostedLemmas.{chain_posted, named, put_over, read_both}
 use Rattle.bw_chain.proofs.ReadingLemmas.{slot_of_head}
+use Rattle.bw_tree.proofs.RowWritesLemmas.{row_has_all}
 
 -- The records once they have their links.
 paired : (xs : Records) → zip (deltas_of xs) (links_of xs) ≡ xs

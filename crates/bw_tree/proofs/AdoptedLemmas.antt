@@ -1,5 +1,5 @@
 -- A tree that adopted the words that a board was closed with.
-use Rattle.bw_tree.specs.Stages.{writes_with, IsPosted, IsPostedStage, adopted_stage}
+use Rattle.bw_tree.specs.Stages.{writes_with}
 use Rattle.std.proofs.Common.{◌≡◌, ℕ, zero, suc, ◌+◌, ◌<◌, ◌≤◌, true, false, List, [], ◌∷◌, ◌++◌, length, take, drop, Option, Some, None, refl, sym, ap, ◌∙◌, subst, arith}
 use Rattle.std.specs.Prelude.{filter, slice_get, slice_index}
 use Rattle.std.specs.List.{Contains}
@@ -19,6 +19,7 @@ use Rattle.bw_tree.specs.Trees.{IsStanding, IsTree, StageWords, stage_of, view_o
 use Rattle.bw_tree.specs.Words.{words_before}
 use Rattle.bw_tree.specs.declared.mapping_words.WordsBefore.{WordsBefore}
 use Rattle.bw_chain.specs.Records.{put_records, writes_in}
+use Rattle.bw_tree.specs.Stages.{IsPosted, IsPostedStage, adopted_stage}
 use Rattle.bw_tree.specs.View.{TreeView, StageView, contents_at, contents_with}
 use Rattle.bw_tree.proofs.AdoptLemmas.{ChainOf, contents_after_it, levels_after, pages_after, relinked, standing_after, writes_after, writes_put_in}
 use Rattle.bw_chain.proofs.GrowthLemmas.{append_extends, drop_front, same_map, still_ends, take_front}

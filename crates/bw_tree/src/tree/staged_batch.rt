@@ -4,7 +4,8 @@ ghost use Rattle.bw_level.specs.Slots.{slot_at};
 ghost use Rattle.bw_level.specs.Turns.{slot_without_writes};
 ghost use Rattle.bw_delta.specs.Batches.{writes_of};
 ghost use Rattle.bw_tree.specs.View.{contents_at, contents_with, staged_writes};
-ghost use Rattle.bw_tree.specs.Stages.{IsPostedStage, IsReadInTurn, IsStagedAs, LeavesHaveAll, accepted_tree, adopted_stage, is_adopted, staged_on, undone_tree};
+ghost use Rattle.bw_tree.specs.Stages.{IsPostedStage, IsReadInTurn, IsStagedAs, LeavesHaveAll};
+ghost use Rattle.bw_tree.specs.Stages.{accepted_tree, adopted_stage, is_adopted, staged_on, undone_tree};
 ghost use Rattle.bw_tree.specs.Words.{IsPostedStageOn, put_words};
 
 use super::Tree;
