@@ -60,6 +60,13 @@ impl Chains {
         pass_removed(&self.bases, &mut self.removed);
     }
 
+    /// The numbers of all base pages that say of their page that it was removed, and of some that did.
+    pub fn removed_numbers(&self) -> &[PageId]
+        ensures { HasAllRemoved self.now.bases result.now }
+    {
+        &self.removed
+    }
+
     /// Whether a base page says that its page was removed into this left neighbour. It costs a look at each that says so, and
     /// at some that did, and takes no memory.
     pub fn is_left(&self, page: PageId) -> bool

@@ -5,6 +5,7 @@ use Rattle.bw_page.specs.Inners.{IsUpto}
 use Rattle.std.specs.Ordering.{is_lt}
 use Rattle.bw_key.specs.Order.{KeyBytes, key_cmp}
 use Rattle.bw_page.specs.declared.pages.RemovedPage.{RemovedPage}
+use Rattle.bw_level.specs.Searches.{AllStand}
 use Rattle.bw_level.specs.Slots.{Slot, PageState, Free, Gone, Live, slot_at, left_of, left_of_slot, children_of}
 use Rattle.bw_level.specs.Levels.{Stands, AreLevels, StartsWith, LeadsBelow, row}
 use Rattle.bw_level.specs.Entries.{AreExact}
@@ -92,6 +93,12 @@ module _ (old new : List Slot) (over : (p : ℕ) → AreAlike (slot_at old p) (s
         ∙ exact.behind n k c g within (term_was levels n k c term) (was_gone (slot_at old c) (slot_at new c) g (over c) is);
     once = λ n k h c within one other. exact.once n k h c within (term_was levels n k c one) (term_was levels n h c other);
   }
+
+  -- and each page stands on a level where each stood on one
+  pub stand_alike : (levels : List (List ℕ)) → AllStand old levels → AllStand new levels
+  stand_alike levels stand p s is =
+      let b = was_live (slot_at old p) (slot_at new p) s (over p) is in
+      stand p b.0 b.1
 
 pub levels_alike : LevelsAreAlike
 levels_alike old new root levels over = levels_over old new over root levels

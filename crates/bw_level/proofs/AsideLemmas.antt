@@ -1,5 +1,6 @@
 -- A page that stands on no level, and that no page of a level names, may change.
-use Rattle.std.proofs.Common.{inl, ◌≡◌, ℕ, suc, ◌<◌, List, [], ◌∷◌, ◌++◌, length, Option, Some, None, refl, sym, ap, ◌∙◌, subst, arith}
+use Rattle.std.proofs.Common.{inl, inr, ◌⊎◌, ◌≡◌, ℕ, suc, ◌<◌, List, [], ◌∷◌, ◌++◌, length, Option, Some, None, refl, sym, ap, ◌∙◌, subst, arith}
+use Rattle.std.proofs.lemmas.Bool.{cases_eq}
 use Rattle.std.specs.FinMap.{from_entries}
 use Rattle.std.specs.List.{Contains}
 use Rattle.std.specs.Prelude.{flat_map}
@@ -12,8 +13,8 @@ use Rattle.bw_level.specs.Freeing.{IsAside}
 use Rattle.bw_level.specs.Laws.{KeepsAll}
 use Rattle.bw_level.specs.Levels.{AreLevels, BeginsWith, LeadsBelow, SideBySide, Stands, row}
 use Rattle.bw_level.specs.Reading.{contents_in, pairs_under, row_pairs, row_writes, writes_over}
-use Rattle.bw_level.specs.Searches.{IsInLevels}
-use Rattle.bw_level.specs.Slots.{Slot, left_of, slot_at}
+use Rattle.bw_level.specs.Searches.{AllStand, IsInLevels}
+use Rattle.bw_level.specs.Slots.{Slot, PageState, Live, left_of, slot_at}
 use Rattle.bw_level.specs.Steps.{IsTerm, KeepsLevels}
 use Rattle.bw_level.specs.Walk.{Leads}
 use Rattle.bw_level.proofs.StepLemmas.{levels_kept}
@@ -62,6 +63,10 @@ contents_of_same old new levels leaves stamp =
 pub has_first : (ps : List ℕ) (p : ℕ) → BeginsWith ps p → Contains ps p
 has_first [] p begins = absurd begins
 has_first (x ∷ xs) p begins = (0, omega arith, begins)
+
+-- no page has this identifier
+abbrev pub IsNoPage : List Slot → ℕ → Type 0
+IsNoPage slots p = (s : PageState) → slot_at slots p ≡ Live s → ⊥
 
 -- ways along left links from other pages to pages of levels are as before
 abbrev pub KeepsWays : List Slot → List Slot → List (List ℕ) → ℕ → Type 0
@@ -117,6 +122,14 @@ module _ (old new : List Slot) (root : ℕ) (levels : List (List ℕ)) (p : ℕ)
     once = λ n k h c lt one other. exact.once n k h c lt (term_was n k c lt one) (term_was n h c lt other);
   }
 
+  -- each other page stands where it stood
+  stand_still : IsNoPage new p → AllStand old levels → AllStand new levels
+  stand_still off stand r s is = by (cases_eq r p)
+    where
+      by : (r ≡ p) ⊎ (r ≡ p → ⊥) → IsInLevels levels r
+      by (inl here) = absurd (off s (ap (slot_at new) (sym here) ∙ is))
+      by (inr other) = stand r s (sym (others r other) ∙ is)
+
   leaves : AreSame old new (row levels 0)
   leaves = same_row 0 lawful.some
 
@@ -124,10 +137,11 @@ module _ (old new : List Slot) (root : ℕ) (levels : List (List ℕ)) (p : ℕ)
   pub still_aside : IsAside new levels p
   still_aside = record { stands = aside.stands; named = λ n k lt term. aside.named n k lt (term_was n k p lt term) }
 
-  pub kept_aside : KeepsAll old new root levels levels
-  kept_aside = record {
+  pub kept_aside : IsNoPage new p → KeepsAll old new root levels levels
+  kept_aside off = record {
     lawful = levels_kept old new root levels levels lawful keeps;
     exact = exact_still;
+    stand = stand_still off;
     writes = writes_of_same old new levels leaves;
     contents = λ distinct. contents_of_same old new levels leaves;
   }

@@ -20,6 +20,7 @@ use Rattle.bw_level.specs.Entries.{AreExact}
 use Rattle.bw_level.specs.Laws.{DroppedChildIsKept}
 use Rattle.bw_level.specs.Levels.{AreLevels, FirstChild, LeadsBelow, Stands, StartsWith, row}
 use Rattle.bw_level.specs.Reading.{body_pairs, body_writes, contents_in, pairs_under, row_pairs, row_writes, writes_over}
+use Rattle.bw_level.specs.Searches.{AllStand, IsInLevels}
 use Rattle.bw_level.specs.Slots.{Slot, PageState, Body, Pairs, Children, Gone, Live, IsSoundBody, IsSoundPage, children_of, left_of, left_of_slot, level_of, slot_at}
 use Rattle.bw_level.specs.Steps.{IsTerm, KeepsLevels}
 use Rattle.bw_level.proofs.RowLemmas.{InRow, in_row, row_on, same_each}
@@ -212,6 +213,14 @@ module _ (old new : List Slot) (root : ℕ) (levels : List (List ℕ)) (p : ℕ)
       was_gone c g is (inl here) = absurd (not_gone (sym given.now ∙ ap (slot_at new) (sym here) ∙ is))
       was_gone c g is (inr other) = sym (given.others c other) ∙ is
 
+  -- the page stands where it stood, and so does each other one
+  stand_still : AllStand old levels → AllStand new levels
+  stand_still stand r s is = by (cases_eq r p)
+    where
+      by : (r ≡ p) ⊎ (r ≡ p → ⊥) → IsInLevels levels r
+      by (inl here) = stand r was (ap (slot_at old) here ∙ given.is)
+      by (inr other) = stand r s (sym (given.others r other) ∙ is)
+
   -- the change keeps levels
   keeps : KeepsLevels old new levels levels
   keeps = record {
@@ -245,6 +254,7 @@ pub child_dropped : DroppedChildIsKept
 child_dropped old new root levels p sep lawful may given = record {
   lawful = lawful_still old new root levels p sep lawful may given;
   exact = exact_still old new root levels p sep lawful may given;
+  stand = stand_still old new root levels p sep lawful may given;
   writes = writes_still old new root levels p sep lawful may given (row levels 0);
   contents = λ distinct stamp. contents_still old new root levels p sep lawful may given stamp;
 }

@@ -23,6 +23,7 @@ use Rattle.bw_level.specs.Entries.{AreExact}
 use Rattle.bw_level.specs.Laws.{ChildIsKept}
 use Rattle.bw_level.specs.Levels.{AreLevels, FirstChild, LeadsBelow, Stands, StartsWith, row}
 use Rattle.bw_level.specs.Reading.{body_pairs, body_writes, contents_in, pairs_under, row_pairs, row_writes, writes_over}
+use Rattle.bw_level.specs.Searches.{AllStand, IsInLevels}
 use Rattle.bw_level.specs.Slots.{Slot, PageState, Body, Pairs, Children, Gone, Live, IsSoundBody, IsSoundPage, children_of, left_of, left_of_slot, level_of, slot_at}
 use Rattle.bw_level.specs.Steps.{IsTerm, KeepsLevels, WasTerm}
 use Rattle.bw_level.proofs.ChildLemmas.{put_was}
@@ -270,6 +271,14 @@ module _ (old new : List Slot) (root : ℕ) (levels : List (List ℕ)) (p : ℕ)
       same_key n k h c lt (inr (same, added)) (inl other) = new_key k c added ∙ sym (had_key n h c lt other (new_child k c added))
       same_key n k h c lt (inr (same, added)) (inr (again, more)) = new_key k c added ∙ sym (new_key h c more)
 
+  -- the page stands where it stood, and so does each other one
+  stand_still : AllStand old levels → AllStand new levels
+  stand_still stand r s is = by (cases_eq r p)
+    where
+      by : (r ≡ p) ⊎ (r ≡ p → ⊥) → IsInLevels levels r
+      by (inl here) = stand r was (ap (slot_at old) here ∙ given.is)
+      by (inr other) = stand r s (sym (given.others r other) ∙ is)
+
   keeps : KeepsLevels old new levels levels
   keeps = record {
     count = refl;
@@ -298,6 +307,7 @@ pub child_kept : ChildIsKept
 child_kept old new root levels p sep child lawful fits given = record {
   lawful = lawful_still old new root levels p sep child lawful fits given;
   exact = exact_still old new root levels p sep child lawful fits given;
+  stand = stand_still old new root levels p sep child lawful fits given;
   writes = writes_still old new root levels p sep child lawful fits given (row levels 0);
   contents = λ distinct stamp. contents_still old new root levels p sep child lawful fits given stamp;
 }

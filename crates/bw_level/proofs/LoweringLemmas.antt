@@ -1,10 +1,11 @@
 -- A root whose only child takes its place leaves a lawful tree that holds the same.
 use Rattle.std.proofs.Common.{inl, inr, ◌⊎◌, ◌≡◌, ℕ, zero, suc, ◌-◌, ◌<◌, ◌≤◌, List, [], ◌∷◌, length, Option, Some, None, refl, sym, ap, ◌∙◌, subst, arith}
-use Rattle.std.proofs.lemmas.Bool.{cases_lt}
+use Rattle.std.proofs.lemmas.Bool.{cases_eq, cases_lt}
 use Rattle.std.proofs.lemmas.List.{get_or-take, length-take-le}
 use Rattle.std.specs.FinMap.{from_entries}
 use Rattle.std.specs.List.{Contains}
 use Rattle.bw_key.specs.Order.{KeyBytes}
+use Rattle.bw_page.specs.declared.pages.RemovedPage.{RemovedPage}
 use Rattle.bw_delta.specs.ContentsAsOf.{contents_as_of}
 use Rattle.bw_delta.specs.History.{HasDistinctStamps}
 use Rattle.bw_level.specs.Before.{low_at}
@@ -14,8 +15,8 @@ use Rattle.bw_level.specs.Laws.{KeepsAll, LevelsAreLowered}
 use Rattle.bw_level.specs.Levels.{AreLevels, BeginsWith, FirstChild, IsHomeAt, LeadsBelow, SideBySide, StartsWith, row}
 use Rattle.bw_level.specs.Reading.{contents_in, row_pairs, row_writes}
 use Rattle.bw_level.specs.Roots.{HasOneChild, IsRootRemoved, levels_lowered}
-use Rattle.bw_level.specs.Searches.{IsInLevels}
-use Rattle.bw_level.specs.Slots.{Slot, PageState, Body, Pairs, Children, Live, IsSoundBody, IsSoundPage, children_of, left_of, left_of_slot, level_of, slot_at, slot_level}
+use Rattle.bw_level.specs.Searches.{AllStand, IsInLevels}
+use Rattle.bw_level.specs.Slots.{Slot, PageState, Body, Pairs, Children, Gone, Live, IsSoundBody, IsSoundPage, children_of, left_of, left_of_slot, level_of, slot_at, slot_level}
 use Rattle.bw_level.specs.Steps.{IsTerm}
 use Rattle.bw_level.specs.Walk.{Leads}
 use Rattle.bw_level.proofs.AboveLemmas.{own_level, own_page}
@@ -25,6 +26,9 @@ use Rattle.bw_level.proofs.RouteLemmas.{row_first}
 -- a slot has one page
 one_state : {s t : PageState} → Live s ≡ Live t → s ≡ t
 one_state e = cc
+
+not_gone : {s : PageState} {g : RemovedPage} → Live s ≡ Gone g → ⊥
+not_gone e = cc
 
 no_side : {x : ℕ} → None ≡ Some x → ⊥
 no_side e = cc
@@ -203,8 +207,19 @@ module _ (old new : List Slot) (root : ℕ) (levels : List (List ℕ)) (child : 
       let passes : next ≡ root → ⊥ = λ same. off (subst (IsInLevels rest) (sym (ends_there xs e (subst (λ y. Leads (left_of old) y xs e) same way.1.2))) on) in
       (way.0, (next, ap left_of_slot (given.others c other) ∙ way.1.1, ways next xs e passes on way.1.2))
 
+  off_new : (s : PageState) → slot_at new root ≡ Live s → ⊥
+  off_new s is = not_gone (sym is ∙ given.gone)
+
   kept_below : KeepsAll old new child rest rest
-  kept_below = kept_aside old new child rest root lawful_lower aside given.others ways
+  kept_below = kept_aside old new child rest root lawful_lower aside given.others ways off_new
+
+  -- each page but the root, which is removed, stays on a level
+  stand_lower : AllStand old levels → AllStand new rest
+  stand_lower stand r s is = by (cases_eq r root)
+    where
+      by : (r ≡ root) ⊎ (r ≡ root → ⊥) → IsInLevels rest r
+      by (inl here) = absurd (off_new s (ap (slot_at new) (sym here) ∙ is))
+      by (inr other) = still_below old root levels child lawful given.one r other (stand r s (sym (given.others r other) ∙ is))
 
   pub lowered_aside : IsAside new rest root
   lowered_aside = still_aside old new child rest root lawful_lower aside given.others ways
@@ -216,6 +231,7 @@ module _ (old new : List Slot) (root : ℕ) (levels : List (List ℕ)) (child : 
   kept_lower = record {
     lawful = kept_below.lawful;
     exact = λ exact. kept_below.exact (exact_new old root levels child lawful given.one exact);
+    stand = stand_lower;
     writes = kept_below.writes ∙ writes_lower;
     contents = λ distinct stamp.
         kept_below.contents (subst HasDistinctStamps (sym writes_lower) distinct) stamp ∙ contents_new old root levels child lawful given.one stamp;

@@ -22,6 +22,7 @@ use Rattle.bw_level.specs.Laws.{MergesAreKept}
 use Rattle.bw_level.specs.Levels.{AreLevels, BeginsWith, FirstChild, IsHome, LeadsBelow, SideBySide, Stands, StartsWith, row}
 use Rattle.bw_level.specs.Merges.{IsNoFirstChild, IsMerged, bodies_joined, level_merged, state_joined, without_page}
 use Rattle.bw_level.specs.Reading.{body_pairs, body_writes, contents_in, row_writes, value_in, writes_over}
+use Rattle.bw_level.specs.Searches.{AllStand, IsInLevels}
 use Rattle.bw_level.specs.Slots.{Slot, PageState, Body, Pairs, Children, Gone, Live, IsSoundBody, IsSoundPage, children_of, left_of, left_of_slot, level_of, slot_at}
 use Rattle.bw_level.specs.Steps.{IsTerm, KeepsLevels}
 use Rattle.bw_level.specs.Walk.{Leads}
@@ -393,6 +394,22 @@ module _ (old new : List Slot) (root : ℕ) (levels : List (List ℕ)) (level p 
   pub has_new : (n r : ℕ) → (r ≡ q → ⊥) → Contains (row levels n) r → Contains (row after n) r
   has_new n r other = each (λ m ps. Contains (row levels m) r → Contains ps r) (has_still q r (row levels level) other) (λ m differs h. h) n
 
+  -- so each page stands where it stood
+  stand_new : AllStand old levels → AllStand new after
+  stand_new stand r s is = by (cases_eq r p) (cases_eq r q)
+    where
+      still_on : (r ≡ q → ⊥) → IsInLevels levels r → IsInLevels after r
+      still_on other on = record {
+        level = on.level;
+        within = omega (arith, on.within, length-set levels level (without_page q (row levels level)));
+        in_level = has_new on.level r other on.in_level;
+      }
+
+      by : (r ≡ p) ⊎ (r ≡ p → ⊥) → (r ≡ q) ⊎ (r ≡ q → ⊥) → IsInLevels after r
+      by h (inl gone) = absurd (not_gone r s is gone)
+      by (inl here) (inr differs) = still_on differs (stand r left (ap (slot_at old) here ∙ merged.left_is))
+      by (inr other) (inr differs) = still_on differs (stand r s (sym (merged.others r other differs) ∙ is))
+
   -- no page is new
   was_in : (n r : ℕ) → Contains (row after n) r → Contains (row levels n) r
   was_in n r = each (λ m ps. Contains ps r → Contains (row levels m) r) (had_before q r (row levels level)) (λ m differs h. h) n
@@ -684,6 +701,7 @@ pub merges_kept : MergesAreKept
 merges_kept old new root levels level p q lawful within has inner merged = record {
   lawful = lawful_new old new root levels level p q lawful within has inner merged;
   exact = exact_new old new root levels level p q lawful within has inner merged;
+  stand = stand_new old new root levels level p q lawful within has inner merged;
   writes = writes_kept old new root levels level p q lawful within has inner merged;
   contents = contents_new old new root levels level p q lawful within has inner merged;
 }

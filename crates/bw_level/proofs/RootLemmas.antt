@@ -17,6 +17,7 @@ use Rattle.bw_level.specs.Laws.{LevelsAreGrown}
 use Rattle.bw_level.specs.Levels.{AreLevels, BeginsWith, FirstChild, LeadsBelow, SideBySide, Stands, StartsWith, row}
 use Rattle.bw_level.specs.Reading.{contents_in, pairs_under, row_pairs, row_writes, writes_over}
 use Rattle.bw_level.specs.Roots.{IsGrown, levels_grown, root_over, two_children}
+use Rattle.bw_level.specs.Searches.{AllStand, IsInLevels}
 use Rattle.bw_level.specs.Slots.{Slot, PageState, Free, Gone, Live, children_of, left_of, left_of_slot, level_of, slot_at}
 use Rattle.bw_level.proofs.LeafRowLemmas.{low_below}
 use Rattle.bw_level.proofs.RouteLemmas.{row_first}
@@ -337,6 +338,24 @@ module _ (old new : List Slot) (root : ℕ) (levels : List (List ℕ)) (t : ℕ)
       same_key m k h c (inl one) (inr b) = sym (begins_there m k c b.0 b.1 (inl one)) ∙ b.2
       same_key m k h c (inr b) other = sym b.2 ∙ begins_there m h c b.0 b.1 other
 
+  -- each page stands where it stood, and the new one on the new level
+  stand_new : AllStand old levels → AllStand new after
+  stand_new stand r s is = by (cases_eq r t)
+    where
+      by : (r ≡ t) ⊎ (r ≡ t → ⊥) → IsInLevels after r
+      by (inl top) = record {
+        level = length levels;
+        within = omega (arith, more);
+        in_level = subst (λ (ps : List ℕ). Contains ps r) (sym (row_top (length levels) refl)) (0, omega arith, sym top);
+      }
+      by (inr other) =
+          let on = stand r s (sym (grown.others r other) ∙ is) in
+          record {
+            level = on.level;
+            within = omega (arith, on.within, more);
+            in_level = subst (λ (ps : List ℕ). Contains ps r) (sym (row_same on.level on.within)) on.in_level;
+          }
+
   -- the leaves are the same, and have the same pairs and writes
   leaves_same : row after 0 ≡ row levels 0
   leaves_same = row_same 0 lawful.some
@@ -363,6 +382,7 @@ pub levels_grow : LevelsAreGrown
 levels_grow old new root levels t lawful grown = record {
   lawful = lawful_new old new root levels t lawful grown;
   exact = exact_new old new root levels t lawful grown;
+  stand = stand_new old new root levels t lawful grown;
   writes = writes_kept old new root levels t lawful grown;
   contents = λ distinct stamp. contents_new old new root levels t lawful grown stamp;
 }

@@ -4,7 +4,7 @@ use Rattle.bw_level.specs.Laws.{KeepsAll}
 use Rattle.bw_level.specs.Levels.{AreLevels}
 use Rattle.bw_level.specs.Slots.{Slot, Free, Gone, Live, slot_at}
 use Rattle.bw_level.specs.Steps.{AreAlike}
-use Rattle.bw_level.proofs.AlikeLemmas.{exact_alike, levels_alike}
+use Rattle.bw_level.proofs.AlikeLemmas.{exact_alike, levels_alike, stand_alike}
 use Rattle.bw_level.proofs.AsideLemmas.{contents_of_same, writes_of_same}
 
 alike_itself : (slot : Slot) → AreAlike slot slot
@@ -20,6 +20,7 @@ module _ (old new : List Slot) (same : (p : ℕ) → slot_at new p ≡ slot_at o
   all_kept root levels lawful = record {
     lawful = levels_alike old new root levels alike lawful;
     exact = exact_alike old new alike levels;
+    stand = stand_alike old new alike levels;
     writes = writes_of_same old new levels (λ x has. same x);
     contents = λ distinct. contents_of_same old new levels (λ x has. same x);
   }

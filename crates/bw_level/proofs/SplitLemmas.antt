@@ -26,6 +26,7 @@ use Rattle.bw_level.specs.Entries.{AreExact}
 use Rattle.bw_level.specs.Laws.{PartsAreKept}
 use Rattle.bw_level.specs.Levels.{AreLevels, BeginsWith, FirstChild, IsHome, LeadsBelow, SideBySide, Stands, StartsWith, row}
 use Rattle.bw_level.specs.Reading.{body_pairs, body_writes, contents_in, row_writes, value_in, writes_over}
+use Rattle.bw_level.specs.Searches.{AllStand, IsInLevels}
 use Rattle.bw_level.specs.Slots.{Slot, PageState, Body, Pairs, Children, Free, Gone, Live, IsSoundBody, IsSoundPage, children_of, left_of, left_of_slot, level_of, slot_at}
 use Rattle.bw_level.specs.Splits.{HasNoRemovedAt, IsParted, entry_count, first_entries, left_part, level_parted, other_entries, put_behind, right_part, separator, slot_child}
 use Rattle.bw_level.specs.Steps.{IsTerm, KeepsLevels}
@@ -165,6 +166,15 @@ has_still p q r (x ∷ ps) (suc i, lt, is) = by (nat_eq x p) (has_still p q r ps
     by true h = (suc (suc h.0), omega (arith, h.1), h.2)
     by false h = (suc h.0, omega (arith, h.1), h.2)
 
+has_behind : (p q : ℕ) (ps : List ℕ) → Contains ps p → Contains (put_behind p q ps) q
+has_behind p q [] has = absurd (omega (arith, has.1))
+has_behind p q (x ∷ ps) (zero, lt, is) = subst (λ b. Contains (x ∷ cond b (q ∷ put_behind p q ps) (put_behind p q ps)) q) (sym (is_here x p is)) (1, omega arith, refl)
+has_behind p q (x ∷ ps) (suc i, lt, is) = by (nat_eq x p) (has_behind p q ps (i, omega (arith, lt), is))
+  where
+    by : (b : Bool) → Contains (put_behind p q ps) q → Contains (x ∷ cond b (q ∷ put_behind p q ps) (put_behind p q ps)) q
+    by true h = (1, omega arith, refl)
+    by false h = (suc h.0, omega (arith, h.1), h.2)
+
 pub had : (p q r : ℕ) (ps : List ℕ) → Contains (put_behind p q ps) r → Contains ps r ⊎ ((r ≡ q) × Contains ps p)
 had p q r [] has = inl has
 had p q r (x ∷ ps) has = by (nat_eq x p) refl has (had p q r ps)
@@ -282,6 +292,25 @@ module _ (old new : List Slot) (root : ℕ) (levels : List (List ℕ)) (level p 
 
   pub has_new : (n r : ℕ) → Contains (row levels n) r → Contains (row after n) r
   has_new n r = each (λ m ps. Contains (row levels m) r → Contains ps r) (has_still p q r (row levels level)) (λ m differs h. h) n
+
+  -- the level has the new page
+  new_in : Contains (row after level) q
+  new_in = subst (λ (ps : List ℕ). Contains ps q) (sym row_here) (has_behind p q (row levels level) has)
+
+  -- each page stands where it stood, and the new one behind p
+  stand_new : AllStand old levels → AllStand new after
+  stand_new stand r s is = by (cases_eq r p) (cases_eq r q)
+    where
+      on : (n : ℕ) → n < length levels → Contains (row after n) r → IsInLevels after r
+      on n lt there = record { level = n; within = omega (arith, lt, length-set levels level (put_behind p q (row levels level))); in_level = there }
+
+      still_on : IsInLevels levels r → IsInLevels after r
+      still_on was_on = on was_on.level was_on.within (has_new was_on.level r was_on.in_level)
+
+      by : (r ≡ p) ⊎ (r ≡ p → ⊥) → (r ≡ q) ⊎ (r ≡ q → ⊥) → IsInLevels after r
+      by (inl here) h = still_on (stand r was (ap (slot_at old) here ∙ parted.is))
+      by (inr other) (inl added) = on level within (subst (Contains (row after level)) (sym added) new_in)
+      by (inr other) (inr old_one) = still_on (stand r s (sym (parted.others r other old_one) ∙ is))
 
   -- a page of a level was one, or is the new one, and p was one
   was_in : (n r : ℕ) → Contains (row after n) r → Contains (row levels n) r ⊎ ((r ≡ q) × Contains (row levels n) p)
@@ -527,6 +556,7 @@ pub parts_kept : PartsAreKept
 parts_kept old new root levels level p q keep lawful within has live parted = record {
   lawful = lawful_new old new root levels level p q keep lawful within has live parted;
   exact = exact_new old new root levels level p q keep lawful within has live parted;
+  stand = stand_new old new root levels level p q keep lawful within has live parted;
   writes = writes_kept old new root levels level p q keep lawful within has live parted;
   contents = contents_new old new root levels level p q keep lawful within has live parted;
 }

@@ -12,6 +12,7 @@ use Rattle.bw_level.specs.Entries.{AreExact}
 use Rattle.bw_level.specs.Freeing.{IsAside, IsUnreached, IsFreed}
 use Rattle.bw_level.specs.Merges.{IsMerged, IsNoFirstChild, level_merged}
 use Rattle.bw_level.specs.Roots.{IsGrown, IsRootRemoved, levels_grown, levels_lowered}
+use Rattle.bw_level.specs.Searches.{AllStand}
 use Rattle.bw_level.specs.Splits.{HasNoRemovedAt, IsParted, level_parted}
 use Rattle.bw_level.specs.Steps.{AreAlike, KeepsLevels}
 
@@ -61,10 +62,12 @@ ContentsAreKept =
     value_in (slot_at new q) key m ≡ value_in (slot_at old p) key n) →
     contents_in new levels' m ≡ contents_in old levels n
 
--- new levels are lawful under a root, with exact index entries where the old ones had them, and hold what these held
+-- New levels are lawful under a root, with exact index entries where the old ones had them, and hold what these held. Each
+-- page stands on one of them where each stood on a level.
 pub record KeepsAll (old new : List Slot) (root : ℕ) (levels levels' : List (List ℕ)) : Type 0 where
   pub lawful : AreLevels new root levels'
   pub exact : AreExact old levels → AreExact new levels'
+  pub stand : AllStand old levels → AllStand new levels'
   pub writes : row_writes new (row levels' 0) ≡ row_writes old (row levels 0)
   pub contents : HasDistinctStamps (row_writes old (row levels 0)) → (stamp : ℕ) →
       contents_in new levels' stamp ≡ contents_in old levels stamp

@@ -6,7 +6,7 @@ use Rattle.bw_page.specs.Inners.{InnerView}
 use Rattle.bw_page.specs.declared.pages.Page.TheVariants.{Inner as InnerPage}
 use Rattle.bw_level.specs.declared.target.Target.{Target}
 use Rattle.bw_level.specs.Walk.{Leads, ended}
-use Rattle.bw_level.specs.Slots.{Slot, left_of, slot_at, slot_level}
+use Rattle.bw_level.specs.Slots.{Slot, PageState, Live, left_of, slot_at, slot_level}
 use Rattle.bw_level.specs.Levels.{IsReached, row}
 use Rattle.bw_level.specs.Changes.{plain}
 use Rattle.bw_level.specs.Targets.{PartsChildren, StandsOnAll, lies_from}
@@ -33,6 +33,10 @@ pub record IsInLevels (levels : List (List ℕ)) (p : ℕ) : Type 0 where
   pub level : ℕ
   pub within : level < length levels
   pub in_level : Contains (row levels level) p
+
+-- each page stands on a level
+abbrev pub AllStand : List Slot → List (List ℕ) → Type 0
+AllStand slots levels = (p : ℕ) (state : PageState) → slot_at slots p ≡ Live state → IsInLevels levels p
 
 -- the place of the last separator that what is sought isn't before, if there is one
 abbrev pub IsPlaceFor : Target → List (KeyBytes × ℕ) → Option ℕ → Type 0

@@ -15,9 +15,9 @@ use bw_tree::Tree;
 /// the tree holds is the same, as of every stamp. Identifiers of pages that stand on no level and to which nothing leads, as
 /// `release` has it, are given back: none is left that might be. No batch is staged.
 ///
-/// It costs a search for each page, two for a removed one, and as often a look at each removed page whose identifier isn't
-/// given back; what `consolidate` does for each page that has records, and a step for each record. After `Memory` the tree
-/// holds the same as of the same next stamp, and some pages may have been consolidated, and some identifiers given back.
+/// It costs a look at each mapping word, what `consolidate` does for each page that has records, what `release_all` does for
+/// each removed page, and a step for each record. After `Memory` the tree holds the same as of the same next stamp, and some
+/// pages may have been consolidated, and some identifiers given back.
 pub fn sweep(tree: &mut Tree) -> Result<(), Memory>
     requires { tree.old.staged ≡ None }
     ensures ok { OnOk result (IsSwept tree.old tree.new) }

@@ -1,17 +1,17 @@
 -- Identifiers that are given back one after another.
 use Rattle.std.proofs.Common.{inl, inr, ◌⊎◌, ◌≡◌, ℕ, zero, suc, ◌+◌, ◌<◌, ◌≤◌, List, [], ◌∷◌, length, Option, Some, None, refl, sym, ap, ◌∙◌, subst, arith}
-use Rattle.std.proofs.lemmas.Bool.{cases_eq, cases_lt}
+use Rattle.std.proofs.lemmas.Bool.{cases_eq}
 use Rattle.std.specs.List.{Contains}
-use Rattle.std.specs.Prelude.{IfSome}
+use Rattle.std.specs.Prelude.{IfSome, slice_index_or}
 use Rattle.bw_key.specs.Order.{KeyBytes}
 use Rattle.bw_page.specs.declared.pages.RemovedPage.{RemovedPage}
 use Rattle.bw_level.specs.Before.{removed_at}
 use Rattle.bw_level.specs.Freeing.{IsUnreached}
 use Rattle.bw_level.specs.Levels.{row}
-use Rattle.bw_level.specs.Searches.{IsInLevels}
+use Rattle.bw_level.specs.Searches.{AllStand, IsInLevels}
 use Rattle.bw_level.specs.Slots.{Slot, Free, Gone, Live, left_of, left_of_slot, slot_at}
 use Rattle.bw_level.specs.Steps.{IsTerm}
-use Rattle.bw_tree.specs.Freeing.{HasFreed, MayBeFreed}
+use Rattle.bw_tree.specs.Freeing.{HasEachRemoved, HasFreed, MayBeFreed}
 use Rattle.bw_tree.specs.View.{TreeView}
 use Rattle.bw_steps.specs.Releasing.{AreFreed, HasNoneToFree, IsLeftOut, IsLeftToFree, IsReleaseStep, taken_count}
 use Rattle.bw_steps.specs.declared.steps.Did.{Did}
@@ -213,25 +213,40 @@ module _ (first old new : TreeView) (page next : ℕ) (so_far : IsLeftToFree fir
       by (inl is) = absurd (no_left is)
       by (inr was) = or_sooner p was
 
--- and from page to page
-pub none_more : (old new : TreeView) (n : ℕ) → ((p : ℕ) → p < n → MayBeFreed old p → ⊥) → ((p : ℕ) → MayBeFreed new p → (p ≡ n → ⊥) × MayBeFreed old p) → (p : ℕ) → p < n + 1 → MayBeFreed new p → ⊥
-none_more old new n none one p lt now = by (cases_lt p n)
+-- And from page to page, along a list: a page is one of those from a place on.
+abbrev pub IsFrom : List ℕ → ℕ → ℕ → Type 0
+IsFrom pages n p = (k : ℕ) × (n ≤ k) × (k < length pages) × (slice_index_or pages k p ≡ p)
+
+-- a page that may be given back is a removed one, since each other one stands on a level
+pub among_removed : (tree : TreeView) (pages : List ℕ) → AllStand tree.slots tree.levels → HasEachRemoved tree.slots pages → (p : ℕ) → MayBeFreed tree p → IsFrom pages 0 p
+among_removed tree pages stand each p may = by (slot_at tree.slots p) refl
   where
-    was : (p ≡ n → ⊥) × MayBeFreed old p
-    was = one p now
+    by : (slot : Slot) → slot_at tree.slots p ≡ slot → IsFrom pages 0 p
+    by Free is = absurd (may.taken is)
+    by (Live s) is = absurd (may.unreached.stands (stand p s is))
+    by (Gone removed) is = let has = each p removed is in (has.0, omega arith, has.1, has.2)
 
-    by : (p < n) ⊎ (n ≤ p) → ⊥
-    by (inl before) = none p before was.1
-    by (inr behind) = was.0 (omega (arith, lt, behind))
+any_default : (xs : List ℕ) (k d e : ℕ) → k < length xs → slice_index_or xs k d ≡ slice_index_or xs k e
+any_default [] k d e lt = absurd (omega (arith, lt))
+any_default (x ∷ xs) zero d e lt = refl
+any_default (x ∷ xs) (suc k) d e lt = any_default xs k d e (omega (arith, lt))
 
-past : (slots : List Slot) (p : ℕ) → length slots ≤ p → slot_at slots p ≡ Free
-past [] p out = refl
-past (s ∷ slots) zero out = absurd (omega (arith, out))
-past (s ∷ slots) (suc p) out = past slots p (omega (arith, out))
-
-pub none_at_all : (tree : TreeView) (n : ℕ) → length tree.slots ≤ n → ((p : ℕ) → p < n → MayBeFreed tree p → ⊥) → HasNoneToFree tree
-none_at_all tree n all none p may = by (cases_lt p n)
+-- behind the run that begins at a place, those from the next one on are left
+pub left_behind : (old new : TreeView) (pages : List ℕ) (n page : ℕ) → page ≡ slice_index_or pages n page → ((p : ℕ) → MayBeFreed old p → IsFrom pages n p) → IsLeftOut old new page → (p : ℕ) → MayBeFreed new p → IsFrom pages (n + 1) p
+left_behind old new pages n page is so_far out p now = by (cases_eq from.0 n)
   where
-    by : (p < n) ⊎ (n ≤ p) → ⊥
-    by (inl before) = none p before may
-    by (inr behind) = may.taken (past tree.slots p (omega (arith, all, behind)))
+    was : (p ≡ page → ⊥) × MayBeFreed old p
+    was = out p now
+
+    from : IsFrom pages n p
+    from = so_far p was.1
+
+    by : (from.0 ≡ n) ⊎ (from.0 ≡ n → ⊥) → IsFrom pages (n + 1) p
+    by (inl here) = absurd (was.0 (sym from.3 ∙ any_default pages from.0 p page from.2 ∙ ap (λ k. slice_index_or pages k page) here ∙ sym is))
+    by (inr other) = (from.0, later from.0 n from.1 other, from.2, from.3)
+      where
+        later : (k n : ℕ) → n ≤ k → (k ≡ n → ⊥) → n + 1 ≤ k
+        later k n le other = grind (arith)
+
+pub none_behind : (tree : TreeView) (pages : List ℕ) (n : ℕ) → length pages ≤ n → ((p : ℕ) → MayBeFreed tree p → IsFrom pages n p) → HasNoneToFree tree
+none_behind tree pages n all left p may = let from = left p may in omega (arith, all, from.1, from.2)

@@ -13,18 +13,19 @@ use bw_tree::Tree;
 /// Gives back each identifier of a page that stands on no level and to which nothing leads. After `Memory` some of them may
 /// have been given back.
 ///
-/// It costs a search for each page, two for a removed one, and as often a look at each removed page whose identifier isn't
-/// given back.
+/// It costs a list of the removed pages whose identifiers aren't given back, for each of them two searches and a look at each
+/// of them, and nothing for any other page: each stands on a level.
 pub fn release_all(tree: &mut Tree) -> Result<(), Memory>
     requires { tree.old.staged ≡ None }
     ensures freed { AreFreed tree.old tree.new }
     ensures none { OnOk result (HasNoneToFree tree.new) }
 {
-    for place in 0..tree.heads().len() {
-        tree.know_records();
-        release_run(tree, &mut PageId(place as u32))?;
-    }
     tree.know_records();
+    let pages = tree.removed_pages()?;
+    for place in 0..pages.len() {
+        let mut next = pages[place];
+        release_run(tree, &mut next)?;
+    }
     Ok(())
 }
 

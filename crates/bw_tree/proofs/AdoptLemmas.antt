@@ -36,11 +36,11 @@ use Rattle.bw_level.specs.Levels.{AreLevels, IsHome, row, levels_under}
 use Rattle.bw_level.specs.Entries.{AreExact}
 use Rattle.bw_level.specs.Changes.{Bases}
 use Rattle.bw_chain.specs.Chains.{Records, Ends, slot_of_word, slots_of}
-use Rattle.bw_level.specs.Searches.{IsInLevels}
+use Rattle.bw_level.specs.Searches.{AllStand, IsInLevels}
 use Rattle.bw_tree.specs.Trees.{ArePlaced, IsStanding}
 use Rattle.bw_chain.specs.Records.{put_records, writes_in}
 use Rattle.bw_chain.specs.Supports.{base_under}
-use Rattle.bw_tree.proofs.AlikeLemmas.{IsPutOver, AreInside, exact_written, levels_written, pairs_alike, put_bare}
+use Rattle.bw_tree.proofs.AlikeLemmas.{IsPutOver, AreInside, exact_written, levels_written, pairs_alike, put_bare, stand_written}
 use Rattle.bw_chain.proofs.GrowthLemmas.{take_front}
 use Rattle.bw_level.proofs.LevelLemmas.{levels_now}
 use Rattle.bw_tree.proofs.PlacedLemmas.{named_are, named_pass}
@@ -237,6 +237,7 @@ module _ (heads heads' : List ℕ) (bases : Bases) (first : Records) (root next 
     };
     lawful = subst (AreLevels new_slots root) (sym levels_after) lawful_after;
     exact = subst (AreExact new_slots) (sym levels_after) (exact_written bases old_slots new_slots over old_levels t.exact);
+    stand = subst (AllStand new_slots) (sym levels_after) (stand_written bases old_slots new_slots over old_levels t.stand);
     distinct = subst (λ (l : List (List ℕ)). HasDistinctStamps (row_writes new_slots (row l 0))) (sym levels_after) new_distinct;
     past = subst (λ (l : List (List ℕ)). AreBelow bound (row_writes new_slots (row l 0))) (sym levels_after) new_below;
     placed = subst (ArePlaced heads') (sym levels_after) placed_after;

@@ -7,6 +7,7 @@ use Rattle.bw_page.proofs.Truths.{both_of}
 use Rattle.bw_page.specs.declared.pages.RemovedPage.{RemovedPage}
 use Rattle.bw_delta.specs.Writes.{WriteView}
 use Rattle.bw_delta.specs.declared.deltas.Delta.TheVariants.{Put}
+use Rattle.bw_level.specs.Searches.{AllStand}
 use Rattle.bw_level.specs.Slots.{Slot, PageState, Body, Pairs, Children, Free, Gone, Live, slot_at, level_of, children_of, IsSoundBody}
 use Rattle.bw_level.specs.Levels.{AreLevels}
 use Rattle.bw_level.specs.Entries.{AreExact}
@@ -15,7 +16,7 @@ use Rattle.bw_level.specs.Reading.{body_pairs, pairs_under, row_pairs}
 use Rattle.bw_level.specs.Turns.{slot_without_writes}
 use Rattle.bw_level.specs.Steps.{AreAlike, IsAlike}
 use Rattle.bw_level.proofs.RowLemmas.{same_each}
-use Rattle.bw_level.proofs.AlikeLemmas.{exact_alike, levels_alike}
+use Rattle.bw_level.proofs.AlikeLemmas.{exact_alike, levels_alike, stand_alike}
 use Rattle.bw_chain.proofs.ChainLemmas.{bare_put}
 use Rattle.bw_tree.proofs.PostedLemmas.{put_over}
 
@@ -89,6 +90,9 @@ module _ (bases : Bases) (old new : List Slot) (over : (p : ℕ) → IsPutOver b
 
   pub exact_written : (levels : List (List ℕ)) → AreExact old levels → AreExact new levels
   exact_written levels = exact_alike old new alike levels
+
+  pub stand_written : (levels : List (List ℕ)) → AllStand old levels → AllStand new levels
+  stand_written levels = stand_alike old new alike levels
 
   put_pairs : (ws : List WriteView) (slot : Slot) → pairs_under (put_over bases ws slot) ≡ pairs_under slot
   put_pairs [] slot = refl

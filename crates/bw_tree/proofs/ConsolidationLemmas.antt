@@ -17,6 +17,7 @@ use Rattle.bw_delta.specs.History.{HasDistinctStamps, action_at}
 use Rattle.bw_delta.specs.Writes.{WriteView}
 use Rattle.bw_delta.proofs.Histories.{quiet}
 use Rattle.bw_delta.proofs.Maps.{find_in_range}
+use Rattle.bw_level.specs.Searches.{AllStand}
 use Rattle.bw_level.specs.Changes.{Bases}
 use Rattle.bw_chain.specs.Chains.{Records, slot_of_word, slots_of}
 use Rattle.bw_level.specs.Slots.{Slot, PageState, Body, Pairs, Children, Free, Gone, Live, IsSoundBody, children_of, level_of, side_of_slot, slot_at}
@@ -27,7 +28,7 @@ use Rattle.bw_level.specs.Reading.{contents_in, row_writes, value_in, writes_ove
 use Rattle.bw_level.specs.Scans.{high_of}
 use Rattle.bw_level.specs.Steps.{AreAlike, IsAlike}
 use Rattle.bw_chain.specs.Supports.{base_under}
-use Rattle.bw_level.proofs.AlikeLemmas.{exact_alike, levels_alike}
+use Rattle.bw_level.proofs.AlikeLemmas.{exact_alike, levels_alike, stand_alike}
 use Rattle.bw_chain.proofs.BaseLemmas.{low, others_kept, put_there}
 use Rattle.bw_level.proofs.HomeLemmas.{home_value, one_home}
 use Rattle.bw_level.proofs.LevelLemmas.{levels_now}
@@ -200,6 +201,7 @@ module _ (heads : List ℕ) (bases : Bases) (records : Records) (root next : ℕ
   standing_new = stands_with heads bases records root next t p word within at_p (LeafPage leaf)
       (subst (AreLevels new.slots root) (sym same_levels) lawful_new)
       (subst (AreExact new.slots) (sym same_levels) (exact_alike old.slots new.slots alike old.levels t.exact))
+      (subst (AllStand new.slots) (sym same_levels) (stand_alike old.slots new.slots alike old.levels t.stand))
       (subst (λ (l : List (List ℕ)). HasDistinctStamps (row_writes new.slots (row l 0))) (sym same_levels) distinct_new)
       (subst (λ (l : List (List ℕ)). AllByRecursion IsPast (row_writes new.slots (row l 0))) (sym same_levels) past_new)
       same_levels

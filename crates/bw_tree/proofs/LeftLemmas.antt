@@ -10,12 +10,13 @@ use Rattle.bw_delta.specs.declared.deltas.Delta.{Delta}
 use Rattle.bw_delta.specs.declared.deltas.Delta.TheVariants.{Put, Split, Absorb, Removed, AddChild, DropChild}
 use Rattle.bw_level.specs.Changes.{Bases, based, change}
 use Rattle.bw_chain.specs.Chains.{Records, changed, deltas_at, link_of, slot_of_word, slots_of}
-use Rattle.bw_chain.specs.Removed.{IsRemovedInto}
+use Rattle.bw_chain.specs.Removed.{HasAllRemoved, IsRemovedInto}
 use Rattle.bw_level.specs.Slots.{Slot, Free, Gone, Live, left_of, left_of_slot}
 use Rattle.bw_chain.specs.Supports.{OwnBases}
 use Rattle.bw_level.specs.Walk.{walked}
 use Rattle.bw_chain.proofs.ReadingLemmas.{slot_of_head}
 use Rattle.bw_level.proofs.RouteLemmas.{held}
+use Rattle.bw_tree.specs.Freeing.{HasEachRemoved}
 
 no_left : {p : ℕ} → None ≡ Some p → ⊥
 no_left e = cc
@@ -62,6 +63,13 @@ module _ (heads : List ℕ) (bases : Bases) (records : Records) (own : OwnBases 
 
   there : (q p : ℕ) → left_of (slots_of heads bases records) q ≡ Some p → q < length heads
   there q p left = omega (arith, held (slots_of heads bases records) q (λ free. no_left (sym (ap left_of_slot free) ∙ left)), length-map heads (slot_of_word bases records))
+
+  -- so the removed base pages tell which pages were removed
+  pub each_removed : (numbers : List ℕ) → HasAllRemoved bases numbers → HasEachRemoved (slots_of heads bases records) numbers
+  each_removed numbers all p removed is =
+      let left = ap left_of_slot is in
+      let at = left_based (slice_get bases p) removed.left (sym (left_read p (there p removed.left left)) ∙ left) in
+      all p at.0 at.1.0
 
   within : (bs : Bases) (n : ℕ) (page : Option Page) → slice_get bs n ≡ Some page → n < length bs
   within [] n page e = absurd (clash e)

@@ -113,7 +113,7 @@ all_fit_still old new levels p sep child given (e ∷ es) fit =
 
 -- levels stay where a page names children that fit, as they do for each of them
 children_kept : (es : List (KeyBytes × ℕ)) (old new : List Slot) (root : ℕ) (levels : List (List ℕ)) (p : ℕ) → AreLevels old root levels → AllByRecursion (λ e. FitsChild old levels p e.0 e.1) es → HasChildren old new p es → length new ≡ length old → KeepsAll old new root levels levels
-children_kept [] old new root levels p lawful fit given size = subst (λ (s : List Slot). KeepsAll old s root levels levels) (sym same) (record { lawful = lawful; exact = λ h. h; writes = refl; contents = λ distinct stamp. refl })
+children_kept [] old new root levels p lawful fit given size = subst (λ (s : List Slot). KeepsAll old s root levels levels) (sym same) (record { lawful = lawful; exact = λ h. h; stand = λ h. h; writes = refl; contents = λ distinct stamp. refl })
   where
     each : (q : ℕ) → (q ≡ p) ⊎ (q ≡ p → ⊥) → slot_at new q ≡ slot_at old q
     each q (inl here) = ap (slot_at new) here ∙ given.now ∙ sym given.is ∙ ap (slot_at old) (sym here)
@@ -127,6 +127,7 @@ children_kept (e ∷ es) old new root levels p lawful fit given size =
     record {
       lawful = rest.lawful;
       exact = λ h. rest.exact (first.exact h);
+      stand = λ h. rest.stand (first.stand h);
       writes = rest.writes ∙ first.writes;
       contents = λ distinct stamp. rest.contents (subst HasDistinctStamps (sym first.writes) distinct) stamp ∙ first.contents distinct stamp;
     }

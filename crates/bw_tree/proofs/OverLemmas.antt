@@ -3,9 +3,10 @@ use Rattle.std.specs.Prelude.{slice_get, slice_index}
 use Rattle.bw_level.specs.Changes.{based, Bases}
 use Rattle.bw_chain.specs.Chains.{slot_of_word, link_of, linked_word, AllEnd}
 use Rattle.bw_page.specs.declared.pages.Page.{Page}
-use Rattle.std.proofs.Common.{◌≡◌, ℕ, zero, suc, ◌+◌, ◌-◌, ◌<◌, ◌≤◌, ◌^◌, true, false, cond, not, T, List, [], ◌∷◌, ◌++◌, length, map, Option, Some, None, Result, Ok, Err, IfOk, refl, sym, ap, ◌∙◌, subst, arith, nat_lt, length-append}
+use Rattle.std.proofs.Common.{inl, inr, ◌⊎◌, ◌≡◌, ℕ, zero, suc, ◌+◌, ◌-◌, ◌<◌, ◌≤◌, ◌^◌, true, false, cond, not, T, List, [], ◌∷◌, ◌++◌, length, map, Option, Some, None, Result, Ok, Err, IfOk, refl, sym, ap, ◌∙◌, subst, arith, nat_lt, length-append}
 use Rattle.std.specs.List.{Contains, AllByRecursion, IsDistinct}
 use Rattle.std.specs.FinMap.{from_entries}
+use Rattle.std.proofs.lemmas.Bool.{cases_lt}
 use Rattle.std.proofs.lemmas.List.{length-map}
 use Rattle.std.proofs.lemmas.Option.{slice_get-get_or}
 use Rattle.bw_key.specs.Order.{KeyBytes, key_cmp}
@@ -19,9 +20,10 @@ use Rattle.bw_page.proofs.KeyLemmas.{below_self}
 use Rattle.bw_delta.specs.Writes.{WriteView}
 use Rattle.bw_delta.specs.History.{HasDistinctStamps}
 use Rattle.bw_delta.specs.ContentsAsOf.{contents_as_of}
-use Rattle.bw_level.specs.Slots.{Slot, PageState, Children, Gone, Live, slot_at, left_of_slot, children_of}
+use Rattle.bw_level.specs.Slots.{Slot, PageState, Children, Free, Gone, Live, slot_at, left_of_slot, children_of}
 use Rattle.bw_level.specs.Levels.{AreLevels, SideBySide, Stands, StartsWith, LeadsBelow, BeginsWith, FirstChild, row}
 use Rattle.bw_level.specs.Entries.{AreExact}
+use Rattle.bw_level.specs.Searches.{AllStand, IsInLevels}
 use Rattle.bw_level.specs.Steps.{IsTerm}
 use Rattle.bw_tree.specs.Making.{AreAbutting, HasRules, IsOverLeaves, base_of_leaf, count_from, leaf_slot, pages_over, pairs_in, terms_from, tree_over}
 use Rattle.bw_tree.specs.View.{TreeView, contents_at}
@@ -30,10 +32,14 @@ use Rattle.bw_chain.specs.Supports.{OwnBases, base_under}
 use Rattle.bw_level.specs.Walk.{ended}
 use Rattle.bw_tree.specs.Trees.{IsTree}
 use Rattle.bw_level.proofs.LevelLemmas.{levels_now}
+use Rattle.bw_level.proofs.RouteLemmas.{held}
 use Rattle.bw_tree.proofs.MakingLemmas.{StandAt, over_slots, slot_based, from_none, there_is, counted_word, counted_length, counted_has, slot_there, leaf_there, root_there, leaf_state, leaf_row, leaf_pairs, leaf_writes, term_named, root_rules}
 
 one_state : {s t : PageState} → Live s ≡ Live t → s ≡ t
 one_state e = cc
+
+not_free : {s : PageState} → Free ≡ Live s → ⊥
+not_free e = cc
 
 not_gone : {s : PageState} {g : RemovedPage} → Live s ≡ Gone g → ⊥
 not_gone e = cc
@@ -62,8 +68,8 @@ none_distinct : HasDistinctStamps []
 unfolding IsDistinct
 none_distinct = tt
 
-over_tree : (bases : Bases) (levels : List (List ℕ)) → AreLevels (over_slots bases) (length bases - 1) levels → AreExact (over_slots bases) levels → row_writes (over_slots bases) (row levels 0) ≡ [] → length bases ≤ 2 ^ 32 → IsTree (count_from 0 (length bases)) bases [] (length bases - 1) 0 None
-over_tree bases levels lawful exact none few =
+over_tree : (bases : Bases) (levels : List (List ℕ)) → AreLevels (over_slots bases) (length bases - 1) levels → AreExact (over_slots bases) levels → AllStand (over_slots bases) levels → row_writes (over_slots bases) (row levels 0) ≡ [] → length bases ≤ 2 ^ 32 → IsTree (count_from 0 (length bases)) bases [] (length bases - 1) 0 None
+over_tree bases levels lawful exact stand none few =
     let now = levels_now (over_slots bases) (length bases - 1) levels lawful in
     record {
       stage = tt;
@@ -72,6 +78,7 @@ over_tree bases levels lawful exact none few =
         own = over_own bases;
         lawful = subst (AreLevels (over_slots bases) (length bases - 1)) (sym now) lawful;
         exact = subst (AreExact (over_slots bases)) (sym now) exact;
+        stand = subst (AllStand (over_slots bases)) (sym now) stand;
         distinct = subst (λ (l : List (List ℕ)). HasDistinctStamps (row_writes (over_slots bases) (row l 0))) (sym now) (subst HasDistinctStamps (sym none) none_distinct);
         placed = λ p lt high.
             let at = counted_word 0 (length bases) p (slice_index (count_from 0 (length bases)) p) (slice_get-get_or (count_from 0 (length bases)) p 0 lt) in
@@ -83,6 +90,12 @@ over_tree bases levels lawful exact none few =
         fits = omega arith;
       };
     }
+
+-- each page has a base page
+page_within : (bases : Bases) (p : ℕ) (s : PageState) → slot_at (over_slots bases) p ≡ Live s → p < length bases
+page_within bases p s is =
+    let there = held (over_slots bases) p (λ free. not_free (sym free ∙ is)) in
+    omega (arith, there, length-map (count_from 0 (length bases)) (slot_of_word bases []), counted_length 0 (length bases))
 
 -- without writes the map is the same as of every stamp
 pub unwritten : (start : Contents ValueBytes) (as_of : ℕ) → contents_as_of start [] as_of ≡ start
@@ -145,7 +158,7 @@ alone_over l abut rules =
       terms = λ n p s k c within. absurd (omega (arith, within));
     } in
     record {
-      tree = over_tree bases levels lawful one_level (leaf_writes slots 0 (l ∷ []) stand) (omega arith);
+      tree = over_tree bases levels lawful one_level all_stand (leaf_writes slots 0 (l ∷ []) stand) (omega arith);
       over = record {
         slots = slots_are (l ∷ []) [];
         contents = over_contents bases levels (l ∷ []) lawful refl stand;
@@ -160,6 +173,11 @@ alone_over l abut rules =
   where
     one_level : {slots : List Slot} → AreExact slots ((0 ∷ []) ∷ [])
     one_level = record { begins = λ n k c s within. absurd (omega (arith, within)); began = λ n k c g within. absurd (omega (arith, within)); behind = λ n k c g within. absurd (omega (arith, within)); once = λ n k h c within. absurd (omega (arith, within)) }
+
+    all_stand : AllStand (over_slots (map base_of_leaf (l ∷ []))) ((0 ∷ []) ∷ [])
+    all_stand p s is =
+        let within = page_within (map base_of_leaf (l ∷ [])) p s is in
+        record { level = 0; within = omega arith; in_level = (0, omega arith, omega (arith, within)) }
 
     rows : (slots : List Slot) → SideBySide slots 0 [] (0 ∷ []) → (n : ℕ) → n < 1 → SideBySide slots n [] (row ((0 ∷ []) ∷ []) n)
     rows slots h zero within = h
@@ -261,6 +279,16 @@ module _ (l k : LeafView ValueBytes) (rest : List (LeafView ValueBytes)) (abut :
         sym a.2 ∙ ap (λ (t : PageState). t.low) (one_state (sym a.1 ∙ b.1)) ∙ b.2;
   }
 
+  -- a page is one of the leaves, or the root
+  all_stand : AllStand rooted_slots two_levels
+  all_stand p s is = by (cases_lt p (length given))
+    where
+      by : (p < length given) ⊎ (length given ≤ p) → IsInLevels two_levels p
+      by (inl lt) = record { level = 0; within = omega arith; in_level = subst (Contains (row two_levels 0)) (from_none p) (counted_has 0 (length given) p lt) }
+      by (inr ge) =
+          let within = page_within rooted p s is in
+          record { level = 1; within = omega arith; in_level = (0, omega arith, omega (arith, ge, within, rooted_length)) }
+
   rooted_lawful : AreLevels rooted_slots (length rooted - 1) two_levels
   rooted_lawful = record { some = omega arith; top = omega (arith, rooted_length); rows = rows; firsts = firsts; terms = terms }
 
@@ -269,7 +297,7 @@ module _ (l k : LeafView ValueBytes) (rest : List (LeafView ValueBytes)) (abut :
 
   rooted_over : length rooted ≤ 2 ^ 32 → StandsOver rooted given
   rooted_over few = record {
-    tree = over_tree rooted two_levels rooted_lawful exact (leaf_writes rooted_slots 0 given stand) few;
+    tree = over_tree rooted two_levels rooted_lawful exact all_stand (leaf_writes rooted_slots 0 given stand) few;
     over = record {
       slots = slots_are given (Some (InnerPage (root_of given)) ∷ []);
       contents = over_contents rooted two_levels given rooted_lawful refl stand;

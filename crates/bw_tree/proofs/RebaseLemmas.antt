@@ -6,6 +6,7 @@ use Rattle.std.specs.List.{AllByRecursion}
 use Rattle.std.specs.Prelude.{slice_get, slice_index}
 use Rattle.bw_page.specs.declared.pages.Page.{Page}
 use Rattle.bw_delta.specs.History.{HasDistinctStamps}
+use Rattle.bw_level.specs.Searches.{AllStand}
 use Rattle.bw_level.specs.Changes.{Bases, plain}
 use Rattle.bw_chain.specs.Chains.{Records, Ends, slot_of_word, slots_of}
 use Rattle.bw_level.specs.Entries.{AreExact}
@@ -51,12 +52,13 @@ module _ (heads : List ℕ) (bases : Bases) (records : Records) (root next : ℕ
   abbrev slots_with : List Slot
   slots_with = slots_of heads_with bases_with records
 
-  pub stands_with : AreLevels slots_with root (levels_under slots_with root) → AreExact slots_with (levels_under slots_with root) → HasDistinctStamps (leaf_writes slots_with root) → AllByRecursion (λ w. w.stamp < next) (leaf_writes slots_with root) → levels_under slots_with root ≡ levels_under (slots_of heads bases records) root → IsStanding heads_with bases_with records root next
-  stands_with lawful exact distinct past same = record {
+  pub stands_with : AreLevels slots_with root (levels_under slots_with root) → AreExact slots_with (levels_under slots_with root) → AllStand slots_with (levels_under slots_with root) → HasDistinctStamps (leaf_writes slots_with root) → AllByRecursion (λ w. w.stamp < next) (leaf_writes slots_with root) → levels_under slots_with root ≡ levels_under (slots_of heads bases records) root → IsStanding heads_with bases_with records root next
+  stands_with lawful exact stand distinct past same = record {
     ends = all_end heads bases records t.ends t.own p word at page;
     own = own_after heads bases records t.ends t.own p word at page;
     lawful = lawful;
     exact = exact;
+    stand = stand;
     distinct = distinct;
     past = past;
     placed = subst (ArePlaced heads_with) (sym same)
@@ -100,6 +102,7 @@ module _ (heads : List ℕ) (bases : Bases) (records : Records) (root next : ℕ
   standing = stands_with heads bases records root next t p word within at_p page
       (subst (λ (s : List Slot). AreLevels s root (levels_under s root)) (sym kept) t.lawful)
       (subst (λ (s : List Slot). AreExact s (levels_under s root)) (sym kept) t.exact)
+      (subst (λ (s : List Slot). AllStand s (levels_under s root)) (sym kept) t.stand)
       (subst (λ (s : List Slot). HasDistinctStamps (leaf_writes s root)) (sym kept) t.distinct)
       (subst (λ (s : List Slot). AllByRecursion (λ w. w.stamp < next) (leaf_writes s root)) (sym kept) t.past)
       (ap (λ (s : List Slot). levels_under s root) kept)

@@ -9,6 +9,7 @@ use Rattle.bw_key.specs.Order.{key_cmp}
 use Rattle.bw_delta.specs.ContentsAsOf.{contents_as_of}
 use Rattle.bw_delta.specs.History.{HasDistinctStamps}
 use Rattle.bw_delta.specs.Writes.{WriteView}
+use Rattle.bw_level.specs.Searches.{AllStand}
 use Rattle.bw_level.specs.Changes.{Bases}
 use Rattle.bw_chain.specs.Chains.{Records, Ends, EndsAt, link_of, slot_of_word, slots_of}
 use Rattle.bw_level.specs.Entries.{AreExact}
@@ -96,6 +97,7 @@ module _ (heads : List ℕ) (bases : Bases) (records : Records) (root next : ℕ
     };
     lawful = subst (λ (s : List Slot). AreLevels s root (levels_under s root)) (sym same_slots) t.lawful;
     exact = subst (λ (s : List Slot). AreExact s (levels_under s root)) (sym same_slots) t.exact;
+    stand = subst (λ (s : List Slot). AllStand s (levels_under s root)) (sym same_slots) t.stand;
     distinct = subst (λ (s : List Slot). HasDistinctStamps (leaf_writes s root)) (sym same_slots) t.distinct;
     past = subst (λ (s : List Slot). AllByRecursion (λ w. w.stamp < 0) (leaf_writes s root)) (sym same_slots) (subst (λ (l : List WriteView). AllByRecursion (λ w. w.stamp < 0) l) (sym no_writes) tt);
     placed = λ p lt high. absurd (omega (arith, high, each_plain heads p (slice_index heads p) plain (slice_get-get_or heads p 0 lt)));

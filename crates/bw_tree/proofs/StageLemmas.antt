@@ -10,6 +10,7 @@ use Rattle.bw_delta.specs.History.{HasDistinctStamps}
 use Rattle.bw_delta.specs.declared.deltas.Delta.TheVariants.{Put}
 use Rattle.bw_delta.proofs.Batches.{rising_batch}
 use Rattle.bw_delta.proofs.Stagings.{AreBelow, batch_below, below_all, over_read}
+use Rattle.bw_level.specs.Searches.{AllStand}
 use Rattle.bw_level.specs.Slots.{Slot}
 use Rattle.bw_level.specs.Entries.{AreExact}
 use Rattle.bw_level.specs.Levels.{AreLevels, row, levels_under}
@@ -37,6 +38,7 @@ stands_on heads bases old new root bound later t kept more le fits few = (
     };
     lawful = subst (λ (s : List Slot). AreLevels s root (levels_under s root)) (sym same) t.lawful;
     exact = subst (λ (s : List Slot). AreExact s (levels_under s root)) (sym same) t.exact;
+    stand = subst (λ (s : List Slot). AllStand s (levels_under s root)) (sym same) t.stand;
     distinct = subst (λ (s : List Slot). HasDistinctStamps (row_writes s (row (levels_under s root) 0))) (sym same) t.distinct;
     past = subst (λ (s : List Slot). AreBelow later (row_writes s (row (levels_under s root) 0))) (sym same) (below_all bound later (row_writes (slots_of heads bases old) (row (levels_under (slots_of heads bases old) root) 0)) le t.past);
     placed = subst (λ (s : List Slot). ArePlaced heads (levels_under s root)) (sym same) t.placed;

@@ -14,7 +14,7 @@ use Rattle.bw_level.specs.Laws.{KeepsAll}
 use Rattle.bw_level.specs.Levels.{AreLevels, levels_under, row}
 use Rattle.bw_chain.specs.Placing.{put_at}
 use Rattle.bw_level.specs.Reading.{contents_in, row_writes}
-use Rattle.bw_level.specs.Searches.{IsInLevels}
+use Rattle.bw_level.specs.Searches.{AllStand, IsInLevels}
 use Rattle.bw_level.specs.Slots.{Slot}
 use Rattle.bw_chain.specs.Supports.{OwnBases}
 use Rattle.bw_level.proofs.LevelLemmas.{levels_now}
@@ -79,6 +79,7 @@ module _ (heads : List ℕ) (bases : Bases) (records : Records) (root next : ℕ
         own = own;
         lawful = subst (AreLevels new_slots root') (sym same) kept.lawful;
         exact = subst (AreExact new_slots) (sym same) (kept.exact t.exact);
+        stand = subst (AllStand new_slots) (sym same) (kept.stand t.stand);
         distinct = subst (λ (l : List (List ℕ)). HasDistinctStamps (row_writes new_slots (row l 0))) (sym same) (subst HasDistinctStamps (sym kept.writes) t.distinct);
         past = subst (λ (l : List (List ℕ)). AllByRecursion IsPast (row_writes new_slots (row l 0))) (sym same) (subst (AllByRecursion IsPast) (sym kept.writes) t.past);
         placed = subst (ArePlaced heads') (sym same) placed;

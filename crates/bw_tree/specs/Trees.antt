@@ -12,7 +12,7 @@ use Rattle.bw_level.specs.Changes.{Bases}
 use Rattle.bw_chain.specs.Chains.{AllEnd, Records, slots_of}
 use Rattle.bw_chain.specs.Records.{put_records, writes_in}
 use Rattle.bw_level.specs.Reading.{row_writes}
-use Rattle.bw_level.specs.Searches.{IsInLevels}
+use Rattle.bw_level.specs.Searches.{AllStand, IsInLevels}
 use Rattle.bw_chain.specs.Supports.{OwnBases}
 use Rattle.bw_tree.specs.View.{TreeView, StageView}
 use Rattle.bw_tree.specs.declared.mapping_words.WordsBefore.{WordsBefore}
@@ -26,13 +26,14 @@ leaf_writes slots root = row_writes slots (row (levels_under slots root) 0)
 abbrev pub ArePlaced : List ℕ → List (List ℕ) → Type 0
 ArePlaced heads levels = (p : ℕ) → p < length heads → 2 ^ 32 ≤ slice_index heads p → IsInLevels levels p
 
--- Pages that form levels with exact index entries, each page on the base page of its own number, with writes whose stamps
--- are distinct and below a bound.
+-- Pages that form levels with exact index entries, so that each page stands on a level, and on the base page of its own
+-- number, with writes whose stamps are distinct and below a bound.
 pub record IsStanding (heads : List ℕ) (bases : Bases) (records : Records) (root bound : ℕ) : Type 0 where
   pub ends : AllEnd bases records heads
   pub own : OwnBases heads bases records
   pub lawful : AreLevels (slots_of heads bases records) root (levels_under (slots_of heads bases records) root)
   pub exact : AreExact (slots_of heads bases records) (levels_under (slots_of heads bases records) root)
+  pub stand : AllStand (slots_of heads bases records) (levels_under (slots_of heads bases records) root)
   pub distinct : HasDistinctStamps (leaf_writes (slots_of heads bases records) root)
   pub past : AllByRecursion (λ w. w.stamp < bound) (leaf_writes (slots_of heads bases records) root)
   pub placed : ArePlaced heads (levels_under (slots_of heads bases records) root)

@@ -4,7 +4,7 @@ ghost use Rattle.std.specs.FinMap.{empty};
 ghost use Rattle.bw_level.specs.Entries.{AreExact};
 ghost use Rattle.bw_level.specs.Levels.{AreLevels, row};
 ghost use Rattle.bw_chain.specs.Removed.{HasNoRemoved};
-ghost use Rattle.bw_level.specs.Searches.{IsInLevels};
+ghost use Rattle.bw_level.specs.Searches.{AllStand, IsInLevels};
 ghost use Rattle.bw_delta.specs.History.{HasDistinctStamps};
 
 use crate::freed::Freed;
@@ -198,10 +198,11 @@ impl Tree {
         let _ = &self.root;
     }
 
-    /// What every tree keeps of its mapping words: a page of a level has one, a page that has records stands on a level, one
-    /// that has none has no writes, and each page has an identifier of 32 bits. A caller's proof knows it behind this call,
-    /// which does nothing.
+    /// What every tree keeps of its pages and their mapping words: a page of a level has one, each page stands on a level, and
+    /// so does one that has records, one that has none has no writes, and each page has an identifier of 32 bits. A caller's
+    /// proof knows it behind this call, which does nothing.
     pub fn know_records(&self)
+        ensures stand { AllStand self.now.slots self.now.levels }
         ensures there { (p : ℕ) → IsInLevels self.now.levels p → p < length self.now.heads }
         ensures placed { ArePlaced self.now.heads self.now.levels }
         ensures bare { (p : ℕ) → slice_index self.now.heads p < 2 ^ 32 → writes_over (slot_at self.now.slots p) ≡ [] }

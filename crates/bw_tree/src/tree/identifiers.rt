@@ -1,14 +1,15 @@
 // Identifiers of pages that are given back.
-ghost use Rattle.std.specs.Prelude.{◌≡◌, ℕ, Some, None, Decides, OnOk, OnErr};
+ghost use Rattle.std.specs.Prelude.{◌≡◌, ℕ, Some, None, Decides, IfOk, OnOk, OnErr};
 ghost use Rattle.bw_level.specs.Freeing.{IsUnreached};
 ghost use Rattle.bw_level.specs.Slots.{Free, left_of, slot_at};
 
 use super::Tree;
 use bw_key::Memory;
+use bw_memory::Alloc;
 use bw_page::PageId;
 
 impl Tree {
-    ghost use Rattle.bw_tree.specs.Freeing.{HasFreed, MayBeFreed};
+    ghost use Rattle.bw_tree.specs.Freeing.{HasEachRemoved, HasFreed, MayBeFreed};
 
     /// Gives back the identifier of a page that stands on no level and to which nothing leads: no page of a level has an index
     /// entry for it, and it is no removed page's left neighbour. The page's base page is let go, and a new page may take the
@@ -54,6 +55,16 @@ impl Tree {
             return false;
         }
         !self.is_left(page)
+    }
+
+    /// The removed pages whose identifiers aren't given back, and some whose identifiers were. It costs a list of them, for which
+    /// `Memory` is answered where it finds none.
+    pub fn removed_pages(&self) -> Result<Vec<PageId, Alloc>, Memory>
+        ensures { IfOk result (λ pages. HasEachRemoved self.now.slots pages.items) }
+    {
+        let mut pages = Vec::new(*self.heads.allocator());
+        pages.extend_from_slice(self.chains.removed_numbers())?;
+        Ok(pages)
     }
 
     // Whether a page is a removed one's left neighbour.

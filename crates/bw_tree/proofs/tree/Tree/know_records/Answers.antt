@@ -2,6 +2,7 @@ use Rattle.std.proofs.Common.{◌≡◌, ◌<◌, ◌≤◌, ◌^◌, length, sl
 use Rattle.std.proofs.lemmas.List.{length-map}
 use Rattle.bw_chain.specs.Chains.{slot_of_word}
 use Rattle.bw_level.specs.Reading.{writes_over}
+use Rattle.bw_level.specs.Searches.{AllStand}
 use Rattle.bw_level.specs.Slots.{slot_at}
 use Rattle.bw_tree.specs.Trees.{ArePlaced}
 use Rattle.bw_tree.specs.View.{TreeView}
@@ -13,6 +14,9 @@ pub returns-clause-there : goal.returns-clause-there
 returns-clause-there c = λ p on.
     subst (λ (v : TreeView). p < length v.heads) c.self.view_is
     (page_there c.self.inside.heads.items _ _ _ _ _ _ c.args.self.now p c.self.view_is c.self.invariant.now on)
+
+pub returns-clause-stand : goal.returns-clause-stand
+returns-clause-stand c = subst (λ (v : TreeView). AllStand v.slots v.levels) c.self.view_is c.self.invariant.now.stand
 
 pub returns-clause-placed : goal.returns-clause-placed
 returns-clause-placed c = subst (λ (v : TreeView). ArePlaced v.heads v.levels) c.self.view_is c.self.invariant.now.placed
