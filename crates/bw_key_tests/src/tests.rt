@@ -68,38 +68,40 @@ fn rise<R: Abort>(rt: &R, alloc: Alloc, rising: &[&[u8]]) {
     }
 }
 
+const RISING: &[&[u8]] = &[
+    b"",
+    b"\x00",
+    b"\x00\xff",
+    b"A",
+    b"a",
+    b"aa",
+    b"ab",
+    b"b",
+    b"\x7f",
+    b"\x80",
+    b"\xff",
+];
+
 #[test]
 fn keys_are_ordered_byte_by_byte(rt: HostRuntime) {
-    let rising: [&[u8]; 11] = [
-        b"",
-        b"\x00",
-        b"\x00\xff",
-        b"A",
-        b"a",
-        b"aa",
-        b"ab",
-        b"b",
-        b"\x7f",
-        b"\x80",
-        b"\xff",
-    ];
-    rise(&rt, heap(&rt, rt.alloc()), &rising);
+    rise(&rt, heap(&rt, rt.alloc()), RISING);
 }
+
+const RISING_ALIKE: &[&[u8]] = &[
+    b"abcdefg",
+    b"abcdefg\x00",
+    b"abcdefg\x00\x00",
+    b"abcdefg\x00a",
+    b"abcdefgh",
+    b"abcdefgh\x00",
+    b"abcdefgh\x00\x01",
+    b"abcdefghi",
+    b"abcdefgi",
+];
 
 #[test]
 fn keys_that_begin_alike_stand_by_their_rest(rt: HostRuntime) {
-    let rising: [&[u8]; 9] = [
-        b"abcdefg",
-        b"abcdefg\x00",
-        b"abcdefg\x00\x00",
-        b"abcdefg\x00a",
-        b"abcdefgh",
-        b"abcdefgh\x00",
-        b"abcdefgh\x00\x01",
-        b"abcdefghi",
-        b"abcdefgi",
-    ];
-    rise(&rt, heap(&rt, rt.alloc()), &rising);
+    rise(&rt, heap(&rt, rt.alloc()), RISING_ALIKE);
 }
 
 // The prefix of a key of these bytes.
@@ -107,17 +109,18 @@ fn prefix_of<R: Abort>(rt: &R, alloc: Alloc, bytes: &[u8]) -> u64 {
     key(rt, alloc, bytes).prefix()
 }
 
+const PREFIXES: &[(&[u8], u64)] = &[
+    (b"", 0),
+    (b"\x01", 0x0100_0000_0000_0000),
+    (b"abcdefg", 0x6162_6364_6566_6700),
+    (b"abcdefgh", 0x6162_6364_6566_6768),
+    (b"abcdefghi", 0x6162_6364_6566_6768),
+];
+
 #[test]
 fn a_prefix_has_eight_bytes(rt: HostRuntime) {
     let alloc = heap(&rt, rt.alloc());
-    let rows: [(&[u8], u64); 5] = [
-        (b"", 0),
-        (b"\x01", 0x0100_0000_0000_0000),
-        (b"abcdefg", 0x6162_6364_6566_6700),
-        (b"abcdefgh", 0x6162_6364_6566_6768),
-        (b"abcdefghi", 0x6162_6364_6566_6768),
-    ];
-    for (bytes, prefix) in rows {
+    for &(bytes, prefix) in PREFIXES {
         assert_equal(&rt, prefix_of(&rt, alloc, bytes), prefix);
     }
 }
@@ -230,18 +233,19 @@ fn is_shown<R: Abort>(rt: &R, alloc: Alloc, key: &Key, text: &str) {
     assert_that(rt, shown.as_str() == text);
 }
 
+const SPELLINGS: &[(&[u8], &str)] = &[
+    (b"apple", "apple"),
+    (b"az_AZ.09-", "az_AZ.09-"),
+    (b"", "%"),
+    (b"a b", "%612062"),
+    (b"\x00\xff", "%00ff"),
+    (b"%", "%25"),
+];
+
 #[test]
 fn keys_are_shown_plain_or_by_their_digits(rt: HostRuntime) {
     let alloc = heap(&rt, rt.alloc());
-    let rows: [(&[u8], &str); 6] = [
-        (b"apple", "apple"),
-        (b"az_AZ.09-", "az_AZ.09-"),
-        (b"", "%"),
-        (b"a b", "%612062"),
-        (b"\x00\xff", "%00ff"),
-        (b"%", "%25"),
-    ];
-    for (bytes, text) in rows {
+    for &(bytes, text) in SPELLINGS {
         is_shown(&rt, alloc, &key(&rt, alloc, bytes), text);
     }
 }

@@ -18,10 +18,10 @@ use bw_tree::Tree;
 /// Looks at all pages, as `tidy_due` does at those that are due. Before that each merge is finished, a root that was split
 /// gets a root above it, and each split is finished, level by level from the leaves up. No batch is staged.
 ///
-/// It costs a look at each mapping word, the list of all pages twice, two searches for each, and for each inner page some
-/// for each level below it; each merge and each split that it finishes copies the children of the page above. An identifier
-/// that is given back costs two searches, and a look at each removed page whose own isn't given back. At the first `Memory`
-/// it stops, and the tree holds the same. Where it doesn't stop, no leaf is over a limit, and so none has more than
+/// It costs the list of all pages twice, two searches for each, and for each inner page some for each level below it; each
+/// merge and each split that it finishes copies the children of the page above. An identifier that is given back costs a
+/// search, and a look at each removed page whose own isn't given back. At the first `Memory` it stops, and the tree holds
+/// the same. Where it doesn't stop, no leaf is over a limit, and so none has more than
 /// `page_max` and `chain_max` pairs together.
 pub fn tidy(tree: &mut Tree, limits: &Limits) -> Tidy
     requires { tree.old.staged ≡ None }
@@ -67,29 +67,27 @@ fn finish_all(tree: &mut Tree) -> Result<Due, Memory>
     all_pages(tree)
 }
 
-// Finishes each merge: a removed page isn't in the list of any level, so each identifier is looked at.
+// Finishes each merge, of which a removed page is left: it isn't in the list of any level.
 fn finish_merges(tree: &mut Tree) -> Result<(), Memory>
     requires { tree.old.staged ≡ None }
     ensures { HoldsAll tree.old tree.new }
 {
-    for place in 0..tree.heads().len() {
-        finish_merge(tree, place)?;
+    let pages = tree.removed_pages()?;
+    for place in 0..pages.len() {
+        finish_merge(tree, pages[place])?;
     }
     Ok(())
 }
 
-// Finishes the merge of the page of this mapping word, if it is a removed one, and gives its identifier back where nothing leads
-// to the page, and then that of a removed page to which it alone still led.
-fn finish_merge(tree: &mut Tree, place: usize) -> Result<(), Memory>
+// Finishes the merge of a page that was removed, and gives its identifier back where nothing leads to the page, and then that of
+// a removed page to which it alone still led.
+fn finish_merge(tree: &mut Tree, page: PageId) -> Result<(), Memory>
     requires { tree.old.staged ≡ None }
     ensures { HoldsAll tree.old tree.new }
 {
-    let Ok(number) = u32::try_from(place) else {
-        return Ok(());
-    };
-    let mut page = PageId(number);
+    let mut next = page;
     finish_absorb(tree, page)?;
-    release_run(tree, &mut page)?;
+    release_run(tree, &mut next)?;
     Ok(())
 }
 

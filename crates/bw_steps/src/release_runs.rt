@@ -13,8 +13,8 @@ use bw_tree::Tree;
 /// Gives back each identifier of a page that stands on no level and to which nothing leads. After `Memory` some of them may
 /// have been given back.
 ///
-/// It costs a list of the removed pages whose identifiers aren't given back, for each of them two searches and a look at each
-/// of them, and nothing for any other page: each stands on a level.
+/// It costs a list of the removed pages whose identifiers aren't given back, and for each of them a search and a look at each
+/// of them, so the square of a list that merges alone have made long. Any other page stands on a level, and costs nothing.
 pub fn release_all(tree: &mut Tree) -> Result<(), Memory>
     requires { tree.old.staged ≡ None }
     ensures freed { AreFreed tree.old tree.new }

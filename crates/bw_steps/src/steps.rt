@@ -26,8 +26,8 @@ pub enum Did {
 /// Consolidates a page: what its chain makes of its base page takes the place of that page, a leaf's as of the next stamp.
 /// It isn't needed where the page has no record, as a page of no level. No batch is staged.
 ///
-/// It costs a search, and for a page that has records a copy of its entries and the sorting of its writes. After `Memory`
-/// the tree is as before.
+/// It costs a look at the page's mapping word, and for a page that has records a search, a copy of its entries and the
+/// sorting of its writes. After `Memory` the tree is as before.
 pub fn consolidate(tree: &mut Tree, page: PageId) -> Result<Did, Memory>
     requires { tree.old.staged ≡ None }
     ensures ok { IfOk result (IsConsolidationStep tree.old tree.new page) }

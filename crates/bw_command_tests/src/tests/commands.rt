@@ -6,39 +6,42 @@ use bw_command::run_words;
 const HISTORY: &str =
     "insert a 1\ndelete a\ninsert a 2\ngo\nupdate a 3\ninsert a 4\ngo\ndelete a\nupsert a 5\nget a";
 
+const RUNS: &[&[&str]] = &[
+    &["run"],
+    &["run", "-"],
+    &["run", "--workers", "1", "--piece", "4096"],
+    &[
+        "run",
+        "--workers=64",
+        "-",
+        "--page-max=4",
+        "--page-min=2",
+        "--chain=1",
+    ],
+];
+
 #[test]
 fn standard_input_is_the_trace(rt: HostRuntime) {
     let runner = Runner::new(&rt, rt.alloc());
-    let commands: [&[&'static str]; 4] = [
-        &["run"],
-        &["run", "-"],
-        &["run", "--workers", "1", "--piece", "4096"],
-        &[
-            "run",
-            "--workers=64",
-            "-",
-            "--page-max=4",
-            "--page-min=2",
-            "--chain=1",
-        ],
-    ];
-    for words in commands {
+    for &words in RUNS {
         runner.expect_words(words, TWO_BATCHES, BOTH_TEXTS, "", 0);
     }
 }
 
+const DUMPS: &[(&str, &str)] = &[
+    ("", "contents 0\n"),
+    ("go\n", "contents 0\n"),
+    (HISTORY, "contents 1\na 5\n"),
+    (
+        "upsert ab 1\nupsert b 2\nupsert %6100 3\nupsert % 4\nupsert a 5",
+        "contents 5\n% 4\na 5\n%6100 3\nab 1\nb 2\n",
+    ),
+];
+
 #[test]
 fn a_dump_prints_what_is_held_at_the_end(rt: HostRuntime) {
     let runner = Runner::new(&rt, rt.alloc());
-    for (text, output) in [
-        ("", "contents 0\n"),
-        ("go\n", "contents 0\n"),
-        (HISTORY, "contents 1\na 5\n"),
-        (
-            "upsert ab 1\nupsert b 2\nupsert %6100 3\nupsert % 4\nupsert a 5",
-            "contents 5\n% 4\na 5\n%6100 3\nab 1\nb 2\n",
-        ),
-    ] {
+    for &(text, output) in DUMPS {
         runner.expect_words(&["dump"], text, output, "", 0);
     }
     runner.expect_words(&["run"], "go\n", "", "", 0);
@@ -89,21 +92,22 @@ fn batches_of_three_keep_to_both_bounds(rt: HostRuntime) {
     );
 }
 
+const NO_COMMANDS: &[&[&str]] = &[
+    &[],
+    &["shapes"],
+    &["-"],
+    &["run", "-", "-"],
+    &["run", "--workers"],
+    &["run", "--workers", "x"],
+    &["run", "--workers", "-1"],
+    &["run", "--bogus"],
+    &["run", "--piece", "18446744073709551616"],
+];
+
 #[test]
 fn other_words_are_no_command(rt: HostRuntime) {
     let runner = Runner::new(&rt, rt.alloc());
-    let commands: [&[&'static str]; 9] = [
-        &[],
-        &["shapes"],
-        &["-"],
-        &["run", "-", "-"],
-        &["run", "--workers"],
-        &["run", "--workers", "x"],
-        &["run", "--workers", "-1"],
-        &["run", "--bogus"],
-        &["run", "--piece", "18446744073709551616"],
-    ];
-    for words in commands {
+    for &words in NO_COMMANDS {
         let mut out = runner.sink();
         let mut errors = runner.sink();
         let input = runner.pieces(TWO_BATCHES);
@@ -122,21 +126,18 @@ fn other_words_are_no_command(rt: HostRuntime) {
     }
 }
 
-#[test]
-fn what_is_wrong_with_words_is_told(rt: HostRuntime) {
-    let runner = Runner::new(&rt, rt.alloc());
-    let cases: [(&[&'static str], &str); 3] = [
-        (
-            &["bogus"],
-            "error: invalid value 'bogus' for '<JOB>'
+const WRONG_WORDS: &[(&[&str], &str)] = &[
+    (
+        &["bogus"],
+        "error: invalid value 'bogus' for '<JOB>'
   [possible values: run, dump, shape, picture]
 
 For more information, try '--help'.
 ",
-        ),
-        (
-            &[],
-            "error: the following required arguments were not provided:
+    ),
+    (
+        &[],
+        "error: the following required arguments were not provided:
   <JOB>
 
 Usage: bw_run run [OPTIONS] [FILE]
@@ -146,16 +147,20 @@ Usage: bw_run run [OPTIONS] [FILE]
 
 For more information, try '--help'.
 ",
-        ),
-        (
-            &["run", "--workers", "x"],
-            "error: invalid value 'x' for '--workers <N>': invalid digit found in string
+    ),
+    (
+        &["run", "--workers", "x"],
+        "error: invalid value 'x' for '--workers <N>': invalid digit found in string
 
 For more information, try '--help'.
 ",
-        ),
-    ];
-    for (words, text) in cases {
+    ),
+];
+
+#[test]
+fn what_is_wrong_with_words_is_told(rt: HostRuntime) {
+    let runner = Runner::new(&rt, rt.alloc());
+    for &(words, text) in WRONG_WORDS {
         let mut out = runner.sink();
         let mut errors = runner.sink();
         let input = runner.pieces(TWO_BATCHES);
@@ -174,16 +179,17 @@ For more information, try '--help'.
     }
 }
 
+const FAULTY: &[(&[&str], &str, u8)] = &[
+    (&["run", "-"], "bogus", 3),
+    (&["run", "-"], "upsert a 1\ngo\nget", 3),
+    (&["run", "--workers", "0"], "get a", 2),
+    (&["bogus"], "get a", 2),
+];
+
 #[test]
 fn a_message_that_is_not_taken_leaves_the_status(rt: HostRuntime) {
     let runner = Runner::new(&rt, rt.alloc());
-    let commands: [(&[&'static str], &str, u8); 4] = [
-        (&["run", "-"], "bogus", 3),
-        (&["run", "-"], "upsert a 1\ngo\nget", 3),
-        (&["run", "--workers", "0"], "get a", 2),
-        (&["bogus"], "get a", 2),
-    ];
-    for (words, text, expected) in commands {
+    for &(words, text, expected) in FAULTY {
         let mut out = runner.sink();
         let mut errors = runner.sink_failing_at(1);
         let input = runner.pieces(text);

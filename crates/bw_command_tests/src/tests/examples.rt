@@ -144,17 +144,19 @@ was 1
 none
 ";
 
+const EXAMPLES: &[(&str, &str)] = &[
+    (FIRST, FIRST_TEXT),
+    (WRITES, WRITES_TEXT),
+    (SCANS, SCANS_TEXT),
+    (SPELLING, SPELLING_TEXT),
+    (VALUES, VALUES_TEXT),
+    (BATCHES, BATCHES_TEXT),
+];
+
 #[test]
 fn the_examples_print_what_stands_beside_them(rt: HostRuntime) {
     let runner = Runner::new(&rt, rt.alloc());
-    for (trace, text) in [
-        (FIRST, FIRST_TEXT),
-        (WRITES, WRITES_TEXT),
-        (SCANS, SCANS_TEXT),
-        (SPELLING, SPELLING_TEXT),
-        (VALUES, VALUES_TEXT),
-        (BATCHES, BATCHES_TEXT),
-    ] {
+    for &(trace, text) in EXAMPLES {
         runner.expect(trace, text, "", 0);
     }
 }

@@ -107,16 +107,18 @@ fn an_input_without_end_is_a_fault(rt: HostRuntime) {
     }
 }
 
+const TURNS_TAKEN: &[(u64, &str, &str, u8)] = &[
+    (0, "", "input does not end", 1),
+    (36, "", "input does not end", 1),
+    (37, FIRST_TEXT, "input does not end", 1),
+    (42, FIRST_TEXT, "input does not end", 1),
+    (43, BOTH_TEXTS, "", 0),
+];
+
 #[test]
 fn the_end_takes_a_turn(rt: HostRuntime) {
     let runner = Runner::new(&rt, rt.alloc());
-    for (turns, output, message, expected) in [
-        (0, "", "input does not end", 1),
-        (36, "", "input does not end", 1),
-        (37, FIRST_TEXT, "input does not end", 1),
-        (42, FIRST_TEXT, "input does not end", 1),
-        (43, BOTH_TEXTS, "", 0),
-    ] {
+    for &(turns, output, message, expected) in TURNS_TAKEN {
         let mut input = runner.pieces(TWO_BATCHES);
         input.piece = 1;
         runner.expect_of(input, turns, output, message, expected);

@@ -25,30 +25,30 @@ impl<R: Abort + Files + AllocGlobal + Threads + Clock + Sync> Runner<'_, R> {
     }
 }
 
+const FILES_READ: &[(&[&str], &str, (&str, &str, u8))] = &[
+    (&["run", "a.trace"], TWO_BATCHES, (BOTH_TEXTS, "", 0)),
+    (
+        &["dump", "a.trace"],
+        TWO_BATCHES,
+        ("contents 1\na 2\n", "", 0),
+    ),
+    (&["run", "a.trace"], "", ("", "", 0)),
+    (
+        &["run", "a.trace", "--batch-max", "1"],
+        "upsert a 1\nupsert b 2",
+        ("refused long 2 1\n", "", 4),
+    ),
+    (
+        &["run", "a.trace"],
+        "upsert a 1\ngo\nget",
+        ("new\n", "line 3: wrong number of words", 3),
+    ),
+];
+
 #[test]
 fn a_file_is_read_in_place_of_the_input(rt: HostRuntime) {
     let runner = Runner::new(&rt, rt.alloc());
-    let batch = "upsert a 1\nupsert b 2";
-    let cases: [(&[&'static str], &str, (&str, &str, u8)); 5] = [
-        (&["run", "a.trace"], TWO_BATCHES, (BOTH_TEXTS, "", 0)),
-        (
-            &["dump", "a.trace"],
-            TWO_BATCHES,
-            ("contents 1\na 2\n", "", 0),
-        ),
-        (&["run", "a.trace"], "", ("", "", 0)),
-        (
-            &["run", "a.trace", "--batch-max", "1"],
-            batch,
-            ("refused long 2 1\n", "", 4),
-        ),
-        (
-            &["run", "a.trace"],
-            "upsert a 1\ngo\nget",
-            ("new\n", "line 3: wrong number of words", 3),
-        ),
-    ];
-    for (words, text, expected) in cases {
+    for &(words, text, expected) in FILES_READ {
         runner.expect_file("a.trace", text, words, expected);
     }
 }

@@ -65,18 +65,19 @@ The status is 0 where all went well, 1 where reading, writing or memory failed, 
 words, 3 at a faulty line, and 4 where a batch was refused.
 ";
 
+const OUTPUTS: &[(&[&str], &str)] = &[
+    (&["--version"], "bw_run 0.1.0\n"),
+    (&["-V"], "bw_run 0.1.0\n"),
+    (&["--help"], HELP),
+    (&["-h"], HELP),
+    (&["run", "--help"], HELP),
+    (&["--workers", "0", "--help"], HELP),
+];
+
 #[test]
 fn help_and_version_are_outputs(rt: HostRuntime) {
     let runner = Runner::new(&rt, rt.alloc());
-    let commands: [(&[&'static str], &str); 6] = [
-        (&["--version"], "bw_run 0.1.0\n"),
-        (&["-V"], "bw_run 0.1.0\n"),
-        (&["--help"], HELP),
-        (&["-h"], HELP),
-        (&["run", "--help"], HELP),
-        (&["--workers", "0", "--help"], HELP),
-    ];
-    for (words, output) in commands {
+    for &(words, output) in OUTPUTS {
         runner.expect_words(words, "bogus", output, "", 0);
     }
 }

@@ -29,19 +29,20 @@ fn written_after(bytes: u64) -> usize {
     }
 }
 
+const COMMANDS: &[&[&str]] = &[
+    &["run"],
+    &["run", "--workers", "1", "--piece", "1"],
+    &["run", "--workers", "2", "--piece", "4096"],
+    &["run", "--workers", "16"],
+    &["run", "--page-max", "4", "--page-min", "1", "--chain", "1"],
+];
+
 #[test]
 fn four_batches_have_their_texts(rt: HostRuntime) {
     let runner = Runner::new(&rt, rt.alloc());
     assert_equal(&rt, FOUR_BATCHES.len(), 221);
     assert_equal(&rt, FOUR_TEXTS.len(), 179);
-    let commands: [&[&'static str]; 5] = [
-        &["run"],
-        &["run", "--workers", "1", "--piece", "1"],
-        &["run", "--workers", "2", "--piece", "4096"],
-        &["run", "--workers", "16"],
-        &["run", "--page-max", "4", "--page-min", "1", "--chain", "1"],
-    ];
-    for words in commands {
+    for &words in COMMANDS {
         runner.expect_words(words, FOUR_BATCHES, FOUR_TEXTS, "", 0);
     }
     runner.expect_words(&["dump"], FOUR_BATCHES, "contents 0\n", "", 0);
@@ -139,19 +140,21 @@ fn each_write_fails_in_turn(rt: HostRuntime) {
     runner.expect_message(&errors, "cannot write");
 }
 
+const WRONG_LINES: &[(&str, &str)] = &[
+    ("get\ta", "line 1: unknown word"),
+    ("get a\tb", "line 1: badly spelled key"),
+    ("get %4", "line 1: badly spelled key"),
+    ("upsert %4 x", "line 1: badly spelled key"),
+    ("scan * b 1", "line 1: badly spelled key"),
+    ("upsert a 000000000000000000001", NUMBER),
+    ("scan a * x", NUMBER),
+    ("upsert a ", "line 1: wrong number of words"),
+];
+
 #[test]
 fn wrong_lines_are_found(rt: HostRuntime) {
     let runner = Runner::new(&rt, rt.alloc());
-    for (text, message) in [
-        ("get\ta", "line 1: unknown word"),
-        ("get a\tb", "line 1: badly spelled key"),
-        ("get %4", "line 1: badly spelled key"),
-        ("upsert %4 x", "line 1: badly spelled key"),
-        ("scan * b 1", "line 1: badly spelled key"),
-        ("upsert a 000000000000000000001", NUMBER),
-        ("scan a * x", NUMBER),
-        ("upsert a ", "line 1: wrong number of words"),
-    ] {
+    for &(text, message) in WRONG_LINES {
         runner.expect_fault(text, message);
     }
     runner.expect("upsert a 1\nget a", "new\nis 1\n", "", 0);

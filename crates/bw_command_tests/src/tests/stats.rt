@@ -60,33 +60,33 @@ impl<R: Abort + Files + AllocGlobal + Threads + Clock + Sync> Runner<'_, R> {
     }
 }
 
+const STATS: &[(&[&str], &str, &str, u8)] = &[
+    (&["run", "--stats"], BOTH_TEXTS, OF_TWO_BATCHES, 0),
+    (&["--stats", "dump"], "contents 1\na 2\n", OF_TWO_BATCHES, 0),
+    (
+        &["shape", "-", "--stats"],
+        "leaf % * 1 2\n",
+        OF_TWO_BATCHES,
+        0,
+    ),
+    (
+        &["run", "--stats", "--batch-max", "3"],
+        "refused long 4 3\nnone\n",
+        "2 batches, 5 operations, 1 refused",
+        4,
+    ),
+    (
+        &["dump", "--stats", "--batch-max=3"],
+        "contents 0\n",
+        "2 batches, 5 operations, 1 refused",
+        4,
+    ),
+];
+
 #[test]
 fn batches_operations_and_refusals_are_told(rt: HostRuntime) {
     let runner = Runner::new(&rt, rt.alloc());
-    let refused = "2 batches, 5 operations, 1 refused";
-    let cases: [(&[&'static str], &str, &str, u8); 5] = [
-        (&["run", "--stats"], BOTH_TEXTS, OF_TWO_BATCHES, 0),
-        (&["--stats", "dump"], "contents 1\na 2\n", OF_TWO_BATCHES, 0),
-        (
-            &["shape", "-", "--stats"],
-            "leaf % * 1 2\n",
-            OF_TWO_BATCHES,
-            0,
-        ),
-        (
-            &["run", "--stats", "--batch-max", "3"],
-            "refused long 4 3\nnone\n",
-            refused,
-            4,
-        ),
-        (
-            &["dump", "--stats", "--batch-max=3"],
-            "contents 0\n",
-            refused,
-            4,
-        ),
-    ];
-    for (words, output, counts, status) in cases {
+    for &(words, output, counts, status) in STATS {
         let input = runner.pieces(TWO_BATCHES);
         runner.expect_stats(words, input, output, counts, status);
     }

@@ -102,40 +102,42 @@ fn a_batch_has_65536_operations_at_most(rt: HostRuntime) {
     runner.expect_repeated(("get a\n", 65_537, "go\nget b\n"), refused, "", 4);
 }
 
+const REPLIES: &[(&str, &str)] = &[
+    (
+        "insert a 1\ninsert a 2\nupdate a 3\ndelete a\nupdate a 4\nupsert a 5\nget a",
+        "inserted\nheld 1\nwas 1\nwas 3\nnone\nnew\nis 5\n",
+    ),
+    ("get a\ninsert a 1\nget a", "none\ninserted\nis 1\n"),
+    (
+        "scan % * 9\nupsert b 2\nscan % * 9",
+        "scan 0\nnew\nscan 1\nb 2\n",
+    ),
+    (
+        "upsert a 1\nupsert b 2\nupsert c 3\ngo\nscan b b 9\nscan c a 9\nscan a * 0\nscan % * 99\nscan a c 9\nscan b * 1",
+        "new\nnew\nnew\nscan 0\nscan 0\nscan 0\nscan 3\na 1\nb 2\nc 3\nscan 2\na 1\nb 2\nscan 1\nb 2\n",
+    ),
+    (
+        "insert a 1\ndelete a\ninsert a 2\ngo\nupdate a 3\ninsert a 4\ngo\ndelete a\nupsert a 5\nget a",
+        "inserted\nwas 1\ninserted\nwas 2\nheld 3\nwas 3\nnew\nis 5\n",
+    ),
+    (
+        "upsert ab 1\nupsert b 2\nupsert %6100 3\nupsert % 4\nupsert a 5\nscan % * 9",
+        "new\nnew\nnew\nnew\nnew\nscan 5\n% 4\na 5\n%6100 3\nab 1\nb 2\n",
+    ),
+    (
+        "# load\n  upsert   a   007\n\ngo\nget %61\nget %4A",
+        "new\nis 7\nnone\n",
+    ),
+    (
+        "swapif a 1 2\nupsert a 1\nswapif a 2 3\nswapif a 1 2\nget a\ninsert b 5\nrscan % * 1\nrscan a b 9\nrscan % * 9",
+        "none\nnew\nheld 1\nwas 1\nis 2\ninserted\nscan 1\nb 5\nscan 1\na 2\nscan 2\nb 5\na 2\n",
+    ),
+];
+
 #[test]
 fn each_operation_has_its_replies(rt: HostRuntime) {
     let runner = Runner::new(&rt, rt.alloc());
-    for (text, output) in [
-        (
-            "insert a 1\ninsert a 2\nupdate a 3\ndelete a\nupdate a 4\nupsert a 5\nget a",
-            "inserted\nheld 1\nwas 1\nwas 3\nnone\nnew\nis 5\n",
-        ),
-        ("get a\ninsert a 1\nget a", "none\ninserted\nis 1\n"),
-        (
-            "scan % * 9\nupsert b 2\nscan % * 9",
-            "scan 0\nnew\nscan 1\nb 2\n",
-        ),
-        (
-            "upsert a 1\nupsert b 2\nupsert c 3\ngo\nscan b b 9\nscan c a 9\nscan a * 0\nscan % * 99\nscan a c 9\nscan b * 1",
-            "new\nnew\nnew\nscan 0\nscan 0\nscan 0\nscan 3\na 1\nb 2\nc 3\nscan 2\na 1\nb 2\nscan 1\nb 2\n",
-        ),
-        (
-            "insert a 1\ndelete a\ninsert a 2\ngo\nupdate a 3\ninsert a 4\ngo\ndelete a\nupsert a 5\nget a",
-            "inserted\nwas 1\ninserted\nwas 2\nheld 3\nwas 3\nnew\nis 5\n",
-        ),
-        (
-            "upsert ab 1\nupsert b 2\nupsert %6100 3\nupsert % 4\nupsert a 5\nscan % * 9",
-            "new\nnew\nnew\nnew\nnew\nscan 5\n% 4\na 5\n%6100 3\nab 1\nb 2\n",
-        ),
-        (
-            "# load\n  upsert   a   007\n\ngo\nget %61\nget %4A",
-            "new\nis 7\nnone\n",
-        ),
-        (
-            "swapif a 1 2\nupsert a 1\nswapif a 2 3\nswapif a 1 2\nget a\ninsert b 5\nrscan % * 1\nrscan a b 9\nrscan % * 9",
-            "none\nnew\nheld 1\nwas 1\nis 2\ninserted\nscan 1\nb 5\nscan 1\na 2\nscan 2\nb 5\na 2\n",
-        ),
-    ] {
+    for &(text, output) in REPLIES {
         runner.expect(text, output, "", 0);
     }
 }
@@ -184,27 +186,29 @@ fn values_of_version_2_have_1024_bytes(rt: HostRuntime) {
     );
 }
 
+const VERSIONS: &[(&str, &str, &str, u8)] = &[
+    ("bw 2", "", "", 0),
+    ("  bw   2 \r\nupsert a 007\nget a", "new\nis 007\n", "", 0),
+    ("bw 2\nupsert a %4", "", "line 2: badly spelled value", 3),
+    ("get a\nbw 2", "", "line 2: unknown word", 3),
+    ("\nbw 2", "", "line 2: unknown word", 3),
+    ("bw 2\nbw 2", "", "line 2: unknown word", 3),
+    ("bw", "", "line 1: unknown word", 3),
+    ("bw 1", "", "line 1: unknown word", 3),
+    ("bw 02", "", "line 1: unknown word", 3),
+    ("bw 2 2", "", "line 1: unknown word", 3),
+    (
+        "upsert a x",
+        "",
+        "line 1: not a whole number up to 18446744073709551615",
+        3,
+    ),
+];
+
 #[test]
 fn the_first_line_alone_says_the_version(rt: HostRuntime) {
     let runner = Runner::new(&rt, rt.alloc());
-    for (text, output, message, status) in [
-        ("bw 2", "", "", 0),
-        ("  bw   2 \r\nupsert a 007\nget a", "new\nis 007\n", "", 0),
-        ("bw 2\nupsert a %4", "", "line 2: badly spelled value", 3),
-        ("get a\nbw 2", "", "line 2: unknown word", 3),
-        ("\nbw 2", "", "line 2: unknown word", 3),
-        ("bw 2\nbw 2", "", "line 2: unknown word", 3),
-        ("bw", "", "line 1: unknown word", 3),
-        ("bw 1", "", "line 1: unknown word", 3),
-        ("bw 02", "", "line 1: unknown word", 3),
-        ("bw 2 2", "", "line 1: unknown word", 3),
-        (
-            "upsert a x",
-            "",
-            "line 1: not a whole number up to 18446744073709551615",
-            3,
-        ),
-    ] {
+    for &(text, output, message, status) in VERSIONS {
         runner.expect(text, output, message, status);
     }
 }

@@ -46,59 +46,65 @@ fn is(value: Option<&[u8]>, text: Option<&'static str>) -> bool {
     }
 }
 
+const OVER_A_VALUE: &[Row] = &[
+    (
+        TextOp::Insert("k", "2"),
+        Some("1"),
+        TextReply::Held("1"),
+        Some("1"),
+    ),
+    (
+        TextOp::Upsert("k", "2"),
+        Some("1"),
+        TextReply::Was("1"),
+        Some("2"),
+    ),
+    (
+        TextOp::Update("k", "2"),
+        Some("1"),
+        TextReply::Was("1"),
+        Some("2"),
+    ),
+    (TextOp::Delete("k"), Some("1"), TextReply::Was("1"), None),
+    (
+        TextOp::SwapIf("k", "1", "2"),
+        Some("1"),
+        TextReply::Was("1"),
+        Some("2"),
+    ),
+    (
+        TextOp::SwapIf("k", "3", "2"),
+        Some("1"),
+        TextReply::Held("1"),
+        Some("1"),
+    ),
+];
+
 #[test]
 fn each_write_over_a_value(rt: HostRuntime) {
     let make = Maker::new(&rt, rt.alloc());
-    let one = Some("1");
-    let rows: [Row; 6] = [
-        (TextOp::Insert("k", "2"), one, TextReply::Held("1"), one),
-        (
-            TextOp::Upsert("k", "2"),
-            one,
-            TextReply::Was("1"),
-            Some("2"),
-        ),
-        (
-            TextOp::Update("k", "2"),
-            one,
-            TextReply::Was("1"),
-            Some("2"),
-        ),
-        (TextOp::Delete("k"), one, TextReply::Was("1"), None),
-        (
-            TextOp::SwapIf("k", "1", "2"),
-            one,
-            TextReply::Was("1"),
-            Some("2"),
-        ),
-        (
-            TextOp::SwapIf("k", "3", "2"),
-            one,
-            TextReply::Held("1"),
-            one,
-        ),
-    ];
-    for row in rows {
+    for &row in OVER_A_VALUE {
         compare(&rt, &make, row);
     }
 }
 
+const OVER_NONE: &[Row] = &[
+    (
+        TextOp::Insert("k", "2"),
+        None,
+        TextReply::Inserted,
+        Some("2"),
+    ),
+    (TextOp::Upsert("k", "2"), None, TextReply::New, Some("2")),
+    (TextOp::Update("k", "2"), None, TextReply::Absent, None),
+    (TextOp::Delete("k"), None, TextReply::Absent, None),
+    (TextOp::SwapIf("k", "1", "2"), None, TextReply::Absent, None),
+];
+
 #[test]
 fn each_write_where_there_is_no_value(rt: HostRuntime) {
     let make = Maker::new(&rt, rt.alloc());
-    let rows: [Row; 5] = [
-        (
-            TextOp::Insert("k", "2"),
-            None,
-            TextReply::Inserted,
-            Some("2"),
-        ),
-        (TextOp::Upsert("k", "2"), None, TextReply::New, Some("2")),
-        (TextOp::Update("k", "2"), None, TextReply::Absent, None),
-        (TextOp::Delete("k"), None, TextReply::Absent, None),
-        (TextOp::SwapIf("k", "1", "2"), None, TextReply::Absent, None),
-    ];
-    for row in rows {
+    for &row in OVER_NONE {
         compare(&rt, &make, row);
     }
 }
@@ -126,29 +132,31 @@ fn compare_replies<R: Abort>(
     has_reply(rt, make, op, None, absent);
 }
 
+// An operation, and its replies where its key has a 1 and where it has no value.
+const REPLIES: &[(TextOp, TextReply, TextReply)] = &[
+    (TextOp::Get("k"), TextReply::Found("1"), TextReply::Absent),
+    (
+        TextOp::Insert("k", "2"),
+        TextReply::Held("1"),
+        TextReply::Inserted,
+    ),
+    (TextOp::Delete("k"), TextReply::Was("1"), TextReply::Absent),
+    (
+        TextOp::SwapIf("k", "1", "2"),
+        TextReply::Was("1"),
+        TextReply::Absent,
+    ),
+    (
+        TextOp::SwapIf("k", "3", "2"),
+        TextReply::Held("1"),
+        TextReply::Absent,
+    ),
+];
+
 #[test]
 fn each_operation_answers_by_the_value_at_its_key(rt: HostRuntime) {
     let make = Maker::new(&rt, rt.alloc());
-    let rows = [
-        (TextOp::Get("k"), TextReply::Found("1"), TextReply::Absent),
-        (
-            TextOp::Insert("k", "2"),
-            TextReply::Held("1"),
-            TextReply::Inserted,
-        ),
-        (TextOp::Delete("k"), TextReply::Was("1"), TextReply::Absent),
-        (
-            TextOp::SwapIf("k", "1", "2"),
-            TextReply::Was("1"),
-            TextReply::Absent,
-        ),
-        (
-            TextOp::SwapIf("k", "3", "2"),
-            TextReply::Held("1"),
-            TextReply::Absent,
-        ),
-    ];
-    for (text, there, absent) in rows {
+    for &(text, there, absent) in REPLIES {
         compare_replies(&rt, &make, &make.op(text), (there, absent));
     }
 }

@@ -68,35 +68,37 @@ const NINE: &[Pair] = &[("a", "1"), ("b", "9"), ("c", "3")];
 
 const NONE: &[Pair] = &[("a", "1"), ("c", "3")];
 
+const OVER_TWO: &[Row] = &[
+    (TextOp::Get("b"), TextReply::Found("2"), TWO),
+    (TextOp::Insert("b", "9"), TextReply::Held("2"), TWO),
+    (TextOp::Upsert("b", "9"), TextReply::Was("2"), NINE),
+    (TextOp::Update("b", "9"), TextReply::Was("2"), NINE),
+    (TextOp::Delete("b"), TextReply::Was("2"), NONE),
+    (TextOp::SwapIf("b", "2", "9"), TextReply::Was("2"), NINE),
+    (TextOp::SwapIf("b", "1", "9"), TextReply::Held("2"), TWO),
+];
+
 #[test]
 fn each_operation_over_a_key_that_is_there(rt: HostRuntime) {
     let make = Maker::new(&rt, rt.alloc());
-    let rows: [Row; 7] = [
-        (TextOp::Get("b"), TextReply::Found("2"), TWO),
-        (TextOp::Insert("b", "9"), TextReply::Held("2"), TWO),
-        (TextOp::Upsert("b", "9"), TextReply::Was("2"), NINE),
-        (TextOp::Update("b", "9"), TextReply::Was("2"), NINE),
-        (TextOp::Delete("b"), TextReply::Was("2"), NONE),
-        (TextOp::SwapIf("b", "2", "9"), TextReply::Was("2"), NINE),
-        (TextOp::SwapIf("b", "1", "9"), TextReply::Held("2"), TWO),
-    ];
-    for row in rows {
+    for &row in OVER_TWO {
         compare(&rt, &make, TWO, row);
     }
 }
 
+const OVER_NONE: &[Row] = &[
+    (TextOp::Get("b"), TextReply::Absent, NONE),
+    (TextOp::Insert("b", "9"), TextReply::Inserted, NINE),
+    (TextOp::Upsert("b", "9"), TextReply::New, NINE),
+    (TextOp::Update("b", "9"), TextReply::Absent, NONE),
+    (TextOp::Delete("b"), TextReply::Absent, NONE),
+    (TextOp::SwapIf("b", "1", "9"), TextReply::Absent, NONE),
+];
+
 #[test]
 fn each_operation_over_a_key_that_is_not_there(rt: HostRuntime) {
     let make = Maker::new(&rt, rt.alloc());
-    let rows: [Row; 6] = [
-        (TextOp::Get("b"), TextReply::Absent, NONE),
-        (TextOp::Insert("b", "9"), TextReply::Inserted, NINE),
-        (TextOp::Upsert("b", "9"), TextReply::New, NINE),
-        (TextOp::Update("b", "9"), TextReply::Absent, NONE),
-        (TextOp::Delete("b"), TextReply::Absent, NONE),
-        (TextOp::SwapIf("b", "1", "9"), TextReply::Absent, NONE),
-    ];
-    for row in rows {
+    for &row in OVER_NONE {
         compare(&rt, &make, NONE, row);
     }
 }
@@ -191,22 +193,23 @@ fn has_range<R: Abort>(
 
 const ALL: [Pair; 4] = [("", "0"), ("a", "1"), ("b", "2"), ("c", "3")];
 
+// Where a range begins and ends, and the places of its pairs.
+const RANGES: &[(&str, Option<&str>, usize, usize)] = &[
+    ("", None, 0, 4),
+    ("a", None, 1, 4),
+    ("a", Some("c"), 1, 3),
+    ("a\0", Some("c\0"), 2, 4),
+    ("b", Some("b"), 0, 0),
+    ("c", Some("a"), 0, 0),
+    ("d", None, 0, 0),
+    ("", Some("a"), 0, 1),
+];
+
 #[test]
 fn a_range_has_its_lower_end_and_not_its_upper_one(rt: HostRuntime) {
     let make = Maker::new(&rt, rt.alloc());
     let map = map_of(&rt, &make, &ALL);
-    // Where a range begins and ends, and the places of its pairs.
-    let rows = [
-        ("", None, 0, 4),
-        ("a", None, 1, 4),
-        ("a", Some("c"), 1, 3),
-        ("a\0", Some("c\0"), 2, 4),
-        ("b", Some("b"), 0, 0),
-        ("c", Some("a"), 0, 0),
-        ("d", None, 0, 0),
-        ("", Some("a"), 0, 1),
-    ];
-    for (from, to, first, end) in rows {
+    for &(from, to, first, end) in RANGES {
         has_range(&rt, &make, &map, (from, to), &ALL[first..end]);
     }
 }
@@ -224,31 +227,33 @@ fn are_answered<R: Abort>(
     assert_that(rt, are_replies(answered.as_slice(), replies));
 }
 
+const BATCH: &[TextOp] = &[
+    TextOp::Get("a"),
+    TextOp::Upsert("a", "1"),
+    TextOp::Scan("", None, 9),
+    TextOp::Upsert("b", "2"),
+    TextOp::Get("a"),
+    TextOp::Rscan("", None, 9),
+    TextOp::Delete("a"),
+    TextOp::Get("a"),
+];
+
+const ANSWERS: &[TextReply] = &[
+    TextReply::Absent,
+    TextReply::New,
+    TextReply::Pairs(&[("a", "1")]),
+    TextReply::New,
+    TextReply::Found("1"),
+    TextReply::Pairs(&[("b", "2"), ("a", "1")]),
+    TextReply::Was("1"),
+    TextReply::Absent,
+];
+
 #[test]
 fn a_batch_runs_in_its_order(rt: HostRuntime) {
     let make = Maker::new(&rt, rt.alloc());
-    let ops = [
-        TextOp::Get("a"),
-        TextOp::Upsert("a", "1"),
-        TextOp::Scan("", None, 9),
-        TextOp::Upsert("b", "2"),
-        TextOp::Get("a"),
-        TextOp::Rscan("", None, 9),
-        TextOp::Delete("a"),
-        TextOp::Get("a"),
-    ];
-    let replies = [
-        TextReply::Absent,
-        TextReply::New,
-        TextReply::Pairs(&[("a", "1")]),
-        TextReply::New,
-        TextReply::Found("1"),
-        TextReply::Pairs(&[("b", "2"), ("a", "1")]),
-        TextReply::Was("1"),
-        TextReply::Absent,
-    ];
     let mut map = ReferenceMap::new(make.alloc);
-    are_answered(&rt, &make, &mut map, &ops, &replies);
+    are_answered(&rt, &make, &mut map, BATCH, ANSWERS);
     holds(&rt, &map, &[("b", "2")]);
     are_answered(&rt, &make, &mut map, &[], &[]);
     holds(&rt, &map, &[("b", "2")]);

@@ -107,20 +107,21 @@ fn each_piece_of_work_meets_each_refusal(rt: HostRuntime) {
     is_batch_refused(&rt, &make, &[]);
 }
 
+const EACH: &[TextOp] = &[
+    TextOp::Get(LONG),
+    TextOp::Insert(LONG, "2"),
+    TextOp::Upsert(LONG, "2"),
+    TextOp::Update(LONG, "2"),
+    TextOp::Delete(LONG),
+    TextOp::SwapIf(LONG, LONG, "2"),
+    TextOp::Scan("", None, 9),
+    TextOp::Rscan("", None, 9),
+];
+
 #[test]
 fn each_operation_meets_each_refusal(rt: HostRuntime) {
     let make = Maker::new(&rt, rt.alloc());
-    let texts = [
-        TextOp::Get(LONG),
-        TextOp::Insert(LONG, "2"),
-        TextOp::Upsert(LONG, "2"),
-        TextOp::Update(LONG, "2"),
-        TextOp::Delete(LONG),
-        TextOp::SwapIf(LONG, LONG, "2"),
-        TextOp::Scan("", None, 9),
-        TextOp::Rscan("", None, 9),
-    ];
-    for text in texts {
+    for &text in EACH {
         assert_that(&rt, op_refusals(&rt, &make, text) > 0);
     }
 }

@@ -8,7 +8,7 @@ use bw_model::{Op, Reply};
 use std::process::Abort;
 use std::test::Fail;
 
-const OPS: [(TextOp, &str); 10] = [
+const OPS: &[(TextOp, &str)] = &[
     (TextOp::Get("ada"), "get ada"),
     (TextOp::Insert("", "1"), "insert % 1"),
     (TextOp::Upsert("a b", "x"), "upsert %612062 x"),
@@ -24,7 +24,7 @@ const OPS: [(TextOp, &str); 10] = [
     ),
 ];
 
-const REPLIES: [(TextReply, &str); 8] = [
+const REPLIES: &[(TextReply, &str)] = &[
     (TextReply::Found("1"), "is 1"),
     (TextReply::Absent, "none"),
     (TextReply::Inserted, "inserted"),
@@ -57,7 +57,7 @@ fn has_text<R: Abort>(make: &Maker<'_, R>, rt: &R, op: TextOp, text: &str) {
 #[test]
 fn an_operation_is_shown_as_the_line_of_a_trace(rt: HostRuntime) {
     let make = Maker::new(&rt, rt.alloc());
-    for (op, text) in OPS {
+    for &(op, text) in OPS {
         has_text(&make, &rt, op, text);
     }
 }
@@ -65,7 +65,7 @@ fn an_operation_is_shown_as_the_line_of_a_trace(rt: HostRuntime) {
 #[test]
 fn a_reply_is_shown_as_it_is_printed(rt: HostRuntime) {
     let make = Maker::new(&rt, rt.alloc());
-    for (reply, text) in REPLIES {
+    for &(reply, text) in REPLIES {
         is_shown_reply(&make, &rt, &make.reply(reply), text);
     }
 }

@@ -44,27 +44,28 @@ fn each_reply_has_its_text(rt: HostRuntime) {
     );
 }
 
+const SPELLINGS: &[(&[u8], &str)] = &[
+    (b"", "is %\n"),
+    (b"azAZ09_.-", "is azAZ09_.-\n"),
+    (b"a b", "is %612062\n"),
+    (b"%", "is %25\n"),
+    (b"a%", "is %6125\n"),
+    (b"*", "is %2a\n"),
+    (b"\x00", "is %00\n"),
+    (b"\n", "is %0a\n"),
+    (b"/:@", "is %2f3a40\n"),
+    (b"[`{", "is %5b607b\n"),
+    (b"\xff\xab\xcd", "is %ffabcd\n"),
+    (
+        b"an identifier of more than 24 bytes",
+        "is %616e206964656e746966696572206f66206d6f7265207468616e203234206279746573\n",
+    ),
+];
+
 #[test]
 fn values_are_plain_or_digits(rt: HostRuntime) {
     let make = Maker::new(&rt, rt.alloc());
-    let spellings: [(&[u8], &str); 12] = [
-        (b"", "is %\n"),
-        (b"azAZ09_.-", "is azAZ09_.-\n"),
-        (b"a b", "is %612062\n"),
-        (b"%", "is %25\n"),
-        (b"a%", "is %6125\n"),
-        (b"*", "is %2a\n"),
-        (b"\x00", "is %00\n"),
-        (b"\n", "is %0a\n"),
-        (b"/:@", "is %2f3a40\n"),
-        (b"[`{", "is %5b607b\n"),
-        (b"\xff\xab\xcd", "is %ffabcd\n"),
-        (
-            b"an identifier of more than 24 bytes",
-            "is %616e206964656e746966696572206f66206d6f7265207468616e203234206279746573\n",
-        ),
-    ];
-    for (bytes, text) in spellings {
+    for &(bytes, text) in SPELLINGS {
         make.expect_reply(Reply::Found(make.value(bytes)), text);
     }
 }

@@ -25,21 +25,22 @@ fn three_leaves_have_a_root_behind_them(rt: HostRuntime) {
     has(&rt, alloc, &tree, 0, &AT_FIRST);
 }
 
+const HOMES: &[(&[u8], u32)] = &[
+    (b"", 0),
+    (b"bzz", 0),
+    (b"c", 1),
+    (b"d", 1),
+    (b"dz", 1),
+    (b"e", 2),
+    (b"z", 2),
+];
+
 #[test]
 fn each_key_is_sought_in_the_leaf_whose_range_has_it(rt: HostRuntime) {
     let alloc = heap(&rt, rt.alloc());
     let tree = three_leaves(&rt, alloc);
     alloc.refuse(1);
-    let wanted: [(&[u8], u32); 7] = [
-        (b"", 0),
-        (b"bzz", 0),
-        (b"c", 1),
-        (b"d", 1),
-        (b"dz", 1),
-        (b"e", 2),
-        (b"z", 2),
-    ];
-    for (bytes, page) in wanted {
+    for &(bytes, page) in HOMES {
         assert_equal(&rt, tree.route(&key(&rt, alloc, bytes)), PageId(page));
     }
     assert_equal(&rt, alloc.left(), 1);
