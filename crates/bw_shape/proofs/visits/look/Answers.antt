@@ -2,6 +2,7 @@ use Rattle.std.proofs.Common.{◌≤◌, [], ◌∷◌, length, ◌∙◌, sym, 
 use Rattle.std.proofs.lemmas.List.{length-append}
 use Rattle.bw_level.specs.Slots.{slot_at}
 use Rattle.bw_level.specs.Splits.{slot_entries}
+use Rattle.bw_tree.specs.View.{TreeView}
 use Rattle.bw_shape.specs.Limits.{AreWithinBut}
 use Rattle.bw_shape.proofs.TidyLemmas.{few_within, holds_on, holds_same, within_bare, within_pass}
 use Rattle.bw_shape.proofs.visits.look.Goals as goal
@@ -26,6 +27,11 @@ returns-then-entries-page_max-clause-within c =
 pub returns-then-entries-page_max-clause-less : goal.returns-then-entries-page_max-clause-less
 returns-then-entries-page_max-clause-less c =
     omega (arith, ap length (sym c.end_leaf.ensures.pages ∙ c.pass.ensures.pages c.args.page (c.requires.next.0, c.end_leaf.ensures.pages ∙ c.requires.next.1)), length-append c.pass.new.self.pages (c.args.page ∷ []))
+
+pub returns-in_err-bare-clause-within : goal.returns-in_err-bare-clause-within
+returns-in_err-bare-clause-within c =
+    subst (λ (tree : TreeView). AreWithinBut c.args.limits.now tree c.end_leaf.new.self.pages) (sym c.in_err-bare.ensures.err)
+    (subst (AreWithinBut c.args.limits.now c.args.tree.now) (sym c.end_leaf.ensures.pages) c.requires.within)
 
 pub part_all-requires-clause-within : goal.part_all-requires-clause-within
 part_all-requires-clause-within c =
