@@ -1,7 +1,8 @@
 // Tidying of trees to which batches were posted, and a batch behind it.
-ghost use Rattle.std.specs.Prelude.{◌≡◌, ◌<◌, ◌≤◌, ◌+◌, ◌^◌, ◌⊎◌, true, None, reverse, length};
+ghost use Rattle.std.specs.Prelude.{◌≡◌, ℕ, ◌<◌, ◌≤◌, ◌+◌, ◌^◌, ◌⊎◌, true, None, reverse, length};
 ghost use Rattle.std.specs.List.{Contains};
 ghost use Rattle.bw_tree.specs.Levels.{row};
+ghost use Rattle.bw_tree.specs.Searches.{IsInLevels};
 ghost use Rattle.bw_tree.specs.Slots.{slot_at};
 ghost use Rattle.bw_shape.specs.Limits.{AreWithinBut, IsWithin};
 
@@ -57,11 +58,19 @@ fn is_due_or_within(tree: &Tree, limits: &Limits, pages: &[PageId], page: PageId
             && tree.entries(page) as u64 <= limits.page_max())
 }
 
+// What every tree keeps of its mapping words that the next one needs: more facts are too many for the search.
+fn know_words(tree: &Tree)
+    ensures there { (p : ℕ) → IsInLevels tree.now.levels p → p < length tree.now.heads }
+    ensures few { length tree.now.heads ≤ 2 ^ 32 }
+{
+    tree.know_records();
+}
+
 // Whether each page is one of these, or keeps to the limits of a leaf.
 fn are_within_but(tree: &Tree, limits: &Limits, pages: &[PageId]) -> bool
     ensures { result ≡ true → AreWithinBut limits.now tree.now (reverse pages.now) }
 {
-    tree.know_records();
+    know_words(tree);
     for page in 0..tree.heads().len() {
         if !is_due_or_within(tree, limits, pages, PageId(page as u32)) {
             return false;
