@@ -15,7 +15,7 @@ use Rattle.bw_delta.proofs.Histories.{same_history}
 use Rattle.bw_tree.specs.Levels.{IsHome, row}
 use Rattle.bw_tree.specs.Reading.{base_of, value_in, writes_over}
 use Rattle.bw_tree.specs.Slots.{Slot, slot_at}
-use Rattle.bw_tree.specs.View.{TreeView, contents_at}
+use Rattle.bw_look.specs.View.{TreeView, contents_at}
 use Rattle.bw_group.specs.Homes.{HasPageAt}
 use Rattle.bw_group.specs.Points.{Entry, HasKey, IsEntryOf, IsPointOf, entries_of}
 use Rattle.bw_group.specs.declared.points.Point.{Point}

@@ -16,7 +16,7 @@ use Rattle.bw_delta.specs.History.{history, action_at}
 use Rattle.bw_delta.specs.Rising.{HasRisingStamps}
 use Rattle.bw_delta.specs.Readings.{from_stamp}
 use Rattle.bw_delta.proofs.Readings.{all_left, resumed, left_later}
-use Rattle.bw_tree.specs.View.{contents_at}
+use Rattle.bw_look.specs.View.{contents_at}
 use Rattle.bw_group.specs.Points.{Entry, entries_of, is_get, places_of, HasRisingPlaces}
 use Rattle.bw_model.specs.Model.{key_of}
 use Rattle.bw_group.specs.declared.points.Point.{Point}

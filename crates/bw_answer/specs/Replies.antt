@@ -13,7 +13,7 @@ use Rattle.bw_model.specs.declared.operations.Reply.{Reply}
 use Rattle.bw_model.specs.declared.operations.Reply.TheVariants.{Absent}
 use Rattle.bw_delta.specs.Writes.{WriteView}
 use Rattle.bw_delta.specs.History.{history, action_at}
-use Rattle.bw_tree.specs.View.{TreeView, contents_at}
+use Rattle.bw_look.specs.View.{TreeView, contents_at}
 use Rattle.bw_group.specs.Homes.{AreHomes, HomesView}
 use Rattle.bw_group.specs.Points.{entries_at, entries_of, places_of, HasRisingPlaces, IsEntryOf, IsPointOf}
 use Rattle.bw_group.specs.declared.points.Point.{Point}

@@ -6,7 +6,7 @@ ghost use Rattle.std.specs.Option.{option_copied};
 ghost use Rattle.bw_delta.specs.History.{pointed_to};
 ghost use Rattle.bw_delta.specs.Rising.{HasRisingStamps};
 ghost use Rattle.bw_tree.specs.Levels.{IsHome, row};
-ghost use Rattle.bw_tree.specs.View.{contents_at};
+ghost use Rattle.bw_look.specs.View.{contents_at};
 ghost use Rattle.bw_group.specs.Points.{entries_of, HasRisingPlaces, IsEntryOf, IsPointOf, IsScanOf};
 ghost use Rattle.bw_model.specs.Model.{found, key_of, reply_of};
 ghost use Rattle.bw_answer.specs.Parts.{IsPartOf, places_in};
@@ -235,7 +235,7 @@ impl<'a> BatchReader<'a> {
         requires { AllByRecursion (IsScanOf self.now.ops) scans.now }
         ensures { OnOk result (answers.new.items ≡ answers.old.items ++ answers_to self.now scans.now) }
     {
-        let mut reading = Scans::new(alloc, self.tree);
+        let mut reading = Scans::new(alloc, self.tree.look());
         for scan in scans {
             let place = *scan;
             let stamp = self.base + place as u64;

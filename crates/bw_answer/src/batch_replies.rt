@@ -2,7 +2,7 @@
 ghost use Rattle.std.specs.Prelude.{◌≡◌, ◌+◌, ◌<◌, ◌≤◌, ◌^◌, length, IfOk, OnOk, flat_map};
 ghost use Rattle.std.specs.List.{AllByRecursion};
 ghost use Rattle.bw_model.specs.Model.{replies_of};
-ghost use Rattle.bw_tree.specs.View.{contents_at};
+ghost use Rattle.bw_look.specs.View.{contents_at};
 ghost use Rattle.bw_group.specs.Homes.{AreHomes};
 ghost use Rattle.bw_group.specs.Points.{IsScanOf};
 ghost use Rattle.bw_answer.specs.Replies.{ArePointsOf, HasContentsInTurn};

@@ -5,7 +5,7 @@ use Rattle.bw_model.specs.Model.{contents_after}
 use Rattle.bw_model.specs.declared.operations.Op.{Op}
 use Rattle.bw_delta.specs.Batches.{writes_of}
 use Rattle.bw_tree.specs.Stages.{accepted_tree, adopted_stage, is_adopted, staged_on, undone_tree}
-use Rattle.bw_tree.specs.View.{TreeView, StageView, contents_at, contents_with}
+use Rattle.bw_look.specs.View.{TreeView, StageView, contents_at, contents_with}
 use Rattle.bw_post.specs.Posting.{IsWaiting}
 use Rattle.bw_batch.specs.Stages.{operations_staged}
 

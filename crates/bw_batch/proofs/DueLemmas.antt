@@ -15,7 +15,7 @@ use Rattle.bw_level.specs.Slots.{Slot, Body, Pairs, Children, Free, Gone, Live, 
 use Rattle.bw_level.specs.Turns.{slot_without_writes}
 use Rattle.bw_model.specs.declared.operations.Op.{Op}
 use Rattle.bw_tree.specs.Stages.{LeavesHaveAll, accepted_tree, staged_on}
-use Rattle.bw_tree.specs.View.{StageView, TreeView, staged_writes}
+use Rattle.bw_look.specs.View.{StageView, TreeView, staged_writes}
 use Rattle.bw_tree.specs.Words.{IsPostedStageOn}
 use Rattle.bw_shape.specs.Limits.{LimitsView, AreWithinBut, IsWithin}
 use Rattle.bw_shape.specs.Tidying.{DueView, HasBoth, KeepsWithin}

@@ -14,10 +14,10 @@ use Rattle.bw_level.specs.Scans.{high_of}
 use Rattle.bw_level.specs.Slots.{Slot, PageState, Body, Pairs, Children, IsSoundBody, body_is_leaf, is_leaf, level_of, slot_at}
 use Rattle.bw_level.proofs.LeafRowLemmas.{low_below}
 use Rattle.bw_level.specs.Splits.{slot_entries}
-use Rattle.bw_tree.specs.Shapes.{level_shape, levels_shape, page_shape, pairs_on, shape_of}
-use Rattle.bw_tree.specs.View.{TreeView, contents_at}
-use Rattle.bw_tree.specs.declared.tree.shape.PageShape.{PageShape}
-use Rattle.bw_tree.proofs.LeafLemmas.{high_is}
+use Rattle.bw_look.specs.Shapes.{level_shape, levels_shape, page_shape, pairs_on, shape_of}
+use Rattle.bw_look.specs.View.{TreeView, contents_at}
+use Rattle.bw_look.specs.declared.look.shape.PageShape.{PageShape}
+use Rattle.bw_look.proofs.LeafLemmas.{high_is}
 use Rattle.bw_batch.specs.Lens.{leaf_pairs}
 use Rattle.bw_batch.proofs.ContentsLemmas.{all_in_range}
 

@@ -8,10 +8,10 @@ use Rattle.bw_level.specs.Before.{low_of}
 use Rattle.bw_level.specs.Scans.{high_of}
 use Rattle.bw_level.specs.Slots.{Slot, Free, Gone, Live, slot_at}
 use Rattle.bw_level.specs.Turns.{slot_without_writes}
-use Rattle.bw_tree.specs.Shapes.{level_shape, levels_shape, page_shape, shape_of}
+use Rattle.bw_look.specs.Shapes.{level_shape, levels_shape, page_shape, shape_of}
 use Rattle.bw_tree.specs.Stages.{accepted_tree, staged_on}
-use Rattle.bw_tree.specs.View.{StageView, TreeView}
-use Rattle.bw_tree.specs.declared.tree.shape.PageShape.{PageShape}
+use Rattle.bw_look.specs.View.{StageView, TreeView}
+use Rattle.bw_look.specs.declared.look.shape.PageShape.{PageShape}
 use Rattle.bw_model.specs.declared.operations.Op.{Op}
 use Rattle.bw_shape.specs.Leaves.{LeafRange, leaf_range, leaf_ranges}
 use Rattle.bw_shape.proofs.LeafLemmas.{HasSameRange, same_leaves, same_row}

@@ -1,6 +1,6 @@
 -- The leaves among the pages of an index, in the order of keys, each with its range.
 use Rattle.std.specs.Prelude.{List, [], ◌∷◌, nat_eq, if◌then◌else◌}
-use Rattle.bw_tree.specs.declared.tree.shape.PageShape.{PageShape}
+use Rattle.bw_look.specs.declared.look.shape.PageShape.{PageShape}
 use Rattle.bw_shape.specs.Leaves.{LeafRange}
 
 abbrev pub range_of : PageShape → LeafRange

@@ -4,7 +4,7 @@ use Rattle.std.specs.FinMap.{len}
 use Rattle.bw_model.specs.Contents.{Contents}
 use Rattle.bw_model.specs.Model.{contents_after, replies_of}
 use Rattle.bw_model.specs.Values.{ValueBytes}
-use Rattle.bw_tree.specs.declared.tree.shape.PageShape.{PageShape}
+use Rattle.bw_look.specs.declared.look.shape.PageShape.{PageShape}
 use Rattle.bw_model.specs.declared.operations.Op.{Op}
 use Rattle.bw_model.specs.declared.operations.Op.TheVariants.{Get, Insert, Upsert, Update, Delete, SwapIf, Scan, Rscan}
 use Rattle.bw_model.specs.declared.operations.Reply.{Reply}

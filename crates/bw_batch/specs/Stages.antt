@@ -1,6 +1,6 @@
 -- What is staged.
 use Rattle.std.specs.Prelude.{ℕ, Option, Some, None}
-use Rattle.bw_tree.specs.View.{StageView}
+use Rattle.bw_look.specs.View.{StageView}
 
 -- how many operations a staged batch has
 abbrev pub operations_staged : Option StageView → ℕ

@@ -5,9 +5,9 @@ use Rattle.bw_model.specs.Values.{ValueBytes}
 use Rattle.bw_delta.specs.History.{HasDistinctStamps}
 use Rattle.bw_level.specs.Levels.{AreLevels, row}
 use Rattle.bw_level.specs.Reading.{row_writes}
-use Rattle.bw_tree.specs.Shapes.{shape_of}
-use Rattle.bw_tree.specs.View.{TreeView, contents_at}
-use Rattle.bw_tree.specs.declared.tree.shape.PageShape.{PageShape}
+use Rattle.bw_look.specs.Shapes.{shape_of}
+use Rattle.bw_look.specs.View.{TreeView, contents_at}
+use Rattle.bw_look.specs.declared.look.shape.PageShape.{PageShape}
 use Rattle.bw_shape.specs.Limits.{AreWithinBut}
 use Rattle.bw_batch.specs.Settings.{limits_of}
 use Rattle.bw_batch.specs.View.{IndexView, contents_of, next_stamp_of, settings_of}

@@ -4,7 +4,7 @@ ghost use Rattle.bw_core.specs.Keeping.{pairs_of};
 ghost use Rattle.bw_delta.specs.Batches.{writes_of};
 ghost use Rattle.bw_model.specs.Model.{contents_after, replies_of};
 ghost use Rattle.bw_tree.specs.Stages.{is_adopted, undone_tree};
-ghost use Rattle.bw_tree.specs.View.{contents_at, contents_with, staged_writes};
+ghost use Rattle.bw_look.specs.View.{contents_at, contents_with, staged_writes};
 ghost use Rattle.bw_post.specs.Posting.{IsWaiting};
 ghost use Rattle.bw_shape.specs.Leaves.{leaf_ranges};
 ghost use Rattle.bw_shape.specs.Tidying.{HasBoth, KeepsWithin};
@@ -103,6 +103,7 @@ fn answer_staged<R: Threads + Sync, G: Gate>(
         pages,
         closed,
         lost,
+        ..
     } = post_all(rt, alloc, tree, batch, piece, workers, gate)?;
     let written = Vec::from_slice(alloc, &pages)?;
     tree.adopt_on(pages, closed);

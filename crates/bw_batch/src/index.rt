@@ -5,8 +5,8 @@ ghost use Rattle.bw_core.specs.Keeping.{pairs_of};
 ghost use Rattle.bw_delta.specs.Batches.{writes_of};
 ghost use Rattle.bw_model.specs.Contents.{pairs_of_range};
 ghost use Rattle.bw_shape.specs.Limits.{AreWithinBut};
-ghost use Rattle.bw_tree.specs.Shapes.{shape_of};
-ghost use Rattle.bw_tree.specs.View.{contents_at};
+ghost use Rattle.bw_look.specs.Shapes.{shape_of};
+ghost use Rattle.bw_look.specs.View.{contents_at};
 
 use crate::batch::{Answered, run_batch};
 use crate::key_counts::{count_pairs, len_after};
@@ -63,8 +63,8 @@ impl Drop for Index {
 impl Model for Index {
     ghost use Rattle.std.specs.Prelude.{◌≡◌, None};
     ghost use Rattle.bw_shape.specs.Limits.{AreWithinBut};
-    ghost use Rattle.bw_tree.specs.Shapes.{shape_of};
-    ghost use Rattle.bw_tree.specs.View.{contents_at};
+    ghost use Rattle.bw_look.specs.Shapes.{shape_of};
+    ghost use Rattle.bw_look.specs.View.{contents_at};
     ghost use Rattle.bw_batch.specs.Lens.{key_count};
     ghost use Rattle.bw_batch.specs.Settings.{limits_of};
     ghost use Rattle.bw_batch.specs.View.{IndexView, coded_view};

@@ -1,6 +1,6 @@
 // How many keys an index has.
 ghost use Rattle.std.specs.Prelude.{◌≡◌, ◌<◌, ◌+◌, ◌^◌, [], ◌∷◌, length, IfOk};
-ghost use Rattle.bw_tree.specs.View.{contents_at};
+ghost use Rattle.bw_look.specs.View.{contents_at};
 ghost use Rattle.bw_batch.specs.Lens.{IsLenAfter, key_count, leaf_pairs, len_behind};
 
 use bw_key::Memory;

@@ -3,18 +3,19 @@ ghost use Rattle.std.specs.Prelude.{◌≡◌, ℕ, ◌<◌, ◌≤◌, length, 
 ghost use Rattle.bw_level.specs.Changes.{based};
 ghost use Rattle.bw_chain.specs.Chains.{IsChain};
 ghost use Rattle.bw_chain.specs.Placing.{put_at};
-ghost use Rattle.bw_page.specs.declared.pages.Page.TheVariants.{Gone as GonePage};
+ghost use Rattle.bw_page.specs.declared.pages.Page.TheVariants.{Gone as GonePage, Leaf as LeafPage};
 ghost use Rattle.bw_page.specs.declared.pages.RemovedPage.{RemovedPage};
 ghost use Rattle.bw_chain.specs.Removed.{HasAllRemoved, IsNotRemoved, IsRemovedAt, IsRemovedInto};
 ghost use Rattle.bw_level.specs.Slots.{Free};
-ghost use Rattle.bw_chain.specs.Supports.{base_under};
+ghost use Rattle.bw_chain.specs.Supports.{IsLeafAt, base_under};
 ghost use Rattle.bw_chain.specs.Vacancy.{AreVacantFrom, IsTakenBefore};
 
 use crate::chains::Chains;
 use bw_key::Memory;
 use bw_memory::Alloc;
-use bw_page::{Page, PageId, RemovedPage};
+use bw_page::{Leaf, Page, PageId, RemovedPage};
 use bw_segment::Segmented;
+use std::mem;
 
 impl Chains {
     /// Puts a page in the place of the base page under a chain, and answers its number, which as a mapping word names the
@@ -29,6 +30,32 @@ impl Chains {
         let number = self.base_number(head);
         self.bases.set(number as usize, Some(page));
         number
+    }
+
+    /// Swaps a leaf that is the base page of a number with another leaf. It takes no memory.
+    pub fn swap_leaf(&mut self, number: PageId, leaf: &mut Leaf)
+        requires { IsLeafAt self.old.bases number }
+        ensures leaf { slice_get self.old.bases number ≡ Some (Some (LeafPage leaf.new)) }
+        ensures bases { self.new.bases ≡ slice_set self.old.bases number (Some (LeafPage leaf.old)) }
+        ensures records { self.new.records ≡ self.old.records }
+    {
+        match self.bases.replace(number.0 as usize, None) {
+            Some(Page::Leaf(base)) => {
+                let swapped = mem::replace(leaf, base);
+                self.bases.set(number.0 as usize, Some(Page::Leaf(swapped)));
+            }
+            _ => unreachable!(),
+        }
+    }
+
+    /// Puts a leaf in the place of the base page of a number, where there is such a number. It takes no memory.
+    pub fn put_leaf(&mut self, number: PageId, leaf: Leaf)
+        ensures bases { self.new.bases ≡ slice_set self.old.bases number (Some (LeafPage leaf)) }
+        ensures records { self.new.records ≡ self.old.records }
+    {
+        if (number.0 as usize) < self.bases.len() {
+            self.bases.set(number.0 as usize, Some(Page::Leaf(leaf)));
+        }
     }
 
     /// Puts a removed page in the place of the base page under a chain, and answers its number, which as a mapping word names

@@ -11,7 +11,7 @@ use Rattle.bw_model.specs.declared.operations.Op.{Op}
 use Rattle.bw_tree.specs.Levels.{IsOneHome}
 use Rattle.bw_tree.specs.Scans.{high_of}
 use Rattle.bw_tree.specs.Slots.{slot_at}
-use Rattle.bw_tree.specs.View.{TreeView}
+use Rattle.bw_look.specs.View.{TreeView}
 use Rattle.bw_tree.specs.Words.{ArePages}
 use Rattle.bw_group.specs.Points.{Entry, entries_at, entries_from, entries_of, key_at, IsEntryOf}
 use Rattle.bw_model.specs.Model.{key_of}

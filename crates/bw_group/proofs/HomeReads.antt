@@ -4,7 +4,7 @@ use Rattle.std.specs.Prelude.{slice_get}
 use Rattle.std.specs.List.{AllByRecursion}
 use Rattle.bw_model.specs.declared.operations.Op.{Op}
 use Rattle.bw_tree.specs.Levels.{IsOneHome}
-use Rattle.bw_tree.specs.View.{TreeView}
+use Rattle.bw_look.specs.View.{TreeView}
 use Rattle.bw_group.specs.Homes.{AreHomes, HasPageAt, HomesView, IsPageAt}
 use Rattle.bw_group.specs.Points.{Entry, IsEntryOf}
 use Rattle.bw_group.proofs.Lists.{all_same}

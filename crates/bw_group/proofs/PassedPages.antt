@@ -14,7 +14,7 @@ use Rattle.bw_tree.specs.Before.{low_of}
 use Rattle.bw_tree.specs.Levels.{IsHome, IsOneHome}
 use Rattle.bw_tree.specs.Scans.{high_of}
 use Rattle.bw_tree.specs.Slots.{slot_at}
-use Rattle.bw_tree.specs.View.{TreeView}
+use Rattle.bw_look.specs.View.{TreeView}
 use Rattle.bw_tree.specs.Words.{ArePages}
 use Rattle.bw_group.specs.Homes.{AreInKeyOrder, BeginsBelow, IsTouched}
 use Rattle.bw_group.proofs.Lists.{all_append, all_same}

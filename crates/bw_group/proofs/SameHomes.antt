@@ -11,7 +11,7 @@ use Rattle.bw_tree.specs.Levels.{IsHome, IsOneHome}
 use Rattle.bw_tree.specs.Scans.{high_of}
 use Rattle.bw_tree.specs.Slots.{Slot, PageState, Free, Gone, Live, slot_at}
 use Rattle.bw_tree.specs.Turns.{slot_without_writes}
-use Rattle.bw_tree.specs.View.{TreeView}
+use Rattle.bw_look.specs.View.{TreeView}
 use Rattle.bw_group.specs.Homes.{AreHomes, AreInKeyOrder, BeginsBelow, HomesView, IsTouched}
 use Rattle.bw_group.proofs.Lists.{all_same}
 

@@ -7,7 +7,7 @@ use Rattle.bw_model.specs.declared.operations.Op.{Op}
 use Rattle.bw_tree.specs.Before.{low_of}
 use Rattle.bw_tree.specs.Levels.{IsOneHome}
 use Rattle.bw_tree.specs.Slots.{Slot, slot_at}
-use Rattle.bw_tree.specs.View.{TreeView}
+use Rattle.bw_look.specs.View.{TreeView}
 use Rattle.bw_tree.specs.Words.{ArePages}
 use Rattle.bw_group.specs.Points.{Entry, IsEntryOf}
 

@@ -111,7 +111,7 @@ pub fn find_homes(alloc: Alloc, tree: &Tree, batch: &Grouping<'_>) -> Result<Hom
     let mut pages = Vec::new(alloc);
     let mut numbers = no_numbers(alloc, batch.ops.len())?;
     let points = &batch.points;
-    let mut routes = Routes::new(tree);
+    let mut routes = Routes::new(tree.look());
     let mut start = 0;
     while start < points.len() {
         let (page, end) = find_run(tree, &mut routes, points, start);

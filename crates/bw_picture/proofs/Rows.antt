@@ -1,7 +1,7 @@
 -- Pages that are written one by one.
 use Rattle.std.proofs.Common.{◌≡◌, ℕ, ◌+◌, ◌<◌, List, ◌++◌, length, get_or, drop, sym, ap, ◌∙◌, append_assoc}
 use Rattle.std.proofs.lemmas.List.{at_drop_more}
-use Rattle.bw_tree.specs.declared.tree.shape.PageShape.{PageShape}
+use Rattle.bw_look.specs.declared.look.shape.PageShape.{PageShape}
 use Rattle.bw_picture.specs.Layout.{spot_of}
 use Rattle.bw_picture.specs.Pictures.{page_text, pages_text}
 use Rattle.bw_picture.specs.declared.layout.Frame.{Frame}

@@ -3,7 +3,7 @@ use Rattle.std.specs.Prelude.{ℕ, ◌+◌, ◌-◌, ◌*◌, ◌^◌, Bool, ◌
 use Rattle.bw_key.specs.Order.{KeyBytes}
 use Rattle.bw_model.specs.Contents.{is_below_end}
 use Rattle.bw_picture.specs.Keys.{key_text, end_text}
-use Rattle.bw_tree.specs.declared.tree.shape.PageShape.{PageShape}
+use Rattle.bw_look.specs.declared.look.shape.PageShape.{PageShape}
 use Rattle.bw_picture.specs.declared.layout.Extent.{Extent}
 use Rattle.bw_picture.specs.declared.layout.Frame.{Frame}
 use Rattle.bw_picture.specs.declared.layout.Spot.{Spot}

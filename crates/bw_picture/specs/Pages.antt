@@ -2,7 +2,7 @@
 use Rattle.std.specs.Prelude.{ℕ, ◌*◌, ◌/◌, ◌==◌, min, max, if◌then◌else◌, List, [], ◌∷◌, ◌++◌, codes}
 use Rattle.std.specs.Fmt.{decimal}
 use Rattle.bw_picture.specs.Keys.{key_text, end_text}
-use Rattle.bw_tree.specs.declared.tree.shape.PageShape.{PageShape}
+use Rattle.bw_look.specs.declared.look.shape.PageShape.{PageShape}
 
 -- "leaf " or "inner page ", by a page's level
 abbrev pub kind_text : ℕ → List ℕ

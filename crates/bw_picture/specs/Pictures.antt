@@ -1,7 +1,7 @@
 -- How a tree is drawn.
 use Rattle.std.specs.Prelude.{ℕ, List, [], ◌∷◌, ◌++◌, codes}
 use Rattle.std.specs.Fmt.{decimal}
-use Rattle.bw_tree.specs.declared.tree.shape.PageShape.{PageShape}
+use Rattle.bw_look.specs.declared.look.shape.PageShape.{PageShape}
 use Rattle.bw_picture.specs.Pages.{body_text, bracket_text}
 use Rattle.bw_picture.specs.Layout.{extent_behind, no_extent, frame_of, width_of, height_of, x_of, y_of, spot_of, first_spot, span_of}
 use Rattle.bw_picture.specs.declared.layout.Frame.{Frame}

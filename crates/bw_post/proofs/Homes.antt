@@ -1,26 +1,29 @@
 -- What was posted to the pages of the records' keys is what a tree adopts.
-use Rattle.std.proofs.Common.{◌≡◌, ℕ, zero, suc, ◌+◌, ◌<◌, ◌≤◌, ◌^◌, Bool, true, false, ◌&&◌, eqb, ◌==◌, List, [], ◌∷◌, length, Option, Some, None, inl, inr, refl, sym, ap, ◌∙◌, subst, arith}
+use Rattle.std.proofs.Common.{◌≡◌, ℕ, zero, suc, ◌+◌, ◌<◌, ◌≤◌, ◌^◌, Bool, true, false, ◌&&◌, eqb, List, [], ◌∷◌, length, set, Option, Some, None, inl, inr, ◌⊎◌, refl, sym, ap, ◌∙◌, subst, arith}
 use Rattle.std.specs.Prelude.{slice_get, slice_index, slice_index_or, MatchOption}
-use Rattle.std.specs.Cmp.{unsigned_Decides}
 use Rattle.std.specs.List.{AllByRecursion}
 use Rattle.std.proofs.lemmas.Bool.{cases_eq}
 use Rattle.std.proofs.lemmas.Bool.Decides.{nat_tests}
-use Rattle.std.proofs.lemmas.List.{length-map}
+use Rattle.std.proofs.lemmas.List.{length-map, length-set}
 use Rattle.std.proofs.lemmas.Option.{slice_get_within}
 use Rattle.bw_core.specs.declared.Post.{Post}
-use Rattle.bw_core.specs.World.{IsLast, Meets, one_if, posts_at, posts_in, times}
+use Rattle.bw_core.specs.World.{Meets, one_if, posts_at, posts_in, times}
 use Rattle.bw_core.specs.Events.{post}
 use Rattle.bw_core.proofs.Lists.{total-append}
-use Rattle.bw_board.specs.Public.{BoardView, SeatView, IsClosed, Posts}
-use Rattle.bw_model.specs.declared.operations.Op.{Op}
+use Rattle.bw_board.specs.Public.{BoardView, SeatView, IsClosed, IsClosedPage, Posts}
 use Rattle.bw_delta.specs.Writes.{WriteView}
-use Rattle.bw_tree.specs.Stages.{IsPostedTo, IsStagedAs}
-use Rattle.bw_tree.specs.View.{TreeView, StageView, staged_writes}
-use Rattle.bw_tree.specs.declared.staging.Staged.{Staged}
+use Rattle.bw_tree.specs.Stages.{IsPostedTo}
+use Rattle.bw_look.specs.Stages.{IsStagedAs}
+use Rattle.bw_look.specs.View.{TreeView, StageView, staged_writes}
+use Rattle.bw_look.specs.declared.staging.Staged.{Staged}
+use Rattle.bw_look.specs.Folding.{pages_of, put_each, put_own_words}
+use Rattle.bw_look.specs.declared.folded.Folded.{Folded}
+use Rattle.bw_tree.specs.Beside.{with_own_words}
 use Rattle.bw_tree.specs.Levels.{IsHome}
 use Rattle.bw_tree.specs.Words.{ArePages, IsPostedOn, IsPostedStageOn, words_of}
 use Rattle.bw_group.specs.Homes.{IsHomeNumber}
-use Rattle.bw_post.specs.Posting.{ArePostedHome, IsHomeOfRecord, IsBoardOf, IsWaiting}
+use Rattle.bw_post.specs.Posting.{ArePostedHome, ArePostedPages, HasFolded, IsBoardOf, IsHomeOfRecord, IsPostedBeside, IsSpared, IsUnadopted}
+use Rattle.bw_post.proofs.Folds.{few, first_stays, leaf_of, listed_times, no_number, none_or_some, one_number, one_place, other_word, own_word, swapped_is}
 
 -- nothing posted yet
 pub none_home : (tree : TreeView) (pages : List ℕ) (v : SeatView) → v.book.posted ≡ [] → ArePostedHome tree pages v
@@ -73,22 +76,8 @@ posted_somewhere r (x ∷ ps) some = elim (cases_eq x.rec r) [
     both : (a b : Bool) → a ≡ true → b ≡ true → one_if (a && b) ≡ 1
     both a b e f = ap (λ c. one_if (c && b)) e ∙ ap one_if f
 
--- without a spare a chain ends in the page's first word
-first_last : (first : List ℕ) (spares : List (Option ℕ)) (p x : ℕ) → slice_index_or spares p None ≡ None → IsLast first spares p x → x ≡ slice_index first p
-first_last first spares p x none (inl e) = e
-first_last first spares p x none (inr e) = absurd (different (sym none ∙ e))
-  where
-    different : {x : ℕ} → None ≡ Some x → ⊥
-    different e = cc
-
-no_number : {n : ℕ} → None ≡ Some n → ⊥
-no_number e = cc
-
-one_number : {m n : ℕ} → Some m ≡ Some n → m ≡ n
-one_number e = cc
-
 -- the word of a listed page
-word_at : (heads pages : List ℕ) (i p : ℕ) → slice_get pages i ≡ Some p → slice_index (words_of heads pages) i ≡ slice_index heads p
+pub word_at : (heads pages : List ℕ) (i p : ℕ) → slice_get pages i ≡ Some p → slice_index (words_of heads pages) i ≡ slice_index heads p
 word_at heads [] zero p at = absurd (no_number at)
 word_at heads [] (suc i) p at = absurd (no_number at)
 word_at heads (q ∷ pages) zero p at = ap (slice_index heads) (one_number at)
@@ -101,36 +90,26 @@ low_words heads [] floor low there i lt = absurd (omega (arith, lt))
 low_words heads (p ∷ pages) floor low there zero lt = low p there.0
 low_words heads (p ∷ pages) floor low there (suc i) lt = low_words heads pages floor low there.1 i (omega (arith, lt))
 
--- a page that is listed somewhere is in the list
-pub listed_times : (pages : List ℕ) (i p : ℕ) → slice_get pages i ≡ Some p → 0 < times p pages
-listed_times [] zero p at = absurd (no_number at)
-listed_times [] (suc i) p at = absurd (no_number at)
-listed_times (q ∷ pages) zero p at = let one : one_if (q == p) ≡ 1 = ap one_if ((unsigned_Decides q p).1 (one_number at)) in omega (arith, one)
-listed_times (q ∷ pages) (suc i) p at = omega (arith, listed_times pages i p at)
+listed_there : (n : ℕ) (pages : List ℕ) (i p : ℕ) → slice_get pages i ≡ Some p → AllByRecursion (λ q. q < n) pages → p < n
+listed_there n [] zero p at there = absurd (no_number at)
+listed_there n [] (suc i) p at there = absurd (no_number at)
+listed_there n (q ∷ pages) zero p at there = subst (λ (k : ℕ). k < n) (one_number at) there.0
+listed_there n (q ∷ pages) (suc i) p at there = listed_there n pages i p at there.1
 
--- and where none is listed twice, at one place alone
-pub one_place : (pages : List ℕ) (i j p : ℕ) → times p pages ≤ 1 → slice_get pages i ≡ Some p → slice_get pages j ≡ Some p → i ≡ j
-one_place [] i zero p once at also = absurd (no_number also)
-one_place [] i (suc j) p once at also = absurd (no_number also)
-one_place (q ∷ pages) zero zero p once at also = refl
-one_place (q ∷ pages) zero (suc j) p once at also =
-    let one : one_if (q == p) ≡ 1 = ap one_if ((unsigned_Decides q p).1 (one_number at)) in
-    absurd (omega (arith, once, one, listed_times pages j p also))
-one_place (q ∷ pages) (suc i) zero p once at also =
-    let one : one_if (q == p) ≡ 1 = ap one_if ((unsigned_Decides q p).1 (one_number also)) in
-    absurd (omega (arith, once, one, listed_times pages i p at))
-one_place (q ∷ pages) (suc i) (suc j) p once at also = ap suc (one_place pages i j p (omega (arith, once)) at also)
+length_each : {X : Type 0} (of : Folded → X) (xs : List X) (fs : List Folded) → length (put_each of xs fs) ≡ length xs
+length_each of xs [] = refl
+length_each of xs (f ∷ fs) = length_each of (set xs f.page (of f)) fs ∙ length-set xs f.page (of f)
 
--- A closed board over pages, which are the homes' where a write is staged.
+-- A closed board over pages, which are the homes' where a write is staged, with the spares of some of them.
 pub record IsOver (tree : TreeView) (homes pages : List ℕ) (board : BoardView) : Type 0 where
   pub listed : ArePages tree pages
   pub first : board.first ≡ words_of tree.heads pages
   pub records : board.records ≡ length (staged_writes tree.staged)
-  pub spareless : (n : ℕ) → ◌≡◌ {A = Option ℕ} (slice_index_or board.spares n None) None
+  pub spare : (number spare : ℕ) → ◌≡◌ {A = Option ℕ} (slice_index_or board.spares number None) (Some spare) → (pages ≡ homes) × (slice_get pages number ≡ Some spare)
   pub some : 0 < board.records → pages ≡ homes
 
-module _ (tree : TreeView) (stage : StageView) (v : SeatView) (homes pages hs ls sw : List ℕ) (over : IsOver tree homes pages v.board) (staged : tree.staged ≡ Some stage)
-    (floor : v.board.floor ≡ 2 ^ 32 + stage.records) (at_home : ArePostedHome tree homes v) (closed : IsClosed v hs ls sw) where
+module _ (tree : TreeView) (stage : StageView) (v : SeatView) (homes pages hs ls sw : List ℕ) (leaves : List Folded) (over : IsOver tree homes pages v.board) (staged : tree.staged ≡ Some stage)
+    (floor : v.board.floor ≡ 2 ^ 32 + stage.records) (at_home : ArePostedHome tree homes v) (folded : HasFolded tree homes v.board.spares leaves v.book.swaps) (closed : IsClosed v hs ls sw) where
   in_stage : (r : ℕ) (w : WriteView) → slice_get stage.writes r ≡ Some w → slice_get (staged_writes tree.staged) r ≡ Some w
   in_stage r w at = ap (λ (l : List WriteView). slice_get l r) (ap staged_writes staged) ∙ at
 
@@ -144,11 +123,52 @@ module _ (tree : TreeView) (stage : StageView) (v : SeatView) (homes pages hs ls
   home_of : (number r : ℕ) (w : WriteView) → slice_get stage.writes r ≡ Some w → 0 < posts_at number r v.book.posted → IsHomeNumber tree pages w.key number
   home_of number r w at some = subst (λ (l : List ℕ). IsHomeNumber tree l w.key number) (sym (same_pages r w at)) (at_home number r some w (in_stage r w at))
 
-  chain_at : (i p : ℕ) → slice_get pages i ≡ Some p → IsPostedTo tree stage ls (slice_index hs i) p
+  in_board : (i p : ℕ) → slice_get pages i ≡ Some p → i < length v.board.first
+  in_board i p at = omega (arith, slice_get_within pages i p at, ap (λ (l : List ℕ). length l) over.first, length-map pages (slice_index tree.heads))
+
+  -- a page with a leaf has it in the place of its chain, and then these pages are the homes
+  leaf_at : (p : ℕ) → 0 < times p (pages_of leaves) → (i : ℕ) × ((pages ≡ homes) × (slice_get pages i ≡ Some p) × ◌≡◌ {A = Option ℕ} (slice_index_or v.board.spares i None) (Some p))
+  leaf_at p some =
+      let leaf = leaf_of (IsSpared homes v.board.spares) leaves p folded.spared some in
+      let same = (over.spare leaf.1.0.number leaf.0.page leaf.1.0.spare).0 in (
+        leaf.1.0.number,
+        (same, ap (λ (l : List ℕ). slice_get l leaf.1.0.number) same ∙ leaf.1.0.page ∙ ap Some leaf.1.1, leaf.1.0.spare ∙ ap Some leaf.1.1),
+      )
+
+  -- where a chain ends: in the word of its page, or in the leaf that took the place of what stood there
+  last_at : (i p : ℕ) (at : slice_get pages i ≡ Some p) → let t = closed.each_page i (in_board i p at) in (times p (pages_of leaves) ≤ 1) × (t.last ≡ slice_index (put_own_words tree.heads leaves) p)
+  last_at i p at = by (none_or_some (times i sw)) (none_or_some (times p (pages_of leaves)))
+    where
+      t : IsClosedPage v hs ls sw i
+      t = closed.each_page i (in_board i p at)
+
+      Ends : Type 0
+      Ends = (times p (pages_of leaves) ≤ 1) × (t.last ≡ slice_index (put_own_words tree.heads leaves) p)
+
+      spare_is : (x : ℕ) → ◌≡◌ {A = Option ℕ} (slice_index_or v.board.spares i None) (Some x) → x ≡ p
+      spare_is x e = one_number (sym (over.spare i x e).1 ∙ at)
+
+      as_often : pages ≡ homes → times p (pages_of leaves) ≡ times i sw
+      as_often same = folded.won i p (ap (λ (l : List ℕ). slice_get l i) (sym same) ∙ at) ∙ sym t.won_is
+
+      by : (times i sw ≡ 0) ⊎ (0 < times i sw) → (times p (pages_of leaves) ≡ 0) ⊎ (0 < times p (pages_of leaves)) → Ends
+      by (inl none) (inl no_leaf) = (
+        omega (arith, no_leaf),
+        first_stays v.board.first v.board.spares i p t.last (times i sw) spare_is t.is_last t.swapped_is none
+            ∙ ap (λ (l : List ℕ). slice_index l i) over.first ∙ word_at tree.heads pages i p at ∙ sym (other_word tree.heads leaves p no_leaf),
+      )
+      by (inl none) (inr leaf) = absurd (omega (arith, as_often (leaf_at p leaf).1.0, none, leaf))
+      by (inr some) other =
+          let swapped = swapped_is v.board.first v.board.spares i p t.last (times i sw) spare_is t.is_last t.swapped_is some in
+          let often = as_often (over.spare i t.last swapped.0).0 in (
+            omega (arith, often, few v.board.first v.board.spares i p t.last (times i sw) spare_is t.is_last t.swapped_is),
+            swapped.1 ∙ sym (own_word tree.heads leaves p (listed_there (length tree.heads) pages i p at over.listed.there) (omega (arith, often, some))),
+          )
+
+  chain_at : (i p : ℕ) → slice_get pages i ≡ Some p → IsPostedTo (with_own_words tree leaves) stage ls (slice_index hs i) p
   chain_at i p at =
-      let t = closed.each_page i (omega (arith, slice_get_within pages i p at, ap (λ (l : List ℕ). length l) over.first, length-map pages (slice_index tree.heads))) in
-      let last : t.last ≡ slice_index tree.heads p =
-      first_last v.board.first v.board.spares i t.last (over.spareless i) t.is_last ∙ ap (λ (l : List ℕ). slice_index l i) over.first ∙ word_at tree.heads pages i p at in
+      let t = closed.each_page i (in_board i p at) in
+      let last = (last_at i p at).1 in
       record {
         chain = t.chain;
         way = subst (λ x. Meets (2 ^ 32 + stage.records) ls (slice_index hs i) t.chain x) last (subst (λ f. Meets f ls (slice_index hs i) t.chain t.last) floor t.met);
@@ -163,9 +183,12 @@ module _ (tree : TreeView) (stage : StageView) (v : SeatView) (homes pages hs ls
             subst (IsHome tree.slots tree.levels w.key) (one_number (sym there.is ∙ at)) there.one.0;
       }
 
-  pub posted_on : IsPostedOn tree stage pages hs ls
+  posted_on : IsPostedOn (with_own_words tree leaves) stage pages hs ls
   posted_on = record {
-    listed = over.listed;
+    listed = record {
+      once = over.listed.once;
+      there = subst (λ (n : ℕ). AllByRecursion (λ p. p < n) pages) (sym (length_each (λ (f : Folded). f.page) tree.heads leaves)) over.listed.there;
+    };
     count = omega (arith, closed.head_each_page, ap (λ (l : List ℕ). length l) over.first, length-map pages (slice_index tree.heads));
     records = closed.link_each_record ∙ over.records ∙ ap (λ (l : List WriteView). length l) (ap staged_writes staged);
     chains = chain_at;
@@ -175,12 +198,42 @@ module _ (tree : TreeView) (stage : StageView) (v : SeatView) (homes pages hs ls
         subst (λ (q : ℕ). 0 < times q pages) (sym (there.one.1 p home)) (listed_times pages somewhere.0 there.page there.is);
   }
 
+  leaves_once : (p : ℕ) → times p (pages_of leaves) ≤ 1
+  leaves_once p = by (none_or_some (times p (pages_of leaves)))
+    where
+      by : (times p (pages_of leaves) ≡ 0) ⊎ (0 < times p (pages_of leaves)) → times p (pages_of leaves) ≤ 1
+      by (inl none) = omega (arith, none)
+      by (inr some) = let leaf = leaf_at p some in (last_at leaf.0 p leaf.1.1).0
+
+  leaves_listed : (xs : List Folded) → AllByRecursion (IsSpared homes v.board.spares) xs → AllByRecursion (λ f. 0 < times f.page pages) xs
+  leaves_listed [] spared = tt
+  leaves_listed (f ∷ xs) spared =
+      let same = (over.spare spared.0.number f.page spared.0.spare).0 in
+      (subst (λ (l : List ℕ). 0 < times f.page l) (sym same) (listed_times homes spared.0.number f.page spared.0.page), leaves_listed xs spared.1)
+
+  pub posted_beside : stage.adopted ≡ false → IsPostedBeside tree leaves pages hs ls
+  posted_beside not_yet = record {
+    folded = folded.are;
+    once = leaves_once;
+    listed = leaves_listed leaves folded.spared;
+    posted = subst (λ (o : Option StageView). IsPostedStageOn (with_own_words tree leaves) o pages hs ls) (sym staged) (not_yet, posted_on);
+  }
+
+  pub no_leaves : ((n : ℕ) → ◌≡◌ {A = Option ℕ} (slice_index_or v.board.spares n None) None) → leaves ≡ []
+  no_leaves none = by leaves folded.spared
+    where
+      by : (xs : List Folded) → AllByRecursion (IsSpared homes v.board.spares) xs → xs ≡ []
+      by [] spared = refl
+      by (f ∷ xs) spared = absurd (no_number (sym (none spared.0.number) ∙ spared.0.spare))
+
+pub unadopted : (tree : TreeView) (stage : StageView) → tree.staged ≡ Some stage → IsUnadopted tree.staged → stage.adopted ≡ false
+unadopted tree stage is waiting = subst IsUnadopted is waiting
+
 -- so a closed board is what the tree adopts
-pub posted_stage : (tree : TreeView) (v : SeatView) (homes pages hs ls sw : List ℕ) (batch : Staged) (ops : List Op) → IsWaiting tree tree.staged ops → IsStagedAs tree batch → v.board.floor ≡ batch.floor → IsOver tree homes pages v.board → ArePostedHome tree homes v → IsClosed v hs ls sw →
-    IsPostedStageOn tree tree.staged pages hs ls
-posted_stage tree v homes pages hs ls sw batch ops waiting told floor over at_home closed =
-    subst (λ (o : Option StageView). IsPostedStageOn tree o pages hs ls) (sym told.is)
-    ((subst (λ (o : Option StageView). IsWaiting tree o ops) told.is waiting).0, posted_on tree told.stage v homes pages hs ls sw over told.is (floor ∙ told.floor) at_home closed)
+pub posted_stage : (tree : TreeView) (v : SeatView) (homes pages hs ls sw : List ℕ) (leaves : List Folded) (batch : Staged) → IsUnadopted tree.staged → IsStagedAs tree batch → v.board.floor ≡ batch.floor → IsOver tree homes pages v.board → ArePostedHome tree homes v →
+    HasFolded tree homes v.board.spares leaves v.book.swaps → IsClosed v hs ls sw → IsPostedBeside tree leaves pages hs ls
+posted_stage tree v homes pages hs ls sw leaves batch waiting told floor over at_home folded closed =
+    posted_beside tree told.stage v homes pages hs ls sw leaves over told.is (floor ∙ told.floor) at_home folded closed (unadopted tree told.stage told.is waiting)
 
 -- so many records are posted to the pages of the homes, or none to no page
 pub record AreWritten (records : ℕ) (homes pages : List ℕ) : Type 0 where
@@ -191,35 +244,52 @@ pub written_pages : (tree : TreeView) (records : ℕ) (homes pages : List ℕ) �
 written_pages tree zero homes pages written are = subst (ArePages tree) (sym (written.none refl)) (record { once = λ p. omega arith; there = tt })
 written_pages tree (suc n) homes pages written are = subst (ArePages tree) (sym (written.some (omega arith))) are
 
-module _ (tree : TreeView) (homes pages : List ℕ) (opened : BoardView) (batch : Staged) (told : IsStagedAs tree batch) (written : AreWritten batch.records homes pages)
-    (first : opened.first ≡ words_of tree.heads pages) (records : opened.records ≡ batch.records) (spares : ◌≡◌ {A = List (Option ℕ)} opened.spares []) where
-  no_spare : (n : ℕ) → ◌≡◌ {A = Option ℕ} (slice_index_or opened.spares n None) None
-  no_spare n = ap (λ (l : List (Option ℕ)). slice_index_or l n None) spares ∙ none n
-    where
-      none : (n : ℕ) → ◌≡◌ {A = Option ℕ} (slice_index_or [] n None) None
-      none zero = refl
-      none (suc n) = refl
-
+module _ (tree : TreeView) (homes pages : List ℕ) (given : List (Option ℕ)) (opened : BoardView) (batch : Staged) (told : IsStagedAs tree batch) (are : ArePostedPages tree homes pages given) (at_homes : ArePages tree homes)
+    (first : opened.first ≡ words_of tree.heads pages) (records : opened.records ≡ batch.records) (spares : ◌≡◌ {A = List (Option ℕ)} opened.spares given) where
   staged_are : opened.records ≡ length (staged_writes tree.staged)
   staged_are = records ∙ told.records ∙ ap (λ (o : Option StageView). length (staged_writes o)) (sym told.is)
 
-  -- a board over a tree's words, with so many records and no spares
+  spare_of_page : (number spare : ℕ) → ◌≡◌ {A = Option ℕ} (slice_index_or opened.spares number None) (Some spare) → ◌≡◌ {A = Option ℕ} (slice_index_or given number None) (Some spare)
+  spare_of_page number spare e = ap (λ (l : List (Option ℕ)). slice_index_or l number None) (sym spares) ∙ e
+
+  -- a board over a tree's words, with so many records
   pub is_board_of : IsBoardOf tree homes opened
   is_board_of = record {
-    first = λ some. first ∙ ap (words_of tree.heads) (written.some (omega (arith, some, records)));
+    first = λ some. first ∙ ap (words_of tree.heads) (are.written (omega (arith, some, staged_are)));
     records = staged_are;
     few = omega (arith, records, told.fits, told.floor);
-    spareless = no_spare;
+    spares = λ number spare e.
+        let s = are.spare number spare (spare_of_page number spare e) in
+        record {
+          within = omega (arith, slice_get_within pages number spare s.1, ap (λ (l : List ℕ). length l) first, length-map pages (slice_index tree.heads));
+          listed = ap (λ (l : List ℕ). slice_get l number) (sym s.0) ∙ s.1;
+          leaf = s.2;
+        };
+    once = at_homes.once;
   }
 
-  pub is_over : ArePages tree homes → IsOver tree homes pages opened
-  is_over are = record {
-    listed = written_pages tree batch.records homes pages written are;
+  pub is_over : IsOver tree homes pages opened
+  is_over = record {
+    listed = are.are;
     first = first;
     records = staged_are;
-    spareless = no_spare;
-    some = λ some. written.some (omega (arith, some, records));
+    spare = λ number spare e. (let s = are.spare number spare (spare_of_page number spare e) in (s.0, s.1));
+    some = λ some. are.written (omega (arith, some, staged_are));
   }
+
+-- the spares of a board over a tree's words fit it
+pub spares_fit : (tree : TreeView) (homes pages : List ℕ) (given : List (Option ℕ)) (floor : ℕ) → 2 ^ 32 ≤ floor → ArePostedPages tree homes pages given → (number spare : ℕ) → slice_index_or given number None ≡ Some spare → (spare < floor) × (spare ≡ slice_index (words_of tree.heads pages) number → ⊥)
+spares_fit tree homes pages given floor le are number spare e =
+    let s = are.spare number spare e in
+    let word = word_at tree.heads pages number spare s.1 in
+    (omega (arith, le, s.3), λ same. omega (arith, same, word, s.3, s.4))
+
+pub no_spare : (given : List (Option ℕ)) → given ≡ [] → (n : ℕ) → ◌≡◌ {A = Option ℕ} (slice_index_or given n None) None
+no_spare given none n = ap (λ (l : List (Option ℕ)). slice_index_or l n None) none ∙ nothing n
+  where
+    nothing : (n : ℕ) → ◌≡◌ {A = Option ℕ} (slice_index_or [] n None) None
+    nothing zero = refl
+    nothing (suc n) = refl
 
 -- the batch that a call told of
 pub told_batch : (o : Option Staged) (tree : TreeView) (batch : Staged) → MatchOption o (tree.staged ≡ None) (IsStagedAs tree) → o ≡ Some batch → IsStagedAs tree batch

@@ -1,5 +1,5 @@
 -- Workers who post side by side, and their seats in one.
-use Rattle.std.proofs.Common.{◌≡◌, ℕ, ◌+◌, ◌-◌, ◌<◌, eqb, leb, ltb, ◌&&◌, List, [], ◌∷◌, ◌++◌, length, map, get_or, take, drop, zero, suc, sym, refl, ap, ◌∙◌, subst, arith, inl, inr}
+use Rattle.std.proofs.Common.{◌≡◌, ℕ, ◌+◌, ◌<◌, eqb, leb, ltb, ◌&&◌, List, [], ◌∷◌, ◌++◌, length, map, get_or, take, drop, zero, suc, sym, refl, ap, ◌∙◌, subst, arith, inl, inr}
 use Rattle.std.proofs.lemmas.Bool.{cases_lt}
 use Rattle.std.proofs.lemmas.List.{length-append, length-map}
 use Rattle.std.specs.Prelude.{slice_index_or, Option, Some}
@@ -7,24 +7,32 @@ use Rattle.std.specs.Option.{option_to_list}
 use Rattle.std.specs.List.{AllByRecursion}
 use Rattle.bw_core.specs.declared.Post.{Post}
 use Rattle.bw_core.specs.declared.Span.{Span}
+use Rattle.bw_core.specs.declared.Swap.{Swap}
 use Rattle.bw_core.specs.World.{one_if, owns, posts_at, posts_in, total}
 use Rattle.bw_core.specs.Events.{book_without_pieces, book_after_join, left_book, right_book}
 use Rattle.bw_core.proofs.Lists.{total-append}
 use Rattle.bw_board.specs.Plays.{lost_in}
 use Rattle.bw_board.specs.Public.{BoardView, SeatView, IsSound}
-use Rattle.bw_tree.specs.View.{TreeView}
-use Rattle.bw_post.specs.Posting.{HasFinished, HasWorked, HasClaimedNothing, IsHomeOfRecord, IsBoardOf, width_of}
+use Rattle.bw_look.specs.View.{TreeView}
+use Rattle.bw_look.specs.declared.folded.Folded.{Folded}
+use Rattle.bw_post.proofs.Folds.{folded_both}
+use Rattle.bw_post.specs.Posting.{HasClaimedNothing, HasFinished, HasFolded, HasWorked, IsBoardOf, IsHomeOfRecord, IsNew, width_of}
 use Rattle.bw_post.specs.declared.workers.Worker.{Worker}
 use Rattle.bw_post.proofs.Homes.{none_home, same_home}
 use Rattle.bw_post.proofs.Lost.{lost_both, lost_few}
 
+-- the leaves of a worker whose seat has the same swaps
+pub same_folded : (tree : TreeView) (pages : List ℕ) (board : BoardView) (w : Worker) (v : SeatView) → v.book.swaps ≡ w.seat.book.swaps → HasFolded tree pages board.spares w.folded.items w.seat.book.swaps → HasFolded tree pages board.spares w.folded.items v.book.swaps
+same_folded tree pages board w v same so = subst (HasFolded tree pages board.spares w.folded.items) (sym same) so
+
 -- a worker who didn't claim yet has posted all that it claimed
-pub fresh_worked : (tree : TreeView) (pages : List ℕ) (board : BoardView) (w : Worker) → HasClaimedNothing board w → HasWorked tree pages board w
+pub fresh_worked : (tree : TreeView) (pages : List ℕ) (board : BoardView) (w : Worker) → HasClaimedNothing tree pages board w → HasWorked tree pages board w
 fresh_worked tree pages board w so = record {
   board_is = so.board_is;
   posted = λ r. ap (λ (ss : List Span). total (λ s. one_if (leb s.from r && ltb r s.to)) ss) so.owned ∙ sym (ap (posts_in r) so.posted);
   homes = none_home tree pages w.seat so.posted;
   lost = so.lost ∙ sym (ap lost_in so.posted);
+  folded = so.folded;
 }
 
 -- a worker who is told that no record is left
@@ -34,11 +42,12 @@ told_worked tree pages board w v told so = record {
   posted = λ r. ap (λ (z : SeatView). owns r z.book) told ∙ so.posted r ∙ sym (ap (λ (z : SeatView). posts_in r z.book.posted) told);
   homes = same_home tree pages w.seat v (ap (λ (z : SeatView). z.book.posted) told) so.homes;
   lost = so.lost ∙ sym (ap (λ (z : SeatView). lost_in z.book.posted) told);
+  folded = same_folded tree pages board w v (ap (λ (z : SeatView). z.book.swaps) told) so.folded;
 }
 
 -- what two workers did, in one
-pub worked_both : (tree : TreeView) (pages : List ℕ) (board : BoardView) (a b w : Worker) → HasWorked tree pages board a → HasWorked tree pages board b → w.seat ≡ record a.seat { book = book_after_join board.first a.seat.book b.seat.book } → w.lost ≡ a.lost + b.lost → HasWorked tree pages board w
-worked_both tree pages board a b w first second both lost = record {
+pub worked_both : (tree : TreeView) (pages : List ℕ) (board : BoardView) (a b w : Worker) → HasWorked tree pages board a → HasWorked tree pages board b → w.seat ≡ record a.seat { book = book_after_join board.first a.seat.book b.seat.book } → w.lost ≡ a.lost + b.lost → w.folded.items ≡ a.folded.items ++ b.folded.items → HasWorked tree pages board w
+worked_both tree pages board a b w first second both lost leaves = record {
   board_is = ap (λ (v : SeatView). v.board) both ∙ first.board_is;
   posted = λ r. (
       let owned : owns r w.seat.book ≡ owns r a.seat.book + owns r b.seat.book = ap (λ (v : SeatView). owns r v.book) both ∙ total-append (λ (s : Span). one_if (leb s.from r && ltb r s.to)) a.seat.book.owned b.seat.book.owned in
@@ -55,12 +64,16 @@ worked_both tree pages board a b w first second both lost = record {
       ]
       );
   lost = lost ∙ sym (ap (λ (v : SeatView). lost_in v.book.posted) both ∙ lost_both a.seat.book.posted b.seat.book.posted ∙ (let f = first.lost in let s = second.lost in omega (arith, f, s)));
+  folded =
+      subst (λ (ss : List Swap). HasFolded tree pages board.spares w.folded.items ss) (sym (ap (λ (v : SeatView). v.book.swaps) both))
+      (subst (λ (fs : List Folded). HasFolded tree pages board.spares fs (a.seat.book.swaps ++ b.seat.book.swaps)) (sym leaves)
+      (folded_both tree pages board.spares a.folded.items b.folded.items a.seat.book.swaps b.seat.book.swaps first.folded second.folded));
 }
 
 -- and what they lost together fits
 pub lost_together : (tree : TreeView) (pages : List ℕ) (board : BoardView) (a b : Worker) (v : SeatView) → IsBoardOf tree pages board → HasWorked tree pages board a → HasWorked tree pages board b → v ≡ record a.seat { book = book_after_join board.first a.seat.book b.seat.book } → IsSound v → a.lost + b.lost < 18446744073709551616
 lost_together tree pages board a b v over first second both sound =
-    let few = lost_few v board (ap (λ (z : SeatView). z.board) both ∙ first.board_is) over.few over.spareless sound in
+    let few = lost_few v board (ap (λ (z : SeatView). z.board) both ∙ first.board_is) over.few sound in
     let sum : lost_in v.book.posted ≡ lost_in a.seat.book.posted + lost_in b.seat.book.posted = ap (λ (z : SeatView). lost_in z.book.posted) both ∙ lost_both a.seat.book.posted b.seat.book.posted in
     omega (arith, few.1, sum, first.lost, second.lost)
 
@@ -87,37 +100,53 @@ some_more one two w more = let n = ap (λ (l : List Worker). length l) more in l
 
 module _ (board : BoardView) (ws rest : List Worker) (w : Worker) (parts : ws ≡ w ∷ rest) where
   -- its seat in two
-  pub split_fresh : (one two : List Worker) (l r : SeatView) → one ≡ rest ++ (record { seat = l; lost = w.lost }) ∷ [] → two ≡ one ++ (record { seat = r; lost = 0 }) ∷ [] → l ≡ record w.seat { book = left_book w.seat.book } → r ≡ record w.seat { book = right_book w.seat.book } →
-      AllByRecursion (HasClaimedNothing board) ws → AllByRecursion (HasClaimedNothing board) two
-  split_fresh one two l r first second left right fresh =
-      let all = subst (AllByRecursion (HasClaimedNothing board)) parts fresh in
-      subst (AllByRecursion (HasClaimedNothing board)) (sym second)
-      (all_more (HasClaimedNothing board) one (record { seat = r; lost = 0 })
-      (subst (AllByRecursion (HasClaimedNothing board)) (sym first) (all_more (HasClaimedNothing board) rest (record { seat = l; lost = w.lost }) all.1 (record {
+  pub split_new : (one two : List Worker) (l r : Worker) → one ≡ rest ++ l ∷ [] → two ≡ one ++ r ∷ [] → l.seat ≡ record w.seat { book = left_book w.seat.book } → r.seat ≡ record w.seat { book = right_book w.seat.book } → (l.lost ≡ 0) × (l.folded.items ≡ []) → (r.lost ≡ 0) × (r.folded.items ≡ []) →
+      AllByRecursion (IsNew board) ws → AllByRecursion (IsNew board) two
+  split_new one two l r first second left right none_left none_right new =
+      let all = subst (AllByRecursion (IsNew board)) parts new in
+      subst (AllByRecursion (IsNew board)) (sym second)
+      (all_more (IsNew board) one r
+      (subst (AllByRecursion (IsNew board)) (sym first) (all_more (IsNew board) rest l all.1 (record {
         board_is = ap (λ (v : SeatView). v.board) left ∙ all.0.board_is;
         owned = ap (λ (v : SeatView). v.book.owned) left ∙ all.0.owned;
         posted = ap (λ (v : SeatView). v.book.posted) left ∙ all.0.posted;
-        lost = all.0.lost;
+        untried = ap (λ (v : SeatView). v.book.swaps) left ∙ all.0.untried;
+        lost = none_left.0;
+        folded = none_left.1;
       })))
       (record {
         board_is = ap (λ (v : SeatView). v.board) right ∙ all.0.board_is;
         owned = ap (λ (v : SeatView). v.book.owned) right;
         posted = ap (λ (v : SeatView). v.book.posted) right;
-        lost = refl;
+        untried = ap (λ (v : SeatView). v.book.swaps) right;
+        lost = none_right.0;
+        folded = none_right.1;
       }))
 
-  pub split_width : (one two : List Worker) (l r : SeatView) → one ≡ rest ++ (record { seat = l; lost = w.lost }) ∷ [] → two ≡ one ++ (record { seat = r; lost = 0 }) ∷ [] → l ≡ record w.seat { book = left_book w.seat.book } → r ≡ record w.seat { book = right_book w.seat.book } →
+  pub split_width : (one two : List Worker) (l r : Worker) → one ≡ rest ++ l ∷ [] → two ≡ one ++ r ∷ [] → l.seat ≡ record w.seat { book = left_book w.seat.book } → r.seat ≡ record w.seat { book = right_book w.seat.book } →
       total width_of two ≡ total width_of ws
   split_width one two l r first second left right =
-      let a = ap (total width_of) second ∙ total-append width_of one ((record { seat = r; lost = 0 }) ∷ []) in
-      let b = ap (total width_of) first ∙ total-append width_of rest ((record { seat = l; lost = w.lost }) ∷ []) in
+      let a = ap (total width_of) second ∙ total-append width_of one (r ∷ []) in
+      let b = ap (total width_of) first ∙ total-append width_of rest (l ∷ []) in
       omega (arith, a, b, ap (λ (v : SeatView). v.book.width) left, ap (λ (v : SeatView). v.book.width) right, ap (total width_of) parts)
 
   -- or as it was
-  pub same_width : (one : List Worker) (s : SeatView) → one ≡ rest ++ (record { seat = s; lost = w.lost }) ∷ [] → s ≡ w.seat → total width_of one ≡ total width_of ws
-  same_width one s first same =
-      let b = ap (total width_of) first ∙ total-append width_of rest ((record { seat = s; lost = w.lost }) ∷ []) in
+  pub same_width : (one : List Worker) (l : Worker) → one ≡ rest ++ l ∷ [] → l.seat ≡ w.seat → total width_of one ≡ total width_of ws
+  same_width one l first same =
+      let b = ap (total width_of) first ∙ total-append width_of rest (l ∷ []) in
       omega (arith, b, ap (λ (v : SeatView). v.book.width) same, ap (total width_of) parts)
+
+  pub same_new : (one : List Worker) (l : Worker) → one ≡ rest ++ l ∷ [] → l.seat ≡ w.seat → (l.lost ≡ 0) × (l.folded.items ≡ []) → AllByRecursion (IsNew board) ws → AllByRecursion (IsNew board) one
+  same_new one l first same none new =
+      let all = subst (AllByRecursion (IsNew board)) parts new in
+      subst (AllByRecursion (IsNew board)) (sym first) (all_more (IsNew board) rest l all.1 (record {
+        board_is = ap (λ (v : SeatView). v.board) same ∙ all.0.board_is;
+        owned = ap (λ (v : SeatView). v.book.owned) same ∙ all.0.owned;
+        posted = ap (λ (v : SeatView). v.book.posted) same ∙ all.0.posted;
+        untried = ap (λ (v : SeatView). v.book.swaps) same ∙ all.0.untried;
+        lost = none.0;
+        folded = none.1;
+      }))
 
 -- one more worker's seat joined
 pub all_joined : (tree : TreeView) (pages : List ℕ) (board : BoardView) (ws rest : List Worker) (w : Worker) → ws ≡ w ∷ rest → AllByRecursion (HasFinished tree pages board) ws → HasFinished tree pages board w × AllByRecursion (HasFinished tree pages board) rest

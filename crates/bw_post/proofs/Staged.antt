@@ -9,7 +9,7 @@ use Rattle.bw_model.specs.declared.operations.Op.{Op}
 use Rattle.bw_model.specs.declared.operations.Op.TheVariants.{Get, Insert, Upsert, Update, Delete, SwapIf, Scan, Rscan}
 use Rattle.bw_delta.specs.Batches.{stamped, write_of, writes_of}
 use Rattle.bw_delta.specs.Writes.{WriteView}
-use Rattle.bw_tree.specs.View.{TreeView, StageView, staged_writes}
+use Rattle.bw_look.specs.View.{TreeView, StageView, staged_writes}
 use Rattle.bw_group.specs.Homes.{AreHomes, HasHome, HomesView, IsHomeNumber}
 use Rattle.bw_model.specs.Model.{key_of}
 use Rattle.bw_post.specs.Posting.{AreStagedHomes, IsWaiting}

@@ -1,20 +1,20 @@
 // Posting the records of a staged batch to the pages of their keys.
-ghost use Rattle.std.specs.Prelude.{◌≡◌, ◌<◌, ◌≤◌, [], length, IfOk};
+ghost use Rattle.std.specs.Prelude.{◌≡◌, ◌+◌, ◌<◌, ◌≤◌, [], length, IfOk};
 ghost use Rattle.std.specs.List.{AllByRecursion};
 ghost use Rattle.bw_core.specs.Keeping.{pairs_of};
-ghost use Rattle.bw_tree.specs.View.{staged_writes};
-ghost use Rattle.bw_tree.specs.Words.{IsPostedStageOn, words_of};
+ghost use Rattle.bw_look.specs.View.{staged_writes};
+ghost use Rattle.bw_tree.specs.Words.{ArePages, IsPostedStageOn, words_of};
 ghost use Rattle.bw_group.specs.Homes.{AreHomes};
-ghost use Rattle.bw_post.specs.Posting.{IsWaiting};
+ghost use Rattle.bw_post.specs.Posting.{ArePostedPages, AreStagedHomes, IsPostedBeside, IsUnadopted, IsWaiting};
 
 use crate::gates::Gate;
-use crate::workers::{join_workers, post_side_by_side, seat_workers};
+use crate::workers::{Worker, join_workers, post_side_by_side, seat_workers};
 use bw_board::{Board, Closed};
 use bw_group::{Grouping, Homes, find_homes};
 use bw_key::Memory;
 use bw_memory::Alloc;
 use bw_page::PageId;
-use bw_tree::Tree;
+use bw_tree::{Folded, Tree};
 use std::thread::Threads;
 
 /// What posting leaves.
@@ -28,6 +28,8 @@ pub struct Posting {
     pub closed: Closed,
     /// How many exchanges the workers lost to one another.
     pub lost: u64,
+    /// The leaves that the workers put in the places of their pages' chains.
+    pub folded: Vec<Folded, Alloc>,
 }
 
 /// Posts each record of the staged batch to the page of its key, over a board of the mapping words of the batch's pages. So
@@ -62,18 +64,82 @@ pub fn post_all<R: Threads + Sync, G: Gate>(
     let staged = tree.staged().unwrap();
     let homes = find_homes(alloc, tree, batch)?;
     let pages = written_pages(alloc, &homes, staged.records)?;
+    post_over(rt, alloc, tree, homes, pages, &[], piece, workers, gate)
+}
+
+/// The same, where each worker first consolidates leaves of the batch's pages whose chains have at least half as many writes as
+/// `chain_max`, and offers them in the places of these chains: the worker with number i of n those of the pages i, i + n and so
+/// on. A leaf that finds no memory is left out, and so is one to whose page another worker posted before.
+///
+/// It costs what `post_all` does, a walk along the chain of each page of the batch, and for each such leaf a copy of its pairs.
+pub fn post_beside<R: Threads + Sync, G: Gate>(
+    rt: &R,
+    alloc: Alloc,
+    tree: &Tree,
+    batch: &Grouping<'_>,
+    piece: u64,
+    workers: u64,
+    gate: &G,
+    chain_max: u64,
+) -> Result<Posting, Memory>
+    requires waiting { IsWaiting tree.now tree.now.staged batch.now.ops }
+    requires piece { (0 < piece) × (piece ≤ 4096) }
+    ensures homes { IfOk result (λ posting. AreHomes tree.now batch.now.ops posting.homes) }
+    ensures posted { IfOk result (λ posting. IsPostedBeside tree.now posting.folded.items posting.pages.items
+        posting.closed.heads posting.closed.links) }
+    ensures pages { IfOk result (λ posting. posting.pages.items ≡ posting.homes.pages) }
+    ensures lost { let records = length (staged_writes tree.now.staged) in
+        IfOk result (λ posting. posting.lost ≤ pairs_of records + records) }
+{
+    tree.know_levels();
+    tree.know_records();
+    let homes = find_homes(alloc, tree, batch)?;
+    let pages = Vec::from_slice(alloc, homes.pages())?;
+    let spares = tree.spare_on(&pages, chain_max)?;
+    post_over(rt, alloc, tree, homes, pages, &spares, piece, workers, gate)
+}
+
+// Posts over a board of these pages, with these spares.
+fn post_over<R: Threads + Sync, G: Gate>(
+    rt: &R,
+    alloc: Alloc,
+    tree: &Tree,
+    homes: Homes,
+    pages: Vec<PageId, Alloc>,
+    spares: &[Option<u64>],
+    piece: u64,
+    workers: u64,
+    gate: &G,
+) -> Result<Posting, Memory>
+    requires waiting { IsUnadopted tree.now.staged }
+    requires staged { AreStagedHomes tree.now homes }
+    requires homes { ArePages tree.now homes.pages }
+    requires pages { ArePostedPages tree.now homes.pages pages.items spares.now }
+    requires piece { (0 < piece) × (piece ≤ 4096) }
+    ensures homes { IfOk result (λ posting. posting.homes ≡ homes) }
+    ensures pages { IfOk result (λ posting. posting.pages.items ≡ pages.entry.items) }
+    ensures posted { IfOk result (λ posting. IsPostedBeside tree.now posting.folded.items posting.pages.items
+        posting.closed.heads posting.closed.links) }
+    ensures none { spares.now ≡ [] → IfOk result (λ posting. posting.folded.items ≡ []) }
+    ensures lost { let records = length (staged_writes tree.now.staged) in
+        IfOk result (λ posting. posting.lost ≤ pairs_of records + records) }
+    ensures fewer { spares.now ≡ [] →
+        IfOk result (λ posting. posting.lost ≤ pairs_of (length (staged_writes tree.now.staged))) }
+{
+    let staged = tree.staged().unwrap();
     let heads = heads_of(alloc, tree, &pages)?;
-    let (board, seat) = Board::open(alloc, &heads, staged.floor, staged.records, piece, &[])?;
-    let pieces = staged.records.div_ceil(piece);
-    let mut crew = seat_workers(alloc, &board, seat, workers.min(pieces) as usize)?;
-    post_side_by_side(rt, tree, &homes, &board, gate, &mut crew);
-    let whole = join_workers(tree, &homes, &board, crew);
-    let closed = board.close(whole.seat)?;
+    let (board, seat) = Board::open(alloc, &heads, staged.floor, staged.records, piece, spares)?;
+    let tasks = staged.records.div_ceil(piece).max(spares.len() as u64);
+    let mut crew = seat_workers(alloc, &board, seat, workers.min(tasks) as usize)?;
+    post_side_by_side(rt, tree, &homes, &board, spares, gate, &mut crew);
+    let Worker { seat, lost, folded } = join_workers(tree, &homes, &board, crew)?;
+    let closed = board.close(seat)?;
     Ok(Posting {
         homes,
         pages,
         closed,
-        lost: whole.lost,
+        lost,
+        folded,
     })
 }
 

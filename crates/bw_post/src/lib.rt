@@ -3,12 +3,13 @@
 #![tactic(auto)]
 
 mod batch_posting;
+mod folding;
 mod gates;
 mod workers;
 
-pub use batch_posting::{Posting, post_all};
+pub use batch_posting::{Posting, post_all, post_beside};
 pub use gates::{Gate, OpenGate};
 
 /// The tree whose batch is posted, and the words that posting leaves for it to adopt.
 pub use bw_board::Closed;
-pub use bw_tree::Tree;
+pub use bw_tree::{Folded, Tree};

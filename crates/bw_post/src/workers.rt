@@ -5,24 +5,39 @@ ghost use Rattle.std.specs.List.{AllByRecursion};
 ghost use Rattle.bw_core.specs.World.{owns, total};
 ghost use Rattle.bw_board.specs.Plays.{lost_in};
 ghost use Rattle.bw_board.specs.Working.{HasLeft, HasPostedAll};
-ghost use Rattle.bw_tree.specs.View.{staged_writes};
+ghost use Rattle.bw_look.specs.View.{staged_writes};
 ghost use Rattle.bw_post.specs.Posting.{AreStagedHomes, ArePostedHome, HasClaimedNothing, HasFinished};
-ghost use Rattle.bw_post.specs.Posting.{IsBoardOf, IsHomeOfRecord, width_of};
+ghost use Rattle.bw_post.specs.Posting.{IsBoardOf, IsHomeOfRecord, IsNew, width_of};
 
+use crate::folding::fold_leaves;
 use crate::gates::Gate;
 use bw_board::{Board, Seat};
 use bw_group::Homes;
 use bw_key::Memory;
 use bw_memory::Alloc;
-use bw_tree::Tree;
+use bw_tree::{Folded, Tree};
 use std::ops::Range;
 use std::thread::{Threads, for_each_mut};
 
-/// A worker's seat at a board, and how many exchanges its posts lost.
+/// A worker's seat at a board, how many exchanges its posts lost, and the leaves that it put in the places of chains.
 #[derive(Drop)]
 pub(crate) struct Worker {
     pub(crate) seat: Seat,
     pub(crate) lost: u64,
+    pub(crate) folded: Vec<Folded, Alloc>,
+}
+
+// A worker who didn't do anything yet.
+fn worker_at(alloc: Alloc, seat: Seat) -> Worker
+    ensures seat { result.seat ≡ seat }
+    ensures lost { result.lost ≡ 0 }
+    ensures folded { result.folded.items ≡ [] }
+{
+    Worker {
+        seat,
+        lost: 0,
+        folded: Vec::new(alloc),
+    }
 }
 
 /// So many workers, of which there is at least one, in the place of one seat. There are fewer where the seat can't be
@@ -35,24 +50,26 @@ pub(crate) fn seat_workers(
 ) -> Result<Vec<Worker, Alloc>, Memory>
     requires board { seat.board ≡ board.now }
     requires fresh { (seat.book.owned ≡ []) × (seat.book.posted ≡ []) }
+    requires untried { seat.book.swaps ≡ [] }
     ensures some { IfOk result (λ workers. 0 < length workers.items) }
-    ensures fresh { IfOk result (λ workers. AllByRecursion (HasClaimedNothing board.now) workers.items) }
+    ensures new { IfOk result (λ workers. AllByRecursion (IsNew board.now) workers.items) }
     ensures width { IfOk result (λ workers. total width_of workers.items ≡ seat.book.width) }
 {
     let mut workers = Vec::new(alloc);
-    workers.push(Worker { seat, lost: 0 })?;
+    workers.push(worker_at(alloc, seat))?;
     while workers.len() < count {
-        let Worker { seat, lost } = workers.remove(0);
+        let Worker {
+            seat,
+            lost: _lost,
+            folded: _folded,
+        } = workers.remove(0);
         match board.split(seat) {
             Ok((left, right)) => {
-                workers.push(Worker { seat: left, lost })?;
-                workers.push(Worker {
-                    seat: right,
-                    lost: 0,
-                })?;
+                workers.push(worker_at(alloc, left))?;
+                workers.push(worker_at(alloc, right))?;
             }
             Err(seat) => {
-                workers.push(Worker { seat, lost })?;
+                workers.push(worker_at(alloc, seat))?;
                 return Ok(workers);
             }
         }
@@ -60,28 +77,35 @@ pub(crate) fn seat_workers(
     Ok(workers)
 }
 
-/// Has each worker claim and post until no record is left, in a thread of its own where one can be made.
+/// Has each worker consolidate leaves that have a spare and offer them in the places of their chains, and then claim and post
+/// until no record is left, in a thread of its own where one can be made.
 pub(crate) fn post_side_by_side<R: Threads + Sync, G: Gate>(
     rt: &R,
     tree: &Tree,
     homes: &Homes,
     board: &Board,
+    spares: &[Option<u64>],
     gate: &G,
     workers: &mut [Worker],
 )
     requires over { IsBoardOf tree.now homes.now.pages board.now }
     requires staged { AreStagedHomes tree.now homes.now }
+    requires spares { spares.now ≡ board.now.spares }
     requires some { 0 < length workers.old }
-    requires fresh { AllByRecursion (HasClaimedNothing board.now) workers.old }
+    requires new { AllByRecursion (IsNew board.now) workers.old }
     ensures finished { AllByRecursion (HasFinished tree.now homes.now.pages board.now) workers.new }
     ensures width { map width_of workers.new ≡ map width_of workers.old }
 {
-    let post = move |_place: usize, worker: &mut Worker|
+    let count = workers.len();
+    let post = move |place: usize, worker: &mut Worker|
         requires { IsSync G.row × IsBoardOf tree.now homes.now.pages board.now × AreStagedHomes tree.now homes.now
-            × HasClaimedNothing board.now worker.now }
+            × (spares.now ≡ board.now.spares) × (0 < count) × IsNew board.now worker.now }
         ensures { HasFinished tree.entry.now homes.entry.now.pages board.entry.now worker.exit.now
             × (width_of worker.exit.now ≡ width_of worker.entry.now) }
-    { post_claimed(tree, homes, board, gate, worker) };
+    {
+        fold_leaves(tree, homes, board, spares, place, count, worker);
+        post_claimed(tree, homes, board, gate, worker)
+    };
     for_each_mut(rt, workers, workers.len(), &post);
 }
 
@@ -89,7 +113,7 @@ pub(crate) fn post_side_by_side<R: Threads + Sync, G: Gate>(
 fn post_claimed<G: Gate>(tree: &Tree, homes: &Homes, board: &Board, gate: &G, worker: &mut Worker)
     requires over { IsBoardOf tree.now homes.now.pages board.now }
     requires staged { AreStagedHomes tree.now homes.now }
-    requires fresh { HasClaimedNothing board.now worker.old }
+    requires fresh { HasClaimedNothing tree.now homes.now.pages board.now worker.old }
     ensures finished { HasFinished tree.now homes.now.pages board.now worker.new }
     ensures width { width_of worker.new ≡ width_of worker.old }
 {
@@ -118,6 +142,7 @@ fn post_piece<G: Gate>(
     requires within { piece.end ≤ board.now.records }
     ensures board { seat.new.board ≡ board.now }
     ensures width { seat.new.book.width ≡ seat.old.book.width }
+    ensures swaps { seat.new.book.swaps ≡ seat.old.book.swaps }
     ensures owned { seat.new.book.owned ≡ seat.old.book.owned }
     ensures once { (r : ℕ) → owns r seat.new.book ≤ 1 }
     ensures posted { HasPostedAll seat.new }
@@ -146,25 +171,55 @@ fn home_at(tree: &Tree, homes: &Homes, number: u64) -> usize
     homes.number_at(place as usize)
 }
 
-/// All workers' seats in one, with what they lost together.
+/// All workers' seats in one, with what they lost together, and their leaves in one list. `Memory` is answered where that finds
+/// none.
 pub(crate) fn join_workers(
     tree: &Tree,
     homes: &Homes,
     board: &Board,
     mut workers: Vec<Worker, Alloc>,
-) -> Worker
+) -> Result<Worker, Memory>
     requires over { IsBoardOf tree.now homes.now.pages board.now }
     requires some { 0 < length workers.items }
     requires finished { AllByRecursion (HasFinished tree.now homes.now.pages board.now) workers.items }
-    ensures finished { HasFinished tree.now homes.now.pages board.now result }
-    ensures width { width_of result ≡ total width_of workers.entry.items }
+    ensures finished { IfOk result (HasFinished tree.now homes.now.pages board.now) }
+    ensures width { IfOk result (λ whole. width_of whole ≡ total width_of workers.entry.items) }
 {
     let mut whole = workers.pop().unwrap();
     for worker in workers {
-        whole = Worker {
-            seat: board.join(whole.seat, worker.seat),
-            lost: whole.lost + worker.lost,
-        };
+        whole = join_two(tree, homes, board, whole, worker)?;
     }
-    whole
+    Ok(whole)
+}
+
+// Two workers' seats in one, with what they lost together, and the leaves of both.
+fn join_two(
+    tree: &Tree,
+    homes: &Homes,
+    board: &Board,
+    left: Worker,
+    right: Worker,
+) -> Result<Worker, Memory>
+    requires over { IsBoardOf tree.now homes.now.pages board.now }
+    requires left { HasFinished tree.now homes.now.pages board.now left }
+    requires right { HasFinished tree.now homes.now.pages board.now right }
+    ensures finished { IfOk result (HasFinished tree.now homes.now.pages board.now) }
+    ensures width { IfOk result (λ both. width_of both ≡ width_of left + width_of right) }
+{
+    let Worker {
+        seat,
+        lost,
+        mut folded,
+    } = left;
+    let Worker {
+        seat: other,
+        lost: more,
+        folded: mut rest,
+    } = right;
+    folded.append(&mut rest)?;
+    Ok(Worker {
+        seat: board.join(seat, other),
+        lost: lost + more,
+        folded,
+    })
 }

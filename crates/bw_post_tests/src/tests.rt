@@ -1,6 +1,7 @@
 // Batches posted to the pages of a tree, adopted, and then accepted or undone.
 mod all_words;
 mod assertions;
+mod beside;
 mod consolidation;
 mod half_done;
 mod making;

@@ -16,12 +16,12 @@ use Rattle.bw_level.proofs.AboveLemmas.{own_level}
 use Rattle.bw_tree.specs.Consolidation.{IsConsolidated, IsRebased}
 use Rattle.bw_tree.specs.Freeing.{IsTrimmed}
 use Rattle.bw_tree.specs.Merges.{HasLostChild, HasMerged, IsLowered, MayMerge}
-use Rattle.bw_tree.specs.Pages.{IsLeft, leaf_as_of}
-use Rattle.bw_tree.specs.Routing.{IsInLevel}
-use Rattle.bw_tree.specs.Shapes.{pairs_on}
-use Rattle.bw_tree.specs.View.{TreeView}
-use Rattle.bw_tree.proofs.NeighbourLemmas.{one_left}
-use Rattle.bw_tree.proofs.PageLemmas.{lowest_leaf}
+use Rattle.bw_look.specs.Pages.{IsLeft, leaf_as_of}
+use Rattle.bw_look.specs.Routing.{IsInLevel}
+use Rattle.bw_look.specs.Shapes.{pairs_on}
+use Rattle.bw_look.specs.View.{TreeView}
+use Rattle.bw_look.proofs.NeighbourLemmas.{one_left}
+use Rattle.bw_look.proofs.PageLemmas.{lowest_leaf}
 use Rattle.bw_shape.specs.Limits.{LimitsView, AreWithinBut, IsWithin}
 use Rattle.bw_steps.specs.Merges.{IsAbsorptionFinishStep, IsAbsorptionStep, IsLoweringStep}
 use Rattle.bw_steps.specs.Releasing.{AreFreed}

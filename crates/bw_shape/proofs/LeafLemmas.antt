@@ -10,8 +10,8 @@ use Rattle.bw_level.specs.Scans.{high_of}
 use Rattle.bw_level.specs.Slots.{Slot, Body, Pairs, Children, Free, body_is_leaf, children_of, is_leaf, slot_at}
 use Rattle.bw_tree.specs.Merges.{IsLowered}
 use Rattle.bw_tree.specs.Roots.{HasNewRoot}
-use Rattle.bw_tree.specs.View.{TreeView}
-use Rattle.bw_tree.proofs.PageLemmas.{lowest_leaf}
+use Rattle.bw_look.specs.View.{TreeView}
+use Rattle.bw_look.proofs.PageLemmas.{lowest_leaf}
 use Rattle.bw_steps.specs.Releasing.{AreFreed, FreesUnreached}
 use Rattle.bw_steps.proofs.TakenLemmas.{cases_free}
 use Rattle.bw_shape.specs.Leaves.{LeafRange, leaf_range, leaf_ranges}

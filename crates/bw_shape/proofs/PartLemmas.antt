@@ -11,10 +11,10 @@ use Rattle.bw_key.specs.Order.{KeyBytes}
 use Rattle.bw_level.specs.Levels.{AreLevels, row}
 use Rattle.bw_level.specs.Slots.{Slot, Body, Pairs, Children, Free, Gone, Live, body_is_leaf, children_of, is_leaf, slot_at}
 use Rattle.bw_level.specs.Splits.{level_parted, put_behind, slot_child, slot_entries}
-use Rattle.bw_tree.specs.Routing.{IsInLevel}
+use Rattle.bw_look.specs.Routing.{IsInLevel}
 use Rattle.bw_tree.specs.Splits.{IsSplittable}
-use Rattle.bw_tree.specs.View.{TreeView}
-use Rattle.bw_tree.proofs.PageLemmas.{lowest_leaf}
+use Rattle.bw_look.specs.View.{TreeView}
+use Rattle.bw_look.proofs.PageLemmas.{lowest_leaf}
 use Rattle.bw_shape.specs.Tidying.{DueView}
 use Rattle.bw_shape.specs.Visits.{HasPassed, IsBare, IsHalved, IsNextBefore, IsPart, StandBefore, half_of, work_left}
 use Rattle.bw_steps.specs.Releasing.{taken_count}

@@ -12,7 +12,7 @@ use Rattle.bw_level.specs.Scans.{high_of}
 use Rattle.bw_level.specs.Searches.{IsInLevels}
 use Rattle.bw_level.specs.Slots.{Slot, Free, side_of_slot, slot_at}
 use Rattle.bw_tree.specs.Consolidation.{IsConsolidated, IsRebased}
-use Rattle.bw_tree.specs.View.{TreeView, contents_at}
+use Rattle.bw_look.specs.View.{TreeView, contents_at}
 use Rattle.bw_steps.specs.Steps.{HasLostChain, IsConsolidationStep}
 use Rattle.bw_shape.specs.Limits.{LimitsView, IsWithin}
 use Rattle.bw_steps.specs.Releasing.{AreFreed, FreesUnreached, HasNoneToFree}

@@ -18,7 +18,7 @@ use Rattle.bw_level.proofs.SplitLemmas.{had}
 use Rattle.bw_tree.specs.Children.{AreNamed, IsNamed, state_with_children}
 use Rattle.bw_tree.specs.Roots.{HasNewRoot}
 use Rattle.bw_tree.specs.Splits.{IsSplit, IsSplittable}
-use Rattle.bw_tree.specs.View.{TreeView, contents_at}
+use Rattle.bw_look.specs.View.{TreeView, contents_at}
 use Rattle.bw_shape.specs.Limits.{LimitsView, AreWithinBut, IsWithin}
 use Rattle.bw_steps.specs.Naming.{AreFinished}
 use Rattle.bw_steps.specs.Releasing.{AreFreed}

@@ -5,7 +5,7 @@ use Rattle.bw_level.specs.Before.{low_of}
 use Rattle.bw_level.specs.Levels.{row}
 use Rattle.bw_level.specs.Scans.{high_of}
 use Rattle.bw_level.specs.Slots.{Slot, slot_at}
-use Rattle.bw_tree.specs.View.{TreeView}
+use Rattle.bw_look.specs.View.{TreeView}
 
 -- a leaf has the keys from its low one on and below its high one, if there is one
 pub record LeafRange : Type 0 where

@@ -4,8 +4,8 @@ use Rattle.std.specs.List.{Contains}
 use Rattle.bw_level.specs.Levels.{row}
 use Rattle.bw_level.specs.Reading.{pairs_under, writes_over}
 use Rattle.bw_level.specs.Slots.{Slot, slot_at}
-use Rattle.bw_tree.specs.Shapes.{pairs_on}
-use Rattle.bw_tree.specs.View.{TreeView}
+use Rattle.bw_look.specs.Shapes.{pairs_on}
+use Rattle.bw_look.specs.View.{TreeView}
 
 -- how many writes a leaf's chain may have, how many entries a page, and below how many a page is merged
 pub record LimitsView : Type 0 where

@@ -5,7 +5,7 @@ use Rattle.bw_level.specs.Before.{low_of}
 use Rattle.bw_level.specs.Reading.{writes_over}
 use Rattle.bw_level.specs.Scans.{high_of}
 use Rattle.bw_level.specs.Slots.{Slot, Free, side_of_slot, slot_at}
-use Rattle.bw_tree.specs.View.{TreeView, contents_at}
+use Rattle.bw_look.specs.View.{TreeView, contents_at}
 use Rattle.bw_steps.specs.Releasing.{FreesUnreached, HasNoneToFree}
 
 -- a page begins and ends where it did, and has the same right neighbour

@@ -2,8 +2,8 @@
 use Rattle.std.specs.Prelude.{◌≡◌, ℕ, ◌≤◌, ◌⊎◌, List, [], Option, None, drop, reverse}
 use Rattle.std.specs.List.{Contains, concat}
 use Rattle.bw_level.specs.Levels.{row}
-use Rattle.bw_tree.specs.View.{TreeView, contents_at}
-use Rattle.bw_tree.specs.Children.{HasNoUnnamed}
+use Rattle.bw_look.specs.View.{TreeView, contents_at}
+use Rattle.bw_look.specs.Unnamed.{HasNoUnnamed}
 use Rattle.bw_steps.specs.Naming.{AreFinished}
 use Rattle.bw_steps.specs.Steps.{IsRootStep}
 use Rattle.bw_steps.specs.declared.steps.Did.{Did}

@@ -1,7 +1,7 @@
 // Pages with too many entries are split into halves, until none has too many.
 ghost use Rattle.std.specs.Prelude.{◌≡◌, ◌<◌, ◌≤◌, ◌^◌, false, true, None, length, slice_index, IfOk, OnOk, OnErr};
 ghost use Rattle.bw_level.specs.Searches.{IsInLevels};
-ghost use Rattle.bw_tree.specs.Routing.{IsInLevel};
+ghost use Rattle.bw_look.specs.Routing.{IsInLevel};
 ghost use Rattle.bw_tree.specs.Splits.{IsSplittable};
 ghost use Rattle.bw_shape.specs.Limits.{AreWithinBut};
 ghost use Rattle.bw_shape.specs.Tidying.{HoldsAll, KeepsWithin};

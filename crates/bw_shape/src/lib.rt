@@ -28,7 +28,8 @@ pub use bw_memory::Alloc;
 pub use bw_page::PageId;
 /// The steps.
 pub use bw_steps::{
-    Did, absorb, consolidate, drop_root, finish_absorb, finish_split, grow_root, release, split,
+    Did, absorb, consolidate, drop_root, finish_absorb, finish_split, fold_beside, grow_root,
+    release, split,
 };
 /// The tree.
 pub use bw_tree::Tree;

@@ -4,7 +4,7 @@ ghost use Rattle.std.specs.List.{Contains};
 ghost use Rattle.bw_level.specs.Levels.{row};
 ghost use Rattle.bw_level.specs.Slots.{slot_at};
 ghost use Rattle.bw_level.specs.Splits.{slot_entries};
-ghost use Rattle.bw_tree.specs.Routing.{IsInLevel};
+ghost use Rattle.bw_look.specs.Routing.{IsInLevel};
 ghost use Rattle.bw_shape.specs.Limits.{AreWithinBut, IsWithin};
 ghost use Rattle.bw_shape.specs.Tidying.{HoldsAll};
 ghost use Rattle.bw_shape.specs.Visits.{HasShortChain, IsNext, IsOver, IsSmall};

@@ -4,10 +4,11 @@ use Rattle.std.proofs.lemmas.List.{set-set}
 use Rattle.std.specs.Prelude.{Result, Ok, Err, OnErr}
 use Rattle.bw_key.specs.Order.{KeyBytes}
 use Rattle.bw_level.specs.Children.{FitsChild}
-use Rattle.bw_tree.specs.Children.{IsNamed, IsUnnamed}
+use Rattle.bw_tree.specs.Children.{IsNamed}
+use Rattle.bw_look.specs.Unnamed.{IsUnnamed}
 use Rattle.bw_tree.specs.Consolidation.{IsRebased}
-use Rattle.bw_tree.specs.Routing.{IsInnerPage}
-use Rattle.bw_tree.specs.View.{TreeView}
+use Rattle.bw_look.specs.Routing.{IsInnerPage}
+use Rattle.bw_look.specs.View.{TreeView}
 use Rattle.bw_steps.specs.Steps.{IsNamerToBe, IsSameOver}
 
 -- a page that may name one of the level below is an inner page

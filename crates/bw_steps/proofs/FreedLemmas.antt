@@ -11,8 +11,9 @@ use Rattle.bw_level.specs.Levels.{row}
 use Rattle.bw_level.specs.Searches.{AllStand, IsInLevels}
 use Rattle.bw_level.specs.Slots.{Slot, Free, Gone, Live, left_of, left_of_slot, slot_at}
 use Rattle.bw_level.specs.Steps.{IsTerm}
-use Rattle.bw_tree.specs.Freeing.{HasEachRemoved, HasFreed, MayBeFreed}
-use Rattle.bw_tree.specs.View.{TreeView}
+use Rattle.bw_look.specs.RemovedPages.{HasEachRemoved}
+use Rattle.bw_tree.specs.Freeing.{HasFreed, MayBeFreed}
+use Rattle.bw_look.specs.View.{TreeView}
 use Rattle.bw_steps.specs.Releasing.{AreFreed, HasNoneToFree, IsLeftOut, IsLeftToFree, IsReleaseStep, taken_count}
 use Rattle.bw_steps.specs.declared.steps.Did.{Did}
 use Rattle.bw_steps.specs.declared.steps.Did.TheVariants.{Done, NotNeeded}

@@ -13,11 +13,12 @@ use Rattle.bw_level.specs.Searches.{IsInLevels}
 use Rattle.bw_level.specs.Slots.{Slot, PageState, Body, Pairs, Children, Gone, Live, IsSoundBody, children_of, level_of, side_of, side_of_slot, slot_at}
 use Rattle.bw_level.specs.Splits.{entry_count, slot_entries}
 use Rattle.bw_tree.specs.Consolidation.{IsRebased}
-use Rattle.bw_tree.specs.Merges.{HasLostChild, IsNamerOfRemoved, MayMerge}
-use Rattle.bw_tree.specs.Pages.{IsLeft, IsNamer, IsPlain}
-use Rattle.bw_tree.specs.View.{TreeView}
-use Rattle.bw_tree.proofs.NeighbourLemmas.{left_beside, one_left}
-use Rattle.bw_tree.proofs.PageLemmas.{entry_home, one_namer}
+use Rattle.bw_tree.specs.Merges.{HasLostChild, MayMerge}
+use Rattle.bw_look.specs.RemovedPages.{IsNamerOfRemoved}
+use Rattle.bw_look.specs.Pages.{IsLeft, IsNamer, IsPlain}
+use Rattle.bw_look.specs.View.{TreeView}
+use Rattle.bw_look.proofs.NeighbourLemmas.{left_beside, one_left}
+use Rattle.bw_look.proofs.PageLemmas.{entry_home, one_namer}
 use Rattle.bw_tree.proofs.RootLemmas.{IsTop, top_of}
 use Rattle.bw_steps.proofs.PlainLemmas.{has_record}
 

@@ -18,9 +18,10 @@ use Rattle.bw_level.proofs.AboveLemmas.{one_above, own_level}
 use Rattle.bw_level.proofs.RowLemmas.{InRow, in_row}
 use Rattle.bw_level.proofs.RouteLemmas.{side_bounded}
 use Rattle.bw_level.proofs.WalkLemmas.{way_falls}
-use Rattle.bw_tree.specs.Children.{IsUnnamed, MayHaveChildren}
-use Rattle.bw_tree.specs.View.{TreeView}
-use Rattle.bw_tree.proofs.UnnamedLemmas.{fits_child}
+use Rattle.bw_look.specs.Unnamed.{IsUnnamed}
+use Rattle.bw_tree.specs.Children.{MayHaveChildren}
+use Rattle.bw_look.specs.View.{TreeView}
+use Rattle.bw_look.proofs.UnnamedLemmas.{fits_child}
 use Rattle.bw_steps.specs.Naming.{AreAllUnnamed, AreUnnamed, last_page}
 
 -- the last page with one entry more

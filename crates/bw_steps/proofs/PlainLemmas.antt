@@ -1,9 +1,9 @@
 -- What a page's mapping word tells.
 use Rattle.std.proofs.Common.{◌≡◌, ℕ, zero, suc, ◌<◌, ◌≤◌, ◌^◌, Bool, true, false, List, [], ◌∷◌, length, Decides, slice_index, sym, ◌∙◌, arith}
-use Rattle.bw_tree.specs.Pages.{IsPlain}
-use Rattle.bw_tree.specs.Routing.{IsInNoLevel}
-use Rattle.bw_tree.specs.Trees.{ArePlaced}
-use Rattle.bw_tree.specs.View.{TreeView}
+use Rattle.bw_look.specs.Pages.{IsPlain}
+use Rattle.bw_look.specs.Routing.{IsInNoLevel}
+use Rattle.bw_look.specs.Trees.{ArePlaced}
+use Rattle.bw_look.specs.View.{TreeView}
 
 -- a page that isn't a base page by itself has a record
 pub has_record : (tree : TreeView) (p : ℕ) (plain : Bool) → Decides plain (IsPlain tree p) → plain ≡ false → p < length tree.heads → 2 ^ 32 ≤ slice_index tree.heads p

@@ -1,8 +1,9 @@
 -- What the steps do by which pages are merged and the tree loses a level, and where they aren't needed.
 use Rattle.std.specs.Prelude.{◌≡◌, ℕ}
 use Rattle.bw_level.specs.Roots.{HasOneChild}
-use Rattle.bw_tree.specs.Merges.{HasLostChild, HasMerged, HasNoNamerOfRemoved, IsLowered, IsNamerOfRemoved, MayMerge}
-use Rattle.bw_tree.specs.View.{TreeView}
+use Rattle.bw_tree.specs.Merges.{HasLostChild, HasMerged, IsLowered, MayMerge}
+use Rattle.bw_look.specs.RemovedPages.{HasNoNamerOfRemoved, IsNamerOfRemoved}
+use Rattle.bw_look.specs.View.{TreeView}
 use Rattle.bw_steps.specs.declared.steps.Did.{Did}
 use Rattle.bw_steps.specs.declared.steps.Did.TheVariants.{Done, NotNeeded}
 

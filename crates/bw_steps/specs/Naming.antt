@@ -1,8 +1,9 @@
 -- Right neighbours that get their index entries at once.
 use Rattle.std.specs.Prelude.{ℕ, ◌<◌, List, [], ◌∷◌, length}
 use Rattle.bw_key.specs.Order.{KeyBytes}
-use Rattle.bw_tree.specs.Children.{AreNamed, IsUnnamed}
-use Rattle.bw_tree.specs.View.{TreeView}
+use Rattle.bw_tree.specs.Children.{AreNamed}
+use Rattle.bw_look.specs.Unnamed.{IsUnnamed}
+use Rattle.bw_look.specs.View.{TreeView}
 
 -- the page has no right neighbour that this page of the level above is to name
 abbrev pub HasNoUnnamedOn : TreeView → ℕ → ℕ → Type 0

@@ -2,12 +2,13 @@
 use Rattle.std.specs.Prelude.{◌≡◌, ℕ, ◌<◌, ◌≤◌, ◌^◌, ◌⊎◌, None, slice_index}
 use Rattle.bw_key.specs.Order.{KeyBytes}
 use Rattle.bw_level.specs.Slots.{side_of}
-use Rattle.bw_tree.specs.Children.{HasNoUnnamed, IsNamed, IsUnnamed}
+use Rattle.bw_look.specs.Unnamed.{HasNoUnnamed, IsUnnamed}
+use Rattle.bw_tree.specs.Children.{IsNamed}
 use Rattle.bw_tree.specs.Consolidation.{IsConsolidated, IsRebased}
 use Rattle.bw_tree.specs.Roots.{HasNewRoot}
-use Rattle.bw_tree.specs.Routing.{IsInLevel}
+use Rattle.bw_look.specs.Routing.{IsInLevel}
 use Rattle.bw_tree.specs.Splits.{IsSplit, IsSplittable}
-use Rattle.bw_tree.specs.View.{TreeView}
+use Rattle.bw_look.specs.View.{TreeView}
 use Rattle.bw_steps.specs.declared.steps.Did.{Did}
 use Rattle.bw_steps.specs.declared.steps.Did.TheVariants.{Done, NotNeeded}
 

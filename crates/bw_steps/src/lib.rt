@@ -13,7 +13,9 @@ pub use merges::{absorb, are_under_one, drop_root, finish_absorb};
 pub use release_runs::{release_all, release_run};
 pub use releasing::release;
 pub use right_neighbours::name_rights;
-pub use steps::{Did, consolidate, finish_split, grow_root, lose_chain, may_part, split};
+pub use steps::{
+    Did, consolidate, finish_split, fold_beside, grow_root, lose_chain, may_part, split,
+};
 
 /// Out of memory.
 pub use bw_key::Memory;

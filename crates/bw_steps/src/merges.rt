@@ -2,8 +2,9 @@
 ghost use Rattle.std.specs.Prelude.{◌≡◌, ℕ, None, Decides, MatchOption, IfOk, OnOk, OnErr};
 ghost use Rattle.bw_level.specs.Children.{MayDropChild};
 ghost use Rattle.bw_level.specs.Roots.{HasOneChild};
-ghost use Rattle.bw_tree.specs.Merges.{HasLostChild, IsNamerOfRemoved, MayMerge};
-ghost use Rattle.bw_tree.specs.Pages.{IsNamer};
+ghost use Rattle.bw_tree.specs.Merges.{HasLostChild, MayMerge};
+ghost use Rattle.bw_look.specs.RemovedPages.{IsNamerOfRemoved};
+ghost use Rattle.bw_look.specs.Pages.{IsNamer};
 ghost use Rattle.bw_steps.specs.Merges.{IsAbsorptionFinishStep, IsAbsorptionStep, IsLoweringStep};
 ghost use Rattle.bw_steps.specs.Steps.{IsSameOver};
 

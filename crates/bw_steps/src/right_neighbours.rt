@@ -1,7 +1,7 @@
 // Right neighbours that the level above doesn't name yet, as the splits of one page leave them.
 ghost use Rattle.std.specs.Prelude.{◌≡◌, None, IfOk, MatchOption, OnErr};
 ghost use Rattle.bw_level.specs.Searches.{IsInLevels};
-ghost use Rattle.bw_tree.specs.Children.{IsUnnamed};
+ghost use Rattle.bw_look.specs.Unnamed.{IsUnnamed};
 ghost use Rattle.bw_steps.specs.Naming.{AreAllUnnamed, AreFinished, HasNoUnnamedOn};
 ghost use Rattle.bw_steps.specs.Steps.{IsFinishStep};
 

@@ -1,17 +1,19 @@
 // The steps by which a tree changes its pages.
 ghost use Rattle.std.specs.Prelude.{◌≡◌, ◌<◌, ◌≤◌, ◌^◌, true, false, None, Decides, MatchOption, IfOk, OnOk, OnErr, length, slice_index};
+ghost use Rattle.std.specs.List.{Contains};
 ghost use Rattle.bw_level.specs.Children.{FitsChild};
+ghost use Rattle.bw_level.specs.Levels.{row};
 ghost use Rattle.bw_level.specs.Splits.{HasNoRemovedAt};
 ghost use Rattle.bw_tree.specs.Children.{IsNamed};
 ghost use Rattle.bw_level.specs.Searches.{IsInLevels};
 ghost use Rattle.bw_tree.specs.Consolidation.{IsRebased};
-ghost use Rattle.bw_tree.specs.Routing.{IsInLevel, IsInnerPage};
-ghost use Rattle.bw_tree.specs.Pages.{IsPlain};
+ghost use Rattle.bw_look.specs.Routing.{IsInLevel, IsInnerPage};
+ghost use Rattle.bw_look.specs.Pages.{IsPlain, leaf_as_of};
 ghost use Rattle.bw_tree.specs.Splits.{IsSplittable};
 ghost use Rattle.bw_steps.specs.Steps.{IsConsolidationStep, IsFinishStep, IsFinished, HasLostChain, IsNamerToBe, IsRootStep, IsSameOver, IsSplitStep};
 
 use bw_key::{Key, Memory};
-use bw_page::PageId;
+use bw_page::{Leaf, PageId};
 use bw_tree::Tree;
 
 /// What became of a step.
@@ -42,6 +44,16 @@ pub fn consolidate(tree: &mut Tree, page: PageId) -> Result<Did, Memory>
     };
     lose_chain(tree, page, level)?;
     Ok(Did::Done)
+}
+
+/// What a leaf's chain makes of it as of a stamp, for a worker that consolidates the leaf beside the posting of a batch: its
+/// range, its right neighbour, and the pairs that its writes below the stamp leave. A staged batch may wait. It costs a walk
+/// along the chain, the sorting of its writes, and a copy of the pairs. `Memory` is answered where a list or a copy finds none.
+pub fn fold_beside(tree: &Tree, page: PageId, stamp: u64) -> Result<Leaf, Memory>
+    requires { Contains (row tree.now.levels 0) page }
+    ensures { IfOk result (λ leaf. leaf ≡ leaf_as_of tree.now page stamp) }
+{
+    tree.leaf_as_of(page, stamp)
 }
 
 /// Consolidates a page of a level that has a record. It costs what `consolidate` does, without the search. After `Memory` the

@@ -2,7 +2,7 @@
 use Rattle.std.proofs.Common.{List}
 use Rattle.bw_batch.specs.Trees.{IsShapeOf, IsShapeWith}
 use Rattle.bw_batch.specs.View.{IndexView, contents_of}
-use Rattle.bw_tree.specs.declared.tree.shape.PageShape.{PageShape}
+use Rattle.bw_look.specs.declared.look.shape.PageShape.{PageShape}
 
 pub shape_with : (index : IndexView) (shape : List PageShape) → IsShapeOf index shape → IsShapeWith (contents_of index) shape
 shape_with index shape (tree, of, is) = (

@@ -2,7 +2,7 @@
 use Rattle.std.specs.Prelude.{ℕ, ◌==◌, if◌then◌else◌, List, ◌∷◌, ◌++◌, codes, Option, Some, None}
 use Rattle.std.specs.List.{flat_map}
 use Rattle.std.specs.Fmt.{decimal}
-use Rattle.bw_tree.specs.declared.tree.shape.PageShape.{PageShape}
+use Rattle.bw_look.specs.declared.look.shape.PageShape.{PageShape}
 use Rattle.bw_trace.specs.Spelling.{spelled}
 use Rattle.bw_trace.specs.Texts.{line}
 

@@ -37,14 +37,16 @@ use Rattle.bw_level.specs.Entries.{AreExact}
 use Rattle.bw_level.specs.Changes.{Bases}
 use Rattle.bw_chain.specs.Chains.{Records, Ends, slot_of_word, slots_of}
 use Rattle.bw_level.specs.Searches.{AllStand, IsInLevels}
-use Rattle.bw_tree.specs.Trees.{ArePlaced, IsStanding}
-use Rattle.bw_chain.specs.Records.{put_records, writes_in}
+use Rattle.bw_look.specs.Trees.{ArePlaced, IsStanding}
+use Rattle.bw_chain.specs.Records.{put_records}
 use Rattle.bw_chain.specs.Supports.{base_under}
 use Rattle.bw_tree.proofs.AlikeLemmas.{IsPutOver, AreInside, exact_written, levels_written, pairs_alike, put_bare, stand_written}
 use Rattle.bw_chain.proofs.GrowthLemmas.{take_front}
 use Rattle.bw_level.proofs.LevelLemmas.{levels_now}
 use Rattle.bw_tree.proofs.PlacedLemmas.{named_are, named_pass}
-use Rattle.bw_tree.proofs.PostedLemmas.{chain_posted, named, put_over, read_both}
+use Rattle.bw_tree.proofs.PostedLemmas.{chain_posted, named, put_over}
+use Rattle.bw_look.proofs.RoutingLemmas.{slot_past}
+use Rattle.bw_look.proofs.StagedLemmas.{read_both}
 use Rattle.bw_chain.proofs.ReadingLemmas.{slot_of_head}
 use Rattle.bw_tree.proofs.RowWritesLemmas.{row_has_all}
 
@@ -70,12 +72,6 @@ links_put [] [] e = refl
 links_put [] (l ∷ links) e = absurd (omega (arith, e))
 links_put (w ∷ ws) [] e = absurd (omega (arith, e))
 links_put (w ∷ ws) (l ∷ links) e = ap (λ (ls : List ℕ). l ∷ ls) (links_put ws links (omega (arith, e)))
-
-pub writes_put_in : (ws : List WriteView) (links : List ℕ) → length links ≡ length ws → writes_in (put_records ws links) ≡ ws
-writes_put_in [] [] e = refl
-writes_put_in [] (l ∷ links) e = absurd (omega (arith, e))
-writes_put_in (w ∷ ws) [] e = absurd (omega (arith, e))
-writes_put_in (w ∷ ws) (l ∷ links) e = ap (λ (vs : List WriteView). w ∷ vs) (writes_put_in ws links (omega (arith, e)))
 
 drop_all : (k : ℕ) (xs : List ℕ) → length xs ≤ k → drop k xs ≡ []
 drop_all zero [] le = refl
@@ -105,11 +101,6 @@ one_state e = cc
 
 no_live : {s : PageState} → Free ≡ Live s → ⊥
 no_live e = cc
-
-pub slot_past : (f : ℕ → Slot) (heads : List ℕ) (p : ℕ) → length heads ≤ p → slot_at (map f heads) p ≡ Free
-slot_past f [] p le = refl
-slot_past f (h ∷ heads) zero le = absurd (omega arith)
-slot_past f (h ∷ heads) (suc p) le = slot_past f heads p (omega arith)
 
 -- a page with what was put over it
 record Placed (bases : Bases) (ws : List WriteView) (levels : List (List ℕ)) (p : ℕ) (old new : Slot) : Type 0 where

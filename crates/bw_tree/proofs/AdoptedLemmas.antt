@@ -1,6 +1,6 @@
 -- A tree that adopted the words that a board was closed with.
 use Rattle.bw_tree.specs.Stages.{writes_with}
-use Rattle.std.proofs.Common.{◌≡◌, ℕ, zero, suc, ◌+◌, ◌<◌, ◌≤◌, true, false, List, [], ◌∷◌, ◌++◌, length, take, drop, Option, Some, None, refl, sym, ap, ◌∙◌, subst, arith}
+use Rattle.std.proofs.Common.{◌≡◌, ℕ, ◌+◌, ◌<◌, ◌≤◌, true, false, List, ◌++◌, length, take, drop, Option, Some, None, refl, sym, ap, ◌∙◌, subst, arith}
 use Rattle.std.specs.Prelude.{filter, slice_get, slice_index}
 use Rattle.std.specs.List.{Contains}
 use Rattle.std.specs.List.Sorted.{IsPermutation}
@@ -15,30 +15,25 @@ use Rattle.bw_level.specs.Turns.{slot_without_writes}
 use Rattle.bw_level.specs.Levels.{IsHome, row, levels_under}
 use Rattle.bw_level.specs.Changes.{Bases}
 use Rattle.bw_chain.specs.Chains.{Records, slot_of_word, slots_of}
-use Rattle.bw_tree.specs.Trees.{IsStanding, IsTree, StageWords, stage_of, view_of}
-use Rattle.bw_tree.specs.Words.{words_before}
-use Rattle.bw_tree.specs.declared.mapping_words.WordsBefore.{WordsBefore}
+use Rattle.bw_look.specs.Trees.{IsStanding, IsTree, StageWords, stage_of, view_of}
+use Rattle.bw_look.specs.Words.{bases_before, words_before}
+use Rattle.bw_look.specs.declared.mapping_words.WordsBefore.{WordsBefore}
 use Rattle.bw_chain.specs.Records.{put_records, writes_in}
 use Rattle.bw_tree.specs.Stages.{IsPosted, IsPostedStage, adopted_stage}
-use Rattle.bw_tree.specs.View.{TreeView, StageView, contents_at, contents_with}
-use Rattle.bw_tree.proofs.AdoptLemmas.{ChainOf, contents_after_it, levels_after, pages_after, relinked, standing_after, writes_after, writes_put_in}
+use Rattle.bw_look.specs.View.{TreeView, StageView, contents_at, contents_with}
+use Rattle.bw_tree.proofs.AdoptLemmas.{ChainOf, contents_after_it, levels_after, pages_after, relinked, standing_after, writes_after}
+use Rattle.bw_look.proofs.StagedLemmas.{take_length, writes_put_in}
 use Rattle.bw_chain.proofs.GrowthLemmas.{append_extends, drop_front, same_map, still_ends, take_front}
 use Rattle.bw_tree.proofs.PostedLemmas.{posted_length}
 
-pub take_length : (n : ℕ) (xs : Records) → n ≤ length xs → length (take n xs) ≡ n
-take_length zero [] le = refl
-take_length zero (x ∷ xs) le = refl
-take_length (suc n) [] le = absurd (omega arith)
-take_length (suc n) (x ∷ xs) le = ap suc (take_length n xs (omega arith))
-
--- the tree behind an adoption
-pub record IsAdoptedOn (heads : List ℕ) (bases : Bases) (records : Records) (root next : ℕ) (staged : Option StageWords) (tree : TreeView) : Type 0 where
+-- the tree behind an adoption: this one with the records posted, and with this stage, adopted
+pub record IsAdoptedOn (heads : List ℕ) (bases : Bases) (records : Records) (root next : ℕ) (staged : Option StageWords) (tree : TreeView) (stage : Option StageView) : Type 0 where
   pub tree_is : IsTree heads bases records root next staged
   pub contents : (stamp : ℕ) → contents_at (view_of heads bases records root next staged) stamp ≡ contents_with tree stamp
   pub levels : levels_under (slots_of heads bases records) root ≡ tree.levels
   pub pages : (p : ℕ) → slot_without_writes (slot_at (slots_of heads bases records) p) ≡ slot_without_writes (slot_at tree.slots p)
   pub writes : (p : ℕ) → Contains (row tree.levels 0) p → IsPermutation (writes_with tree p) (writes_over (slot_at (slots_of heads bases records) p))
-  pub staged_is : (view_of heads bases records root next staged).staged ≡ adopted_stage tree.staged
+  pub staged_is : (view_of heads bases records root next staged).staged ≡ adopted_stage stage
 
 module _ (heads heads' : List ℕ) (bases : Bases) (records : Records) (root next n ops : ℕ) (links : List ℕ) where
   abbrev stage : StageWords
@@ -108,10 +103,14 @@ module _ (heads heads' : List ℕ) (bases : Bases) (records : Records) (root nex
         relinked earlier ws t.stage.links links records new t.stage.parts t.stage.linked linked deltas
         (subst (λ k. links_of new ≡ take k (links_of records) ++ links ++ drop (k + length links) (links_of records)) (sym count) links_are)
 
-    -- the words before the adoption, by what is kept of them
-    module _ (past : WordsBefore) (back : words_before (Some past) heads' ≡ heads) where
+    -- the words and base pages before the adoption, by what is kept of them
+    module _ (past : WordsBefore) (was : List ℕ) (was_bases : Bases) (back : words_before (Some past) heads' ≡ was) (back_bases : bases_before (Some past) bases ≡ was_bases) (stood : IsStanding was was_bases earlier root next)
+        (same_levels : levels_under (slots_of was was_bases earlier) root ≡ levels_under (slots_of heads bases earlier) root) where
       abbrev stage' : StageWords
       stage' = record { records = n; ops = ops; before = Some past }
+
+      abbrev put_back : Bases
+      put_back = bases_before (Some past) bases
 
       adopted_tree : IsTree heads' bases after root next (Some stage')
       adopted_tree = record {
@@ -124,17 +123,24 @@ module _ (heads heads' : List ℕ) (bases : Bases) (records : Records) (root nex
           earlier = omega (arith, t.stage.earlier, length_same);
           rising = t.stage.rising;
           below = t.stage.below;
-          before = subst (λ (h : List ℕ). IsStanding h bases (take n after) root next) (sym back) (subst (λ (r : Records). IsStanding heads bases r root next) (sym first_same) t.stage.before);
-          same = ap (λ (h : List ℕ). levels_under (slots_of h bases (take n after)) root) back ∙ ap (λ (r : Records). levels_under (slots_of heads bases r) root) first_same ∙ sym levels_now;
+          before =
+              subst (λ (h : List ℕ). IsStanding h put_back (take n after) root next) (sym back)
+              (subst (λ (b : Bases). IsStanding was b (take n after) root next) (sym back_bases)
+              (subst (λ (r : Records). IsStanding was was_bases r root next) (sym first_same) stood));
+          same =
+              ap (λ (h : List ℕ). levels_under (slots_of h put_back (take n after)) root) back
+              ∙ ap (λ (b : Bases). levels_under (slots_of was b (take n after)) root) back_bases
+              ∙ ap (λ (r : Records). levels_under (slots_of was was_bases r) root) first_same
+              ∙ same_levels ∙ sym levels_now;
         };
       }
 
-      abbrev stage_with : List ℕ → Records → List WriteView → StageView
-      stage_with h r w =
-          let was = slots_of h bases r in
-          record { slots = was; levels = levels_under was root; heads = h; records = n; ops = ops; writes = w; adopted = true }
+      abbrev stage_with : List ℕ → Bases → Records → List WriteView → StageView
+      stage_with h b r w =
+          let slots = slots_of h b r in
+          record { slots = slots; levels = levels_under slots root; heads = h; records = n; ops = ops; writes = w; adopted = true }
 
-      pub adopt_all : IsAdoptedOn heads' bases after root next (Some stage') tree
+      pub adopt_all : IsAdoptedOn heads' bases after root next (Some stage') tree (Some (stage_of was was_bases records root stage))
       adopt_all = record {
         tree_is = adopted_tree;
         contents = λ stamp.
@@ -150,44 +156,56 @@ module _ (heads heads' : List ℕ) (bases : Bases) (records : Records) (root nex
             (writes_after heads heads' bases earlier root next (next + ops) ws links linked p.pages t.stage.rising t.stage.below (omega arith) t.stage.before chains q
             (subst (λ (s : List Slot). Contains (row (levels_under s root) 0) q) slots_same has)));
         staged_is =
-            ap (λ h. Some (stage_with h (take n after) (writes_in (drop n after)))) back
-            ∙ ap (λ r. Some (stage_with heads r (writes_in (drop n after)))) first_same
-            ∙ ap (λ w. Some (stage_with heads earlier w)) (last_same ∙ sym writes_are);
+            ap (λ h. Some (stage_with h put_back (take n after) (writes_in (drop n after)))) back
+            ∙ ap (λ b. Some (stage_with was b (take n after) (writes_in (drop n after)))) back_bases
+            ∙ ap (λ r. Some (stage_with was was_bases r (writes_in (drop n after)))) first_same
+            ∙ ap (λ w. Some (stage_with was was_bases earlier w)) (last_same ∙ sym writes_are);
       }
 
--- What `adopt` does, from the words that it writes.
-pub record Adoption (heads heads' : List ℕ) (bases : Bases) (records : Records) (root next : ℕ) (tree : TreeView) (s : StageWords) (links : List ℕ) : Type 0 where
+-- What an adoption does, from the words that it writes: these words and base pages stood before it.
+pub record Adoption (was heads' : List ℕ) (was_bases bases : Bases) (records : Records) (root next : ℕ) (tree : TreeView) (stage : Option StageView) (s : StageWords) (links : List ℕ) : Type 0 where
   pub fits : s.records + length links ≤ length records
-  pub all : (past : WordsBefore) → words_before (Some past) heads' ≡ heads → (new : Records) → deltas_of new ≡ deltas_of records → links_of new ≡ take s.records (links_of records) ++ links ++ drop (s.records + length links) (links_of records) →
-      IsAdoptedOn heads' bases new root next (Some (record { records = s.records; ops = s.ops; before = Some past })) tree
+  pub all : (past : WordsBefore) → words_before (Some past) heads' ≡ was → bases_before (Some past) bases ≡ was_bases → (new : Records) → deltas_of new ≡ deltas_of records → links_of new ≡ take s.records (links_of records) ++ links ++ drop (s.records + length links) (links_of records) →
+      IsAdoptedOn heads' bases new root next (Some (record { records = s.records; ops = s.ops; before = Some past })) tree stage
+
+-- over pages that stood otherwise, with the same levels
+pub adoption_over : (heads heads' was : List ℕ) (bases was_bases : Bases) (records : Records) (root next n ops : ℕ) (links : List ℕ) → let s : StageWords = record { records = n; ops = ops; before = None } in let tree = view_of heads bases records root next (Some s) in
+    IsTree heads bases records root next (Some s) → IsPosted tree (stage_of heads bases records root s) heads' links → IsStanding was was_bases (take n records) root next → levels_under (slots_of was was_bases (take n records)) root ≡ levels_under (slots_of heads bases (take n records)) root →
+    Adoption was heads' was_bases bases records root next tree (Some (stage_of was was_bases records root s)) s links
+adoption_over heads heads' was bases was_bases records root next n ops links t p stood same_levels =
+    let s : StageWords = record { records = n; ops = ops; before = None } in
+    let tree : TreeView = view_of heads bases records root next (Some s) in
+    record {
+      fits = adopt_fits heads heads' bases records root next n ops links t p;
+      all = λ past back back_bases new deltas links_are.
+          let s' : StageWords = record { records = n; ops = ops; before = Some past } in
+          subst (λ (r : Records). IsAdoptedOn heads' bases r root next (Some s') tree (Some (stage_of was was_bases records root s)))
+          (sym (adopt_links heads heads' bases records root next n ops links t p new deltas links_are)) (adopt_all heads heads' bases records root next n ops links t p past was was_bases back back_bases stood same_levels);
+    }
 
 adoption_at : (heads heads' : List ℕ) (bases : Bases) (records : Records) (root next n ops : ℕ) (before : Option WordsBefore) (links : List ℕ) → IsTree heads bases records root next (Some (record { records = n; ops = ops; before = before })) →
-    let tree = view_of heads bases records root next (Some (record { records = n; ops = ops; before = before })) in IsPostedStage tree tree.staged heads' links → Adoption heads heads' bases records root next tree (record { records = n; ops = ops; before = before }) links
+    let tree = view_of heads bases records root next (Some (record { records = n; ops = ops; before = before })) in IsPostedStage tree tree.staged heads' links → Adoption heads heads' bases bases records root next tree tree.staged (record { records = n; ops = ops; before = before }) links
 adoption_at heads heads' bases records root next n ops (Some b) links t p = absurd (different p.0)
   where
     different : true ≡ false → ⊥
     different e = cc
-adoption_at heads heads' bases records root next n ops None links t p = record {
-  fits = adopt_fits heads heads' bases records root next n ops links t p.1;
-  all = λ past back new deltas links_are. subst (λ (r : Records). IsAdoptedOn heads' bases r root next (Some (record { records = n; ops = ops; before = Some past })) (view_of heads bases records root next (Some (record { records = n; ops = ops; before = None }))))
-      (sym (adopt_links heads heads' bases records root next n ops links t p.1 new deltas links_are)) (adopt_all heads heads' bases records root next n ops links t p.1 past back);
-}
+adoption_at heads heads' bases records root next n ops None links t p = adoption_over heads heads' heads bases bases records root next n ops links t p.1 t.stage.before refl
 
 pub adoption : (heads heads' : List ℕ) (bases : Bases) (records : Records) (root next : ℕ) (staged : Option StageWords) (tree : TreeView) (s : StageWords) (links : List ℕ) → IsTree heads bases records root next staged → view_of heads bases records root next staged ≡ tree → Some s ≡ staged →
-    IsPostedStage tree tree.staged heads' links → Adoption heads heads' bases records root next tree s links
-adoption heads heads' bases records root next staged tree s links t is some p =
-    subst (λ (v : TreeView). Adoption heads heads' bases records root next v s links) (ap (view_of heads bases records root next) some ∙ is)
+    IsPostedStage tree tree.staged heads' links → Adoption heads heads' bases bases records root next tree tree.staged s links
+adoption heads heads' bases records root next staged seen s links t is some p =
+    subst (λ (v : TreeView). Adoption heads heads' bases bases records root next v v.staged s links) (ap (view_of heads bases records root next) some ∙ is)
     (adoption_at heads heads' bases records root next s.records s.ops s.before links (subst (IsTree heads bases records root next) (sym some) t)
     (subst (λ (v : TreeView). IsPostedStage v v.staged heads' links) (sym (ap (view_of heads bases records root next) some ∙ is)) p))
 
 -- and so of the words that were written
-pub adopted_with : (heads heads' : List ℕ) (bases : Bases) (records : Records) (root next : ℕ) (tree : TreeView) (s : StageWords) (links : List ℕ) → Adoption heads heads' bases records root next tree s links →
+pub adopted_with : (was heads' : List ℕ) (was_bases bases : Bases) (records : Records) (root next : ℕ) (tree : TreeView) (stage : Option StageView) (s : StageWords) (links : List ℕ) → Adoption was heads' was_bases bases records root next tree stage s links →
     (words : List ℕ) (bases' : Bases) (new : Records) (staged : Option StageWords) (given : List ℕ) (past : WordsBefore) → words ≡ heads' → bases' ≡ bases → given ≡ links → deltas_of new ≡ deltas_of records →
-    links_of new ≡ take s.records (links_of records) ++ given ++ drop (s.records + length given) (links_of records) → words_before (Some past) words ≡ heads → staged ≡ Some (record { records = s.records; ops = s.ops; before = Some past }) →
-    IsAdoptedOn words bases' new root next staged tree
-adopted_with heads heads' bases records root next tree s links a words bases' new staged given past same_words same_bases same_links deltas linked back staged_is =
+    links_of new ≡ take s.records (links_of records) ++ given ++ drop (s.records + length given) (links_of records) → words_before (Some past) words ≡ was → bases_before (Some past) bases' ≡ was_bases → staged ≡ Some (record { records = s.records; ops = s.ops; before = Some past }) →
+    IsAdoptedOn words bases' new root next staged tree stage
+adopted_with was heads' was_bases bases records root next tree stage s links a words bases' new staged given past same_words same_bases same_links deltas linked back back_bases staged_is =
     let links_are = subst (λ (l : List ℕ). links_of new ≡ take s.records (links_of records) ++ l ++ drop (s.records + length l) (links_of records)) same_links linked in
-    subst (λ (h : List ℕ). IsAdoptedOn h bases' new root next staged tree) (sym same_words)
-    (subst (λ (b : Bases). IsAdoptedOn heads' b new root next staged tree) (sym same_bases)
-    (subst (λ (o : Option StageWords). IsAdoptedOn heads' bases new root next o tree) (sym staged_is)
-    (a.all past (ap (words_before (Some past)) (sym same_words) ∙ back) new deltas links_are)))
+    subst (λ (h : List ℕ). IsAdoptedOn h bases' new root next staged tree stage) (sym same_words)
+    (subst (λ (b : Bases). IsAdoptedOn heads' b new root next staged tree stage) (sym same_bases)
+    (subst (λ (o : Option StageWords). IsAdoptedOn heads' bases new root next o tree stage) (sym staged_is)
+    (a.all past (ap (words_before (Some past)) (sym same_words) ∙ back) (ap (bases_before (Some past)) (sym same_bases) ∙ back_bases) new deltas links_are)))

@@ -5,15 +5,16 @@ use Rattle.bw_core.specs.World.{times}
 use Rattle.bw_level.specs.Changes.{Bases}
 use Rattle.bw_chain.specs.Chains.{Records}
 use Rattle.bw_tree.specs.Stages.{IsPostedStage}
-use Rattle.bw_tree.specs.Trees.{IsTree, StageWords, view_of}
-use Rattle.bw_tree.specs.View.{TreeView, StageView}
-use Rattle.bw_tree.specs.Words.{put_words, words_of, IsPostedStageOn}
+use Rattle.bw_look.specs.Trees.{IsTree, StageWords, view_of}
+use Rattle.bw_look.specs.View.{TreeView, StageView}
+use Rattle.bw_look.specs.Words.{put_words}
+use Rattle.bw_tree.specs.Words.{words_of, IsPostedStageOn}
 use Rattle.bw_tree.proofs.AdoptedLemmas.{Adoption, adoption}
 use Rattle.bw_tree.proofs.WordLemmas.{put_back, spread_stage}
 
 -- what is adopted on some pages is adopted on all
 pub adoption_on : (heads pages given : List ℕ) (bases : Bases) (records : Records) (root next : ℕ) (staged : Option StageWords) (tree : TreeView) (s : StageWords) (links : List ℕ) → IsTree heads bases records root next staged → view_of heads bases records root next staged ≡ tree → Some s ≡ staged →
-    IsPostedStageOn tree tree.staged pages given links → Adoption heads (put_words heads pages given) bases records root next tree s links
+    IsPostedStageOn tree tree.staged pages given links → Adoption heads (put_words heads pages given) bases bases records root next tree tree.staged s links
 adoption_on heads pages given bases records root next staged tree s links t is some posted =
     adoption heads (put_words heads pages given) bases records root next staged tree s links t is some
     (subst (λ (h : List ℕ). IsPostedStage tree tree.staged (put_words h pages given) links) (sym (ap (λ (v : TreeView). v.heads) is)) (spread_stage tree tree.staged pages given links posted))

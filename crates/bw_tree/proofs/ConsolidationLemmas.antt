@@ -37,14 +37,14 @@ use Rattle.bw_level.proofs.RouteLemmas.{held}
 use Rattle.bw_level.proofs.RowLemmas.{InRow}
 use Rattle.bw_level.proofs.StepLemmas.{contents_kept}
 use Rattle.bw_tree.specs.Consolidation.{IsConsolidated}
-use Rattle.bw_tree.specs.Pages.{leaf_as_of}
+use Rattle.bw_look.specs.Pages.{leaf_as_of}
 use Rattle.bw_tree.specs.Making.{leaf_slot}
-use Rattle.bw_tree.specs.Trees.{IsStanding, IsTree, StageWords, view_of}
-use Rattle.bw_tree.specs.View.{StageView, TreeView, contents_at}
-use Rattle.bw_tree.proofs.AdoptLemmas.{slot_past}
-use Rattle.bw_tree.proofs.LeafLemmas.{consolidated_rules}
+use Rattle.bw_look.specs.Trees.{IsStanding, IsTree, StageWords, view_of}
+use Rattle.bw_look.specs.View.{StageView, TreeView, contents_at}
+use Rattle.bw_look.proofs.RoutingLemmas.{slot_past}
+use Rattle.bw_look.proofs.LeafLemmas.{consolidated_rules}
 use Rattle.bw_tree.proofs.RebaseLemmas.{put_on, stands_with}
-use Rattle.bw_tree.proofs.ScanLemmas.{leaf_in_row}
+use Rattle.bw_look.proofs.ScanLemmas.{leaf_in_row}
 
 alike_same : (slot other : Slot) → other ≡ slot → AreAlike slot other
 alike_same Free other is = is
@@ -118,13 +118,13 @@ module _ (heads : List ℕ) (bases : Bases) (records : Records) (root next : ℕ
   at : InRow old.slots 0 (row old.levels 0) has.0 p
   at = leaf_in_row old.slots root old.levels t.lawful p has
 
-  within : p < length heads
+  pub within : p < length heads
   within = omega (arith, held old.slots p (λ free. not_free (sym free ∙ at.stands.is)), length-map heads (slot_of_word bases records))
 
   abbrev word : ℕ
   word = slice_index heads p
 
-  at_p : slice_get heads p ≡ Some word
+  pub at_p : slice_get heads p ≡ Some word
   at_p = slice_get-get_or heads p 0 within
 
   abbrev base : ℕ
@@ -139,13 +139,13 @@ module _ (heads : List ℕ) (bases : Bases) (records : Records) (root next : ℕ
   abbrev new : TreeView
   new = view_of heads' bases' records root next None
 
-  page_new : slot_at new.slots p ≡ leaf_slot leaf
+  pub page_new : slot_at new.slots p ≡ leaf_slot leaf
   page_new =
       slot_of_head bases' records heads' p 0 (omega (arith, within, length-set heads p base))
       ∙ ap (slot_of_word bases' records) (get_or-set_same heads p base 0 within)
       ∙ put_there heads bases records t.ends t.own p word at_p (LeafPage leaf)
 
-  others_new : (q : ℕ) → (q ≡ p → ⊥) → slot_at new.slots q ≡ slot_at old.slots q
+  pub others_new : (q : ℕ) → (q ≡ p → ⊥) → slot_at new.slots q ≡ slot_at old.slots q
   others_new q other = by (cases_lt q (length heads))
     where
       by : (q < length heads) ⊎ (length heads ≤ q) → slot_at new.slots q ≡ slot_at old.slots q
@@ -182,7 +182,7 @@ module _ (heads : List ℕ) (bases : Bases) (records : Records) (root next : ℕ
   lawful_new : AreLevels new.slots root old.levels
   lawful_new = levels_alike old.slots new.slots root old.levels alike t.lawful
 
-  same_levels : new.levels ≡ old.levels
+  pub same_levels : new.levels ≡ old.levels
   same_levels = levels_now new.slots root old.levels lawful_new
 
   none_new : writes_over (slot_at new.slots p) ≡ []
@@ -197,7 +197,7 @@ module _ (heads : List ℕ) (bases : Bases) (records : Records) (root next : ℕ
   past_new : AllByRecursion IsPast (row_writes new.slots (row old.levels 0))
   past_new = row_without (AllByRecursion IsPast) (all_without IsPast) old.slots new.slots p none_new others_new [] (row old.levels 0) t.past
 
-  standing_new : IsStanding heads' bases' records root next
+  pub standing_new : IsStanding heads' bases' records root next
   standing_new = stands_with heads bases records root next t p word within at_p (LeafPage leaf)
       (subst (AreLevels new.slots root) (sym same_levels) lawful_new)
       (subst (AreExact new.slots) (sym same_levels) (exact_alike old.slots new.slots alike old.levels t.exact))
@@ -206,7 +206,7 @@ module _ (heads : List ℕ) (bases : Bases) (records : Records) (root next : ℕ
       (subst (λ (l : List (List ℕ)). AllByRecursion IsPast (row_writes new.slots (row l 0))) (sym same_levels) past_new)
       same_levels
 
-  home_was : (key : KeyBytes) (q : ℕ) → IsHome new.slots old.levels key q → IsHome old.slots old.levels key q
+  pub home_was : (key : KeyBytes) (q : ℕ) → IsHome new.slots old.levels key q → IsHome old.slots old.levels key q
   home_was key q h =
       let r = h.reached in
       let was = was_ranged (slot_at old.slots q) (slot_at new.slots q) r.state (alike q) r.is in
@@ -246,7 +246,7 @@ module _ (heads : List ℕ) (bases : Bases) (records : Records) (root next : ℕ
           ap (λ (o : Slot). value_in o key next) (others_new y other)
           ∙ ap (λ r. value_in (slot_at old.slots r) key next) same
 
-  contents_new : contents_at new next ≡ contents_at old next
+  pub contents_new : contents_at new next ≡ contents_at old next
   contents_new =
       ap (λ (l : List (List ℕ)). contents_in new.slots l next) same_levels
       ∙ contents_kept old.slots new.slots root root old.levels old.levels next next t.lawful lawful_new t.distinct distinct_new value_new

@@ -23,10 +23,10 @@ use Rattle.bw_level.proofs.DropLemmas.{child_dropped}
 use Rattle.bw_chain.proofs.InPlaceLemmas.{now_end, now_here, now_others, now_own}
 use Rattle.bw_chain.proofs.ReadingLemmas.{slot_of_head}
 use Rattle.bw_tree.specs.Merges.{HasLostChild, MayLoseChild}
-use Rattle.bw_tree.specs.Routing.{IsInnerPage}
-use Rattle.bw_tree.specs.Trees.{IsStanding, IsTree, StageWords, view_of}
-use Rattle.bw_tree.specs.View.{StageView, TreeView}
-use Rattle.bw_tree.proofs.RoutingLemmas.{page_there}
+use Rattle.bw_look.specs.Routing.{IsInnerPage}
+use Rattle.bw_look.specs.Trees.{IsStanding, IsTree, StageWords, view_of}
+use Rattle.bw_look.specs.View.{StageView, TreeView}
+use Rattle.bw_look.proofs.RoutingLemmas.{page_there}
 use Rattle.bw_tree.proofs.StandingLemmas.{contents_same, placed_set, same_levels, standing_kept}
 
 -- the page is an inner one

@@ -14,9 +14,9 @@ use Rattle.bw_level.specs.Searches.{IsInLevels}
 use Rattle.bw_chain.proofs.AdditionLemmas.{record_all_end, record_here, record_others, record_own}
 use Rattle.bw_level.proofs.EntryLemmas.{child_kept}
 use Rattle.bw_tree.specs.Children.{IsNamed, MayHaveChild}
-use Rattle.bw_tree.specs.Trees.{IsStanding, IsTree, StageWords, view_of}
-use Rattle.bw_tree.specs.View.{StageView, TreeView}
-use Rattle.bw_tree.proofs.RoutingLemmas.{page_there}
+use Rattle.bw_look.specs.Trees.{IsStanding, IsTree, StageWords, view_of}
+use Rattle.bw_look.specs.View.{StageView, TreeView}
+use Rattle.bw_look.proofs.RoutingLemmas.{page_there}
 use Rattle.bw_tree.proofs.StandingLemmas.{contents_same, placed_set, same_levels, standing_kept}
 
 module _ (heads : List ℕ) (bases : Bases) (records : Records) (root next : ℕ) (t : IsStanding heads bases records root next) (p : ℕ) (within : p < length heads) (sep : KeyBytes) (child : ℕ) (ok : MayHaveChild (view_of heads bases records root next None) p sep child) (few : length records < 2 ^ 32) where

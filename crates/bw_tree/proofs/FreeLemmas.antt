@@ -12,8 +12,8 @@ use Rattle.bw_level.proofs.FreeingLemmas.{page_freed}
 use Rattle.bw_level.proofs.RouteLemmas.{held}
 use Rattle.bw_chain.proofs.VacancyLemmas.{vacant_end, vacant_own, vacated}
 use Rattle.bw_tree.specs.Freeing.{HasFreed, MayBeFreed}
-use Rattle.bw_tree.specs.Trees.{IsStanding, IsTree, StageWords, view_of}
-use Rattle.bw_tree.specs.View.{StageView, TreeView}
+use Rattle.bw_look.specs.Trees.{IsStanding, IsTree, StageWords, view_of}
+use Rattle.bw_look.specs.View.{StageView, TreeView}
 use Rattle.bw_tree.proofs.StandingLemmas.{contents_same, same_levels, standing_kept}
 
 module _ (heads : List ℕ) (bases : Bases) (records : Records) (root next : ℕ) (t : IsStanding heads bases records root next) (p : ℕ) (ok : MayBeFreed (view_of heads bases records root next None) p) where

@@ -10,9 +10,9 @@ use Rattle.bw_chain.specs.Supports.{OwnBases}
 use Rattle.bw_chain.proofs.ReadingLemmas.{slot_of_head}
 use Rattle.bw_chain.proofs.VacancyLemmas.{vacant_free}
 use Rattle.bw_tree.specs.Identifiers.{IsUnused}
-use Rattle.bw_tree.specs.Trees.{IsTree, StageWords, view_of}
-use Rattle.bw_tree.specs.View.{TreeView}
-use Rattle.bw_tree.proofs.AdoptLemmas.{slot_past}
+use Rattle.bw_look.specs.Trees.{IsTree, StageWords, view_of}
+use Rattle.bw_look.specs.View.{TreeView}
+use Rattle.bw_look.proofs.RoutingLemmas.{slot_past}
 
 -- where a page's base page is vacant, its identifier is free, and so is one behind all others
 vacant_slot : (heads : List ℕ) (bases : Bases) (records : Records) → OwnBases heads bases records → (p : ℕ) → based (slice_get bases p) ≡ Free → slot_at (slots_of heads bases records) p ≡ Free

@@ -20,8 +20,8 @@ use Rattle.bw_chain.proofs.BaseLemmas.{all_end, get_set_other, get_set_same, low
 use Rattle.bw_level.proofs.LoweringLemmas.{kept_lower, lowered_aside, still_below}
 use Rattle.bw_level.proofs.RouteLemmas.{held}
 use Rattle.bw_tree.specs.Merges.{IsLowered}
-use Rattle.bw_tree.specs.Trees.{ArePlaced, IsStanding, IsTree, StageWords, view_of}
-use Rattle.bw_tree.specs.View.{StageView, TreeView}
+use Rattle.bw_look.specs.Trees.{ArePlaced, IsStanding, IsTree, StageWords, view_of}
+use Rattle.bw_look.specs.View.{StageView, TreeView}
 use Rattle.bw_tree.proofs.RebaseLemmas.{put_on}
 use Rattle.bw_tree.proofs.StandingLemmas.{contents_same, same_levels, standing_kept}
 

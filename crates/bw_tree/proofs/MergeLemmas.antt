@@ -30,11 +30,11 @@ use Rattle.bw_chain.proofs.ReadingLemmas.{no_writes_on_base, slot_of_head}
 use Rattle.bw_level.proofs.RouteLemmas.{held}
 use Rattle.bw_level.proofs.RowLemmas.{InRow, in_row}
 use Rattle.bw_tree.specs.Merges.{HasMerged, MayMerge}
-use Rattle.bw_tree.specs.Trees.{ArePlaced, IsStanding, IsTree, StageWords, view_of}
-use Rattle.bw_tree.specs.View.{StageView, TreeView}
-use Rattle.bw_tree.proofs.NeighbourLemmas.{AreBeside, beside}
-use Rattle.bw_tree.proofs.PageLemmas.{no_first_child}
-use Rattle.bw_tree.proofs.RoutingLemmas.{PageAt, page_at_head, page_there}
+use Rattle.bw_look.specs.Trees.{ArePlaced, IsStanding, IsTree, StageWords, view_of}
+use Rattle.bw_look.specs.View.{StageView, TreeView}
+use Rattle.bw_look.proofs.NeighbourLemmas.{AreBeside, beside}
+use Rattle.bw_look.proofs.PageLemmas.{no_first_child}
+use Rattle.bw_look.proofs.RoutingLemmas.{PageAt, page_at_head, page_there}
 use Rattle.bw_tree.proofs.StageLemmas.{stands_on}
 use Rattle.bw_tree.proofs.StandingLemmas.{contents_same, placed_set, same_levels as levels_same, standing_kept}
 

@@ -30,12 +30,11 @@ use Rattle.bw_level.proofs.RouteLemmas.{held}
 use Rattle.bw_level.proofs.RowLemmas.{in_row}
 use Rattle.bw_page.specs.Merging.{put_all}
 use Rattle.bw_tree.specs.Children.{AreNamed, HasChildren, MayHaveChildren, state_with_children}
-use Rattle.bw_tree.specs.Routing.{IsInnerPage}
-use Rattle.bw_tree.specs.Trees.{IsStanding, IsTree, StageWords, view_of}
-use Rattle.bw_tree.specs.View.{StageView, TreeView}
-use Rattle.bw_tree.proofs.AdoptLemmas.{slot_past}
+use Rattle.bw_look.specs.Routing.{IsInnerPage}
+use Rattle.bw_look.specs.Trees.{IsStanding, IsTree, StageWords, view_of}
+use Rattle.bw_look.specs.View.{StageView, TreeView}
+use Rattle.bw_look.proofs.RoutingLemmas.{slot_past, page_there}
 use Rattle.bw_tree.proofs.RebaseLemmas.{put_on}
-use Rattle.bw_tree.proofs.RoutingLemmas.{page_there}
 use Rattle.bw_tree.proofs.StageLemmas.{stands_on}
 use Rattle.bw_tree.proofs.StandingLemmas.{contents_same, placed_set, same_levels, standing_kept}
 

@@ -25,14 +25,14 @@ use Rattle.bw_chain.specs.Supports.{base_under}
 use Rattle.bw_level.proofs.LeafRowLemmas.{page_outside}
 use Rattle.bw_level.proofs.RowLemmas.{InRow, in_row}
 use Rattle.bw_tree.specs.Consolidation.{IsConsolidated, IsRebased}
-use Rattle.bw_tree.specs.Pages.{leaf_as_of}
+use Rattle.bw_look.specs.Pages.{leaf_as_of}
 use Rattle.bw_tree.specs.Making.{leaf_slot}
-use Rattle.bw_tree.specs.Trees.{IsStanding, IsTree, StageWords, view_of}
-use Rattle.bw_tree.specs.View.{TreeView, contents_at}
-use Rattle.bw_tree.proofs.LeafLemmas.{high_is, pairs_here}
+use Rattle.bw_look.specs.Trees.{IsStanding, IsTree, StageWords, view_of}
+use Rattle.bw_look.specs.View.{TreeView, contents_at}
+use Rattle.bw_look.proofs.LeafLemmas.{high_is, pairs_here}
 use Rattle.bw_tree.proofs.RebaseLemmas.{rebased_on}
-use Rattle.bw_tree.proofs.RoutingLemmas.{page_at_head}
-use Rattle.bw_tree.proofs.ScanLemmas.{leaf_in_row}
+use Rattle.bw_look.proofs.RoutingLemmas.{page_at_head}
+use Rattle.bw_look.proofs.ScanLemmas.{leaf_in_row}
 
 -- a page of a level stays and is sound, as its mapping word leads to it
 pub sound_at : (heads : List ℕ) (bases : Bases) (records : Records) (root next bound : ℕ) (staged : Option StageWords) (tree : TreeView) (p head : ℕ) → view_of heads bases records root next staged ≡ tree → IsStanding heads bases records root bound → IsInLevels tree.levels p → head ≡ get_or heads p head → IsSound (slot_of_word bases records head)

@@ -25,12 +25,13 @@ use Rattle.bw_level.specs.Levels.{AreLevels, SideBySide, Stands, StartsWith, Lea
 use Rattle.bw_level.specs.Entries.{AreExact}
 use Rattle.bw_level.specs.Searches.{AllStand, IsInLevels}
 use Rattle.bw_level.specs.Steps.{IsTerm}
-use Rattle.bw_tree.specs.Making.{AreAbutting, HasRules, IsOverLeaves, base_of_leaf, count_from, leaf_slot, pages_over, pairs_in, terms_from, tree_over}
-use Rattle.bw_tree.specs.View.{TreeView, contents_at}
+use Rattle.bw_tree.specs.Making.{AreAbutting, IsOverLeaves, base_of_leaf, count_from, leaf_slot, pages_over, pairs_in, terms_from, tree_over}
+use Rattle.bw_look.specs.Pages.{HasRules}
+use Rattle.bw_look.specs.View.{TreeView, contents_at}
 use Rattle.bw_level.specs.Reading.{row_pairs, row_writes}
 use Rattle.bw_chain.specs.Supports.{OwnBases, base_under}
 use Rattle.bw_level.specs.Walk.{ended}
-use Rattle.bw_tree.specs.Trees.{IsTree}
+use Rattle.bw_look.specs.Trees.{IsTree}
 use Rattle.bw_level.proofs.LevelLemmas.{levels_now}
 use Rattle.bw_level.proofs.RouteLemmas.{held}
 use Rattle.bw_tree.proofs.MakingLemmas.{StandAt, over_slots, slot_based, from_none, there_is, counted_word, counted_length, counted_has, slot_there, leaf_there, root_there, leaf_state, leaf_row, leaf_pairs, leaf_writes, term_named, root_rules}

@@ -1,5 +1,5 @@
 -- The chain of a page once staged records were posted to it.
-use Rattle.std.proofs.Common.{◌≡◌, ℕ, zero, suc, ◌+◌, ◌-◌, ◌<◌, ◌≤◌, false, cond, List, [], ◌∷◌, ◌++◌, length, map, Option, Some, None, ltb, refl, sym, ap, ◌∙◌, subst, arith, length-append}
+use Rattle.std.proofs.Common.{◌≡◌, ℕ, ◌+◌, ◌-◌, ◌<◌, ◌≤◌, false, cond, List, [], ◌∷◌, ◌++◌, length, map, Option, Some, None, ltb, refl, sym, ap, ◌∙◌, subst, arith, length-append}
 use Rattle.std.specs.Prelude.{slice_get, slice_index}
 use Rattle.std.proofs.lemmas.Bool.Decides.{nat_tests}
 use Rattle.std.proofs.lemmas.List.{length-map}
@@ -17,6 +17,7 @@ use Rattle.bw_chain.specs.Supports.{base_under}
 use Rattle.bw_chain.proofs.ChainLemmas.{link_is, slot_of_way}
 use Rattle.bw_chain.proofs.GrowthLemmas.{append_extends, deltas_on, leads_on}
 use Rattle.bw_level.proofs.WalkLemmas.{ended_is}
+use Rattle.bw_look.proofs.StagedLemmas.{length_behind, read_behind, read_both}
 
 -- the write at a place, before others
 abbrev pub write_before : Option WriteView → List WriteView → List WriteView
@@ -32,26 +33,6 @@ named ws (r ∷ rs) = write_before (slice_get ws r) (named ws rs)
 abbrev pub put_over : Bases → List WriteView → Slot → Slot
 put_over bases [] slot = slot
 put_over bases (w ∷ ws) slot = change bases (Put w) (put_over bases ws slot)
-
-pub read_both : (ws : List WriteView) (links : List ℕ) (r : ℕ) → r < length links → length links ≡ length ws → (w : WriteView) × (slice_get ws r ≡ Some w) × (slice_get (put_records ws links) r ≡ Some (Put w, slice_index links r))
-read_both [] [] r lt same = absurd (omega arith)
-read_both [] (l ∷ links) r lt same = absurd (omega (arith, same))
-read_both (w ∷ ws) [] r lt same = absurd (omega arith)
-read_both (w ∷ ws) (l ∷ links) zero lt same = (w, refl, refl)
-read_both (w ∷ ws) (l ∷ links) (suc r) lt same = read_both ws links r (omega arith) (omega (arith, same))
-
-pub read_behind : (old more : Records) (r : ℕ) → slice_get (old ++ more) (length old + r) ≡ slice_get more r
-read_behind [] more r = ap (slice_get more) (from_none r)
-  where
-    from_none : (r : ℕ) → 0 + r ≡ r
-    from_none r = omega arith
-read_behind (x ∷ old) more r = read_next old more r (read_behind old more r)
-  where
-    read_next : (old more : Records) (r : ℕ) → slice_get (old ++ more) (length old + r) ≡ slice_get more r → slice_get (x ∷ (old ++ more)) (suc (length old) + r) ≡ slice_get more r
-    read_next old more r e = ap (slice_get (x ∷ (old ++ more))) (shifted (length old) r) ∙ e
-      where
-        shifted : (n r : ℕ) → suc n + r ≡ suc (n + r)
-        shifted n r = omega arith
 
 -- a staged record stands at its word
 record_there : (old : Records) (ws : List WriteView) (links : List ℕ) (r : ℕ) → r < length links → length links ≡ length ws →
@@ -101,14 +82,8 @@ module _ (bases : Bases) (old : Records) (ws : List WriteView) (links : List ℕ
   puts_changed [] ds slot = refl
   puts_changed (v ∷ vs) ds slot = ap (change bases (Put v)) (puts_changed vs ds slot)
 
-  put_length : (vs : List WriteView) (ls : List ℕ) → length ls ≡ length vs → length (put_records vs ls) ≡ length vs
-  put_length [] [] e = refl
-  put_length [] (l ∷ ls) e = absurd (omega (arith, e))
-  put_length (v ∷ vs) [] e = absurd (omega (arith, e))
-  put_length (v ∷ vs) (l ∷ ls) e = ap suc (put_length vs ls (omega (arith, e)))
-
   pub posted_length : length posted ≡ length old + length ws
-  posted_length = length-append old (put_records ws links) ∙ ap (λ n. length old + n) (put_length ws links same)
+  posted_length = length_behind old ws links same
 
   -- The posted records come before the chain of old ones: the page has their writes over it, and rests on the same.
   pub chain_posted : (rs : List ℕ) (head before : ℕ) → Meets (4294967296 + length old) links head rs before → ((r : ℕ) → times r rs ≤ 1) → Ends bases old before → Ends bases posted head × (slot_of_word bases posted head ≡ put_over bases (named ws rs) (slot_of_word bases old before)) × (base_under posted head ≡ base_under old before)

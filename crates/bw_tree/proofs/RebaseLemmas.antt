@@ -1,5 +1,5 @@
 -- A page takes the place of the chain that makes the same.
-use Rattle.std.proofs.Common.{set, ◌≡◌, ℕ, ◌<◌, ◌^◌, false, List, length, get_or, Option, Some, None, refl, sym, ap, ◌∙◌, subst, arith}
+use Rattle.std.proofs.Common.{set, ◌≡◌, ℕ, ◌<◌, ◌^◌, List, length, get_or, Option, Some, None, sym, ap, ◌∙◌, subst, arith}
 use Rattle.std.proofs.lemmas.Option.{slice_get-get_or}
 use Rattle.std.proofs.lemmas.List.{get_or-set_same, length-set}
 use Rattle.std.specs.List.{AllByRecursion}
@@ -8,37 +8,18 @@ use Rattle.bw_page.specs.declared.pages.Page.{Page}
 use Rattle.bw_delta.specs.History.{HasDistinctStamps}
 use Rattle.bw_level.specs.Searches.{AllStand}
 use Rattle.bw_level.specs.Changes.{Bases, plain}
-use Rattle.bw_chain.specs.Chains.{Records, Ends, slot_of_word, slots_of}
+use Rattle.bw_chain.specs.Chains.{Records, Ends, slots_of}
 use Rattle.bw_level.specs.Entries.{AreExact}
-use Rattle.bw_level.specs.Levels.{AreLevels, row, levels_under}
-use Rattle.bw_level.specs.Slots.{Slot, Body, Pairs, Children, IsSoundInner, body_is_leaf, level_of, slot_at}
+use Rattle.bw_level.specs.Levels.{AreLevels, levels_under}
+use Rattle.bw_level.specs.Slots.{Slot, slot_at}
 use Rattle.bw_chain.specs.Supports.{base_under}
 use Rattle.bw_chain.proofs.BaseLemmas.{all_end, low, own_after, same_slots}
 use Rattle.bw_chain.proofs.ReadingLemmas.{slot_of_head}
-use Rattle.bw_level.proofs.RowLemmas.{in_row}
 use Rattle.bw_tree.specs.Consolidation.{IsRebased}
-use Rattle.bw_tree.specs.Routing.{IsInnerPage}
-use Rattle.bw_tree.specs.Trees.{ArePlaced, IsStanding, IsTree, StageWords, leaf_writes, view_of}
-use Rattle.bw_tree.specs.View.{StageView, TreeView}
-use Rattle.bw_tree.proofs.RoutingLemmas.{at_head, page_at_head}
+use Rattle.bw_look.specs.Trees.{ArePlaced, IsStanding, IsTree, StageWords, leaf_writes, view_of}
+use Rattle.bw_look.specs.View.{StageView, TreeView}
+use Rattle.bw_look.proofs.RoutingLemmas.{at_head}
 use Rattle.bw_tree.proofs.StandingLemmas.{placed_set}
-
--- an inner page of a tree is sound
-pub inner_sound : (tree : TreeView) (root p : ℕ) → AreLevels tree.slots root tree.levels → IsInnerPage tree p → IsSoundInner (slot_at tree.slots p)
-inner_sound tree root p lawful inner =
-    let on = inner.in_levels in
-    let st = (in_row tree.slots on.level _ (row tree.levels on.level) on.in_level.0 p (lawful.rows on.level on.within) on.in_level.1 on.in_level.2).stands in
-    subst IsSoundInner (sym st.is) (above st.state.body st.at_level, st.sound)
-  where
-    above : (b : Body) → level_of b ≡ inner.in_levels.level → body_is_leaf b ≡ false
-    above (Pairs pairs writes) level = absurd (omega (arith, level, inner.raised))
-    above (Children n children) level = refl
-
--- so is what its mapping word leads to
-pub sound_there : (heads : List ℕ) (bases : Bases) (records : Records) (root next bound : ℕ) (staged : Option StageWords) (tree : TreeView) (p head : ℕ) → view_of heads bases records root next staged ≡ tree → IsStanding heads bases records root bound → IsInnerPage tree p → head ≡ get_or heads p head → IsSoundInner (slot_of_word bases records head)
-sound_there heads bases records root next bound staged tree p head is t inner read =
-    let lawful : AreLevels tree.slots root tree.levels = subst (λ (v : TreeView). AreLevels v.slots root v.levels) is t.lawful in
-    subst IsSoundInner (page_at_head heads bases records root next bound staged tree p head is t inner.in_levels read).slot (inner_sound tree root p lawful inner)
 
 -- Pages stand where one took the place of a chain and the levels are the same, if these levels, their index entries and
 -- the writes are lawful.

@@ -19,11 +19,10 @@ use Rattle.bw_level.specs.Slots.{Slot, slot_at}
 use Rattle.bw_level.specs.Walk.{Leads}
 use Rattle.bw_chain.proofs.ChainLemmas.{no_link, no_next, no_record, on_base, same_next}
 use Rattle.bw_chain.proofs.GrowthLemmas.{same_map}
-use Rattle.bw_chain.proofs.ReadingLemmas.{none_at_base, slot_of_head}
 use Rattle.bw_chain.proofs.InPlaceLemmas.{under_plain}
-use Rattle.bw_tree.specs.Trees.{IsStanding, IsTree, StageWords, leaf_writes, view_of}
-use Rattle.bw_tree.specs.View.{StageView, TreeView, contents_at}
-use Rattle.bw_tree.proofs.AdoptLemmas.{slot_past}
+use Rattle.bw_look.specs.Trees.{IsStanding, IsTree, StageWords, leaf_writes, view_of}
+use Rattle.bw_look.specs.View.{StageView, TreeView, contents_at}
+use Rattle.bw_look.proofs.RoutingLemmas.{none_on, slot_past}
 use Rattle.bw_tree.proofs.OverLemmas.{unwritten}
 
 abbrev pub ArePlain : List ℕ → Type 0
@@ -44,17 +43,6 @@ still_based bases records word low ends = by ends.0 ends.1.0 ends.1.1
     by : (ws : List ℕ) (e : ℕ) → EndsAt bases records word ws e → Ends bases [] word
     by [] e h = ([], (word, record { way = alone [] word low; short = omega arith; within = omega (arith, h.within, h.way.0); limit = low; shaped = tt }))
     by (w ∷ ws) e h = absurd (no_next (no_link records word low ∙ h.way.1.1))
-
--- no write lies over a page whose mapping word names a base page
-pub none_on : (heads : List ℕ) (bases : Bases) (records : Records) (root next : ℕ) → IsStanding heads bases records root next → (p : ℕ) → slice_index heads p < 2 ^ 32 → writes_over (slot_at (slots_of heads bases records) p) ≡ []
-none_on heads bases records root next t p low = by (cases_lt p (length heads))
-  where
-    by : (p < length heads) ⊎ (length heads ≤ p) → writes_over (slot_at (slots_of heads bases records) p) ≡ []
-    by (inl lt) =
-        let word = slice_index heads p in
-        ap writes_over (slot_of_head bases records heads p 0 lt)
-        ∙ none_at_base bases records word (t.ends p word (slice_get-get_or heads p 0 lt)) (no_record records word low)
-    by (inr ge) = ap writes_over (slot_past (slot_of_word bases records) heads p ge)
 
 module _ (heads : List ℕ) (bases : Bases) (records : Records) (root next : ℕ) (t : IsStanding heads bases records root next) (plain : ArePlain heads) where
   abbrev old : List Slot

@@ -24,9 +24,9 @@ use Rattle.bw_level.proofs.RootLemmas.{begins_row, levels_grow, row_before, two_
 use Rattle.bw_level.proofs.RouteLemmas.{held, row_first}
 use Rattle.bw_tree.specs.Identifiers.{IsUnused}
 use Rattle.bw_tree.specs.Roots.{HasNewRoot, IsOverRoot}
-use Rattle.bw_tree.specs.Trees.{ArePlaced, IsStanding, IsTree, StageWords, view_of}
-use Rattle.bw_tree.specs.View.{StageView, TreeView}
-use Rattle.bw_tree.proofs.RoutingLemmas.{PageAt, at_head}
+use Rattle.bw_look.specs.Trees.{ArePlaced, IsStanding, IsTree, StageWords, view_of}
+use Rattle.bw_look.specs.View.{StageView, TreeView}
+use Rattle.bw_look.proofs.RoutingLemmas.{PageAt, at_head}
 use Rattle.bw_tree.proofs.StandingLemmas.{contents_same, placed_added, same_levels as levels_same, standing_kept, word_of_new}
 
 not_free : {s : PageState} → Free ≡ Live s → ⊥

@@ -28,8 +28,8 @@ use Rattle.bw_level.proofs.RowLemmas.{InRow, in_row}
 use Rattle.bw_level.proofs.SplitLemmas.{cut_is, has_new, parts_kept}
 use Rattle.bw_tree.specs.Identifiers.{IsUnused}
 use Rattle.bw_tree.specs.Splits.{IsSplit, IsSplittable}
-use Rattle.bw_tree.specs.Trees.{ArePlaced, IsStanding, IsTree, StageWords, view_of}
-use Rattle.bw_tree.specs.View.{StageView, TreeView}
+use Rattle.bw_look.specs.Trees.{ArePlaced, IsStanding, IsTree, StageWords, view_of}
+use Rattle.bw_look.specs.View.{StageView, TreeView}
 use Rattle.bw_tree.proofs.StandingLemmas.{contents_same, placed_added, placed_set, same_levels as levels_same, standing_kept, word_of_new, words_but_new}
 
 not_free : {s : PageState} → Free ≡ Live s → ⊥

@@ -17,10 +17,10 @@ use Rattle.bw_level.specs.Levels.{AreLevels, row, levels_under}
 use Rattle.bw_level.specs.Changes.{Bases}
 use Rattle.bw_chain.specs.Chains.{Records, slot_of_word, slots_of}
 use Rattle.bw_chain.proofs.RecordLemmas.{unlinked_put, writes_unlinked}
-use Rattle.bw_tree.specs.Trees.{ArePlaced, IsStanding, IsTree, StageWords, view_of}
+use Rattle.bw_look.specs.Trees.{ArePlaced, IsStanding, IsTree, StageWords, view_of}
 use Rattle.bw_chain.specs.Records.{unlinked, writes_in}
 use Rattle.bw_tree.specs.Stages.{staged_on}
-use Rattle.bw_tree.specs.View.{TreeView, StageView, contents_at, contents_with}
+use Rattle.bw_look.specs.View.{TreeView, StageView, contents_at, contents_with}
 use Rattle.bw_level.specs.Reading.{row_pairs, row_writes}
 use Rattle.bw_chain.proofs.SupportLemmas.{still_rests}
 use Rattle.bw_chain.proofs.GrowthLemmas.{Extends, append_extends, drop_front, same_map, still_ends, take_front}

@@ -19,7 +19,7 @@ use Rattle.bw_level.specs.Slots.{Slot}
 use Rattle.bw_chain.specs.Supports.{OwnBases}
 use Rattle.bw_level.proofs.LevelLemmas.{levels_now}
 use Rattle.bw_chain.proofs.PlacingLemmas.{get_put, get_put_other, length_put}
-use Rattle.bw_tree.specs.Trees.{ArePlaced, IsStanding}
+use Rattle.bw_look.specs.Trees.{ArePlaced, IsStanding}
 
 -- pages with records still stand on a level where one page's word was set, if that page does
 pub placed_set : (heads : List ℕ) (levels : List (List ℕ)) (p word : ℕ) → p < length heads → (2 ^ 32 ≤ word → IsInLevels levels p) → ArePlaced heads levels → ArePlaced (set heads p word) levels

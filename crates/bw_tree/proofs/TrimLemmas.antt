@@ -16,8 +16,8 @@ use Rattle.bw_level.proofs.SameLemmas.{all_kept}
 use Rattle.bw_chain.proofs.TrimLemmas.{count_left, ends_left, own_left, slots_left}
 use Rattle.bw_chain.proofs.VacancyLemmas.{free_under}
 use Rattle.bw_tree.specs.Freeing.{EndsTaken, IsTrimmed}
-use Rattle.bw_tree.specs.Trees.{ArePlaced, IsStanding, IsTree, StageWords, view_of}
-use Rattle.bw_tree.specs.View.{StageView, TreeView}
+use Rattle.bw_look.specs.Trees.{ArePlaced, IsStanding, IsTree, StageWords, view_of}
+use Rattle.bw_look.specs.View.{StageView, TreeView}
 use Rattle.bw_tree.proofs.StandingLemmas.{contents_same, same_levels, standing_kept}
 
 module _ (heads : List ℕ) (bases : Bases) (records : Records) (root next : ℕ) (t : IsStanding heads bases records root next) (n : ℕ) (vacant : AreVacantFrom bases n) (taken : IsTakenBefore bases n) where

@@ -1,17 +1,19 @@
 -- Mapping words of some pages, put in their places, and back.
-use Rattle.std.proofs.Common.{◌≡◌, ◌≢◌, ℕ, zero, suc, ◌+◌, ◌-◌, ◌<◌, ◌≤◌, min, add-one, Bool, true, false, ◌==◌, List, [], ◌∷◌, ◌++◌, length, take, drop, get_or, set, Option, Some, None, refl, sym, ap, ◌∙◌, subst, arith, ◌⊎◌, inl, inr, ⊎_elim}
+use Rattle.std.proofs.Common.{◌≡◌, ◌≢◌, ℕ, zero, suc, ◌+◌, ◌<◌, ◌≤◌, add-one, Bool, true, false, ◌==◌, List, [], ◌∷◌, ◌++◌, length, take, drop, get_or, set, Option, Some, None, refl, sym, ap, ◌∙◌, subst, arith, ◌⊎◌, inl, inr, ⊎_elim}
 use Rattle.std.specs.Prelude.{slice_get, slice_index}
 use Rattle.std.specs.List.{AllByRecursion}
 use Rattle.std.specs.Cmp.{unsigned_Decides}
-use Rattle.std.proofs.lemmas.List.{length-set, length-drop, drop-set-lt, map-append, take_more, take_more_set, get_or-set_same, get_or-set_other, set-set, set_comm, set-get_or}
+use Rattle.std.proofs.lemmas.List.{length-set, drop-set-lt, map-append, take_more, take_more_set, get_or-set_same, get_or-set_other, set-set, set_comm, set-get_or}
 use Rattle.std.proofs.Math.Seq.{drop-cons}
 use Rattle.bw_core.specs.World.{one_if, times}
-use Rattle.bw_tree.specs.View.{TreeView, StageView}
+use Rattle.bw_look.specs.View.{TreeView, StageView}
 use Rattle.bw_tree.specs.Stages.{IsPosted, IsPostedStage, IsPostedTo}
-use Rattle.bw_tree.specs.Words.{put_words, words_of, IsPostedOn, IsPostedStageOn}
+use Rattle.bw_look.specs.Words.{put_words}
+use Rattle.bw_look.proofs.WordLemmas.{put_next}
+use Rattle.bw_tree.specs.Words.{words_of, IsPostedOn, IsPostedStageOn}
 
 -- a number that stands in no place of a list isn't its first, nor in the rest
-not_first : (p q : ℕ) (ps : List ℕ) → times p (q ∷ ps) ≡ 0 → (q ≢ p) × (times p ps ≡ 0)
+pub not_first : (p q : ℕ) (ps : List ℕ) → times p (q ∷ ps) ≡ 0 → (q ≢ p) × (times p ps ≡ 0)
 not_first p q ps none = by (q == p) refl
   where
     by : (b : Bool) → (q == p) ≡ b → (q ≢ p) × (times p ps ≡ 0)
@@ -67,23 +69,6 @@ put_set hs (p ∷ ps) [] q x none = refl
 put_set hs (p ∷ ps) (w ∷ ws) q x none =
     let apart = not_first q p ps none in
     ap (λ (l : List ℕ). put_words l ps ws) (set_comm hs q p x w (λ e. apart.0 (sym e))) ∙ put_set (set hs p w) ps ws q x apart.1
-
--- one page more has its word
-pub put_next : (hs ps ws : List ℕ) (i p : ℕ) → i < length ps → i < length ws → p ≡ get_or ps i p →
-    put_words hs (drop i ps) (drop i ws) ≡ put_words (set hs p (get_or ws i 0)) (drop (i + 1) ps) (drop (i + 1) ws)
-put_next hs ps ws i p in_ps in_ws is =
-    ap (λ (l : List ℕ). put_words hs l (drop i ws)) (drop-cons ps i p in_ps ∙ ap (λ (q : ℕ). q ∷ drop (suc i) ps) (sym is))
-    ∙ ap (λ (l : List ℕ). put_words hs (p ∷ drop (suc i) ps) l) (drop-cons ws i 0 in_ws)
-    ∙ rw add-one refl
-
--- behind the last page or word nothing is put
-pub put_none : (hs ps ws : List ℕ) (i : ℕ) → min (length ps) (length ws) ≤ i → put_words hs (drop i ps) (drop i ws) ≡ hs
-put_none hs ps ws i le = by (drop i ps) (drop i ws) (length-drop i ps) (length-drop i ws)
-  where
-    by : (qs xs : List ℕ) → length qs ≡ length ps - i → length xs ≡ length ws - i → put_words hs qs xs ≡ hs
-    by [] xs a b = refl
-    by (q ∷ qs) [] a b = refl
-    by (q ∷ qs) (x ∷ xs) a b = absurd (omega (arith, le, a, b))
 
 -- the words that stood there, put back
 pub put_back : (hs ps ws : List ℕ) → ((q : ℕ) → times q ps ≤ 1) → length ws ≡ length ps → put_words (put_words hs ps ws) ps (words_of hs ps) ≡ hs

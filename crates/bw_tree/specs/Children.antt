@@ -1,12 +1,10 @@
 -- Index entries: an inner page names a page of the level below.
-use Rattle.std.specs.Prelude.{◌≡◌, ℕ, suc, ◌+◌, ◌<◌, ◌≤◌, ◌^◌, List, [], ◌∷◌, length, Some, None, slice_index, slice_set}
-use Rattle.std.specs.List.{AllByRecursion, Contains}
+use Rattle.std.specs.Prelude.{◌≡◌, ℕ, ◌+◌, ◌<◌, ◌≤◌, ◌^◌, List, [], ◌∷◌, length, None, slice_index, slice_set}
+use Rattle.std.specs.List.{AllByRecursion}
 use Rattle.bw_key.specs.Order.{KeyBytes}
-use Rattle.bw_level.specs.Children.{FitsChild, HasChild, HasChildAt, state_with_child}
-use Rattle.bw_level.specs.Levels.{IsHomeAt, row}
-use Rattle.bw_level.specs.Scans.{high_of}
-use Rattle.bw_level.specs.Slots.{Slot, PageState, Live, side_of, slot_at}
-use Rattle.bw_tree.specs.View.{TreeView, contents_at}
+use Rattle.bw_level.specs.Children.{FitsChild, HasChild, state_with_child}
+use Rattle.bw_level.specs.Slots.{Slot, PageState, Live, slot_at}
+use Rattle.bw_look.specs.View.{TreeView, contents_at}
 
 -- the page is a base page by itself that may name the child
 pub record MayHaveChild (tree : TreeView) (parent : ℕ) (sep : KeyBytes) (child : ℕ) : Type 0 where
@@ -54,18 +52,3 @@ pub record AreNamed (old new : TreeView) (parent : ℕ) (entries : List (KeyByte
   pub records : new.records ≡ old.records + length entries
   pub next : new.next ≡ old.next
   pub staged : new.staged ≡ None
-
--- The right neighbour q of the page p begins at this key, which on the level above is at home on a page that doesn't name
--- q there.
-pub record IsUnnamed (tree : TreeView) (p parent : ℕ) (sep : KeyBytes) (q : ℕ) : Type 0 where
-  pub level : ℕ
-  pub within : level < length tree.levels
-  pub in_level : Contains (row tree.levels level) p
-  pub ends : high_of (slot_at tree.slots p) ≡ Some sep
-  pub linked : side_of tree.slots p ≡ Some q
-  pub home : IsHomeAt tree.slots tree.levels sep (suc level) parent
-  pub unnamed : HasChildAt (slot_at tree.slots parent) sep q → ⊥
-
--- the page has no such right neighbour
-abbrev pub HasNoUnnamed : TreeView → ℕ → Type 0
-HasNoUnnamed tree p = (parent q : ℕ) (sep : KeyBytes) → IsUnnamed tree p parent sep q → ⊥

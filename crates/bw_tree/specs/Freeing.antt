@@ -1,19 +1,13 @@
 -- Identifiers that are given back.
-use Rattle.std.specs.Prelude.{◌≡◌, ℕ, suc, List, length, take, None}
-use Rattle.std.specs.List.{Contains}
-use Rattle.bw_page.specs.declared.pages.RemovedPage.{RemovedPage}
+use Rattle.std.specs.Prelude.{◌≡◌, ℕ, suc, length, take, None}
 use Rattle.bw_level.specs.Freeing.{IsUnreached, IsFreed}
-use Rattle.bw_level.specs.Slots.{Slot, Free, Gone, slot_at}
-use Rattle.bw_tree.specs.View.{TreeView, contents_at}
+use Rattle.bw_level.specs.Slots.{Free, slot_at}
+use Rattle.bw_look.specs.View.{TreeView, contents_at}
 
 -- an identifier that isn't free, of a page on no level to which nothing leads
 pub record MayBeFreed (tree : TreeView) (p : ℕ) : Type 0 where
   pub taken : slot_at tree.slots p ≡ Free → ⊥
   pub unreached : IsUnreached tree.slots tree.levels p
-
--- each removed page is among these
-abbrev pub HasEachRemoved : List Slot → List ℕ → Type 0
-HasEachRemoved slots pages = (p : ℕ) (removed : RemovedPage) → slot_at slots p ≡ Gone removed → Contains pages p
 
 -- The identifier is free. All other pages are as before, and so are the levels and what the tree holds.
 pub record HasFreed (old new : TreeView) (p : ℕ) : Type 0 where

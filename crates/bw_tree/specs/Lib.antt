@@ -1,11 +1,8 @@
-pub mod View
-pub mod Trees
 pub mod Stages
+pub mod Beside
 pub mod Words
-pub mod Replaying
 pub mod Making
 pub mod Consolidation
-pub mod Routing
 pub use Rattle.bw_level.specs.Walk
 pub use Rattle.bw_level.specs.Slots
 pub use Rattle.bw_level.specs.Changes
@@ -27,5 +24,3 @@ pub mod Splits
 pub mod Children
 pub mod Roots
 pub mod Merges
-pub mod Shapes
-pub mod Pages

@@ -5,14 +5,13 @@ use Rattle.std.specs.FinMap.{from_entries}
 use Rattle.bw_key.specs.Order.{KeyBytes}
 use Rattle.bw_model.specs.Values.{ValueBytes}
 use Rattle.bw_page.specs.Leaves.{LeafView}
-use Rattle.bw_page.specs.Pages.{IsPage}
 use Rattle.bw_page.specs.declared.pages.Page.{Page}
 use Rattle.bw_page.specs.declared.pages.Page.TheVariants.{Leaf as LeafPage}
 use Rattle.bw_level.specs.Slots.{Slot, Children, Live}
 use Rattle.bw_level.specs.Changes.{Bases, plain}
 use Rattle.bw_chain.specs.Chains.{slots_of}
 use Rattle.bw_level.specs.Levels.{row, levels_under}
-use Rattle.bw_tree.specs.View.{TreeView, contents_at}
+use Rattle.bw_look.specs.View.{TreeView, contents_at}
 
 -- Leaves side by side from a low key on, the first at this place: each ends where the next begins and names it, by its
 -- place, as its right neighbour, and the last has no end.
@@ -22,9 +21,6 @@ AreAbutting n low (leaf ∷ []) = (leaf.low ≡ low) × (leaf.high ≡ None) × 
 AreAbutting n low (leaf ∷ next ∷ leaves) =
     (leaf.low ≡ low) × (leaf.high ≡ Some next.low) × (leaf.side ≡ Some (n + 1)) ×
     AreAbutting (n + 1) next.low (next ∷ leaves)
-
-abbrev pub HasRules : LeafView ValueBytes → Type 0
-HasRules leaf = IsPage leaf.low leaf.high leaf.side leaf.pairs
 
 -- the pairs of leaves
 abbrev pub pairs_in : List (LeafView ValueBytes) → List (KeyBytes × ValueBytes)

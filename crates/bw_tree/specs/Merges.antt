@@ -1,17 +1,15 @@
 -- Merges: a page is absorbed by its left neighbour, its index entry goes, and a root that has one child alone goes.
-use Rattle.std.specs.Prelude.{◌≡◌, ℕ, suc, ◌+◌, ◌<◌, ◌≤◌, ◌^◌, length, Some, None, slice_index, slice_set}
+use Rattle.std.specs.Prelude.{◌≡◌, ℕ, ◌+◌, ◌<◌, ◌≤◌, ◌^◌, length, Some, None, slice_index, slice_set}
 use Rattle.std.specs.List.{Contains}
 use Rattle.bw_key.specs.Order.{KeyBytes}
-use Rattle.bw_page.specs.declared.pages.RemovedPage.{RemovedPage}
-use Rattle.bw_level.specs.Children.{HasChildAt, HasDroppedChild, MayDropChild}
+use Rattle.bw_level.specs.Children.{HasDroppedChild, MayDropChild}
 use Rattle.bw_level.specs.Freeing.{IsAside}
 use Rattle.bw_level.specs.Levels.{row}
 use Rattle.bw_level.specs.Merges.{IsMerged, level_merged}
 use Rattle.bw_level.specs.Roots.{IsRootRemoved, levels_lowered}
-use Rattle.bw_level.specs.Slots.{Gone, side_of, slot_at}
-use Rattle.bw_tree.specs.Pages.{IsNamer}
-use Rattle.bw_tree.specs.Routing.{IsInLevel}
-use Rattle.bw_tree.specs.View.{TreeView, contents_at}
+use Rattle.bw_level.specs.Slots.{side_of}
+use Rattle.bw_look.specs.Pages.{IsNamer}
+use Rattle.bw_look.specs.View.{TreeView, contents_at}
 
 -- two neighbours of a level, base pages by themselves, that one page of the level above names
 pub record MayMerge (tree : TreeView) (p q : ℕ) : Type 0 where
@@ -70,14 +68,3 @@ pub record IsLowered (old new : TreeView) (child : ℕ) : Type 0 where
   pub records : new.records ≡ old.records
   pub next : new.next ≡ old.next
   pub staged : new.staged ≡ None
-
--- This page of the level above still names a page that was removed, at the key where that one began.
-pub record IsNamerOfRemoved (tree : TreeView) (p parent : ℕ) : Type 0 where
-  pub removed : RemovedPage
-  pub is : slot_at tree.slots p ≡ Gone removed
-  pub above : IsInLevel tree parent (suc removed.level)
-  pub named : HasChildAt (slot_at tree.slots parent) removed.low p
-
--- the page isn't a removed one, or none still names it
-abbrev pub HasNoNamerOfRemoved : TreeView → ℕ → Type 0
-HasNoNamerOfRemoved tree p = (parent : ℕ) → IsNamerOfRemoved tree p parent → ⊥

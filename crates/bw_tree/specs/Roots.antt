@@ -7,7 +7,7 @@ use Rattle.bw_level.specs.Roots.{IsGrown, IsNeighbour, levels_grown, root_over}
 use Rattle.bw_level.specs.Searches.{plain_inner}
 use Rattle.bw_level.specs.Slots.{Live, slot_at}
 use Rattle.bw_tree.specs.Identifiers.{IsUnused}
-use Rattle.bw_tree.specs.View.{TreeView, contents_at}
+use Rattle.bw_look.specs.View.{TreeView, contents_at}
 
 -- an inner page one level above the root, for all keys, with the root and its right neighbour as its children
 pub record IsOverRoot (tree : TreeView) (inner : InnerView) : Type 0 where

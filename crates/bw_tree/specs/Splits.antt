@@ -5,7 +5,7 @@ use Rattle.bw_level.specs.Levels.{row}
 use Rattle.bw_level.specs.Slots.{slot_at}
 use Rattle.bw_level.specs.Splits.{HasNoRemovedAt, IsParted, level_parted, slot_entries}
 use Rattle.bw_tree.specs.Identifiers.{IsUnused}
-use Rattle.bw_tree.specs.View.{TreeView, contents_at}
+use Rattle.bw_look.specs.View.{TreeView, contents_at}
 
 -- A page of a level that is a base page by itself and has more entries than those that stay, of which there are some. The
 -- first entry that moves doesn't name a removed page.

@@ -11,8 +11,7 @@ use Rattle.bw_delta.specs.Batches.{writes_of}
 use Rattle.bw_level.specs.Levels.{IsHome, row}
 use Rattle.bw_level.specs.Reading.{writes_over}
 use Rattle.bw_level.specs.Slots.{slot_at, has_key}
-use Rattle.bw_tree.specs.View.{TreeView, StageView, contents_at, contents_with, staged_writes}
-use Rattle.bw_tree.specs.declared.staging.Staged.{Staged}
+use Rattle.bw_look.specs.View.{TreeView, StageView, contents_at, contents_with, staged_writes}
 
 -- the tree with a batch staged: there are records for its writes, and all else is as before
 abbrev pub staged_on : TreeView → List Op → TreeView
@@ -34,16 +33,6 @@ staged_on tree ops =
 abbrev pub is_adopted : Option StageView → Bool
 is_adopted None = false
 is_adopted (Some stage) = stage.adopted
-
--- what a tree tells of the batch that is staged; until it is adopted each mapping word is below those of its records
-pub record IsStagedAs (tree : TreeView) (batch : Staged) : Type 0 where
-  pub stage : StageView
-  pub is : tree.staged ≡ Some stage
-  pub base : batch.base ≡ tree.next
-  pub floor : batch.floor ≡ 2 ^ 32 + stage.records
-  pub records : batch.records ≡ length stage.writes
-  pub fits : batch.floor + batch.records ≤ 2 ^ 33
-  pub low : stage.adopted ≡ false → (p : ℕ) → p < length tree.heads → slice_index tree.heads p < batch.floor
 
 -- with the staged writes among them, a read as of the stamp of an operation sees the map before it
 abbrev pub IsReadInTurn : TreeView → TreeView → List Op → Type 0

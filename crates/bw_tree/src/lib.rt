@@ -5,22 +5,17 @@
 //! A mapping word below 2^32 names a base page of the tree, and one from there on a delta record.
 #![tactic(auto)]
 
+mod folded;
 mod freed;
 mod making;
 mod mapping_words;
-mod routes;
-mod scans;
-mod staging;
 mod tree;
 
-pub use routes::Routes;
-pub use scans::Scans;
-pub use staging::Staged;
-pub use tree::{PageShape, Tree, Unnamed};
+pub use tree::Tree;
 
-/// What is read of a leaf.
-pub use bw_chain::LeafChain;
 /// Out of memory.
 pub use bw_key::Memory;
+/// What is read of a tree, and by what.
+pub use bw_look::{Folded, LeafChain, Look, PageShape, Routes, Scans, Staged, Unnamed};
 /// The names of pages, and the leaves that a tree is made of.
 pub use bw_page::{Leaf, PageId, RemovedPage};

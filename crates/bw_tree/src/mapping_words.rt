@@ -1,47 +1,14 @@
 // Mapping words of some pages, put in their places.
-ghost use Rattle.std.specs.Prelude.{◌≡◌, ℕ, ◌+◌, ◌<◌, ◌≤◌, Some, length, take, vec_capacity, vec_len};
-ghost use Rattle.std.specs.List.{AllByRecursion, slice_set};
+ghost use Rattle.std.specs.Prelude.{◌≡◌, ℕ, ◌+◌, ◌<◌, ◌≤◌, length, take, vec_capacity, vec_len};
+ghost use Rattle.std.specs.List.{AllByRecursion};
 ghost use Rattle.bw_core.specs.World.{times};
 ghost use Rattle.bw_chain.specs.Placing.{put_at};
-ghost use Rattle.bw_tree.specs.Words.{put_words, words_before, words_of};
+ghost use Rattle.bw_look.specs.Words.{put_words};
+ghost use Rattle.bw_tree.specs.Words.{words_of};
 
 use bw_memory::Alloc;
 use bw_page::PageId;
 use std::mem;
-
-/// The mapping words that stood before a batch was adopted.
-#[derive(Drop)]
-pub(crate) enum WordsBefore {
-    /// Of all pages.
-    OfAll(Vec<u64, Alloc>),
-    /// Of these pages.
-    OfPages(Vec<PageId, Alloc>, Vec<u64, Alloc>),
-}
-
-impl WordsBefore {
-    /// Puts them back in their places. It takes no memory.
-    pub(crate) fn put_back(self, heads: &mut Vec<u64, Alloc>)
-        ensures { heads.new.items ≡ words_before (Some self) heads.old.items }
-    {
-        match self {
-            WordsBefore::OfAll(words) => *heads = words,
-            WordsBefore::OfPages(pages, words) => put_words(heads, &pages, &words),
-        }
-    }
-}
-
-// Puts words in the places of pages. A page that isn't there has none.
-fn put_words(heads: &mut [u64], pages: &[PageId], words: &[u64])
-    ensures { heads.new ≡ put_words heads.old pages.now words.now }
-{
-    for place in 0..pages.len().min(words.len()) {
-        let page = pages[place];
-        let at = page.0 as usize;
-        if at < heads.len() {
-            heads[at] = words[place];
-        }
-    }
-}
 
 /// Puts words in the places of pages, no two of which are one, and answers the words that stood there. It takes no memory.
 pub(crate) fn swap_words(

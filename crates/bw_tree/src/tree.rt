@@ -1,17 +1,13 @@
 // The tree.
-ghost use Rattle.std.specs.Prelude.{◌≡◌, ℕ, ◌-◌, ◌<◌, ◌≤◌, ◌^◌, [], ◌∷◌, None, length, slice_index, IfOk};
+ghost use Rattle.std.specs.Prelude.{◌≡◌, ◌-◌, ◌<◌, [], ◌∷◌, None, length, IfOk};
 ghost use Rattle.std.specs.FinMap.{empty};
-ghost use Rattle.bw_level.specs.Entries.{AreExact};
-ghost use Rattle.bw_level.specs.Levels.{AreLevels, row};
 ghost use Rattle.bw_chain.specs.Removed.{HasNoRemoved};
-ghost use Rattle.bw_level.specs.Searches.{AllStand, IsInLevels};
-ghost use Rattle.bw_delta.specs.History.{HasDistinctStamps};
 
 use crate::freed::Freed;
 use crate::making::{base_pages, separators, words};
-use crate::staging::Stage;
 use bw_chain::{Chains, FLOOR};
 use bw_key::{Key, Memory};
+use bw_look::Stage;
 use bw_memory::Alloc;
 use bw_page::{Inner, Leaf, Page, PageId};
 use bw_segment::Segmented;
@@ -22,19 +18,12 @@ mod identifiers;
 mod merges;
 mod naming;
 mod page_consolidation;
-mod page_counts;
-mod page_states;
+mod reading;
 mod restart;
 mod roots;
-mod search;
-mod shape;
-mod snapshot_reads;
 mod splits;
 mod staged_batch;
 mod trimming;
-
-pub use children::Unnamed;
-pub use shape::PageShape;
 
 /// Pages, named by identifiers, whose present states are chains of delta records over base pages.
 ///
@@ -67,8 +56,8 @@ impl Drop for Tree {
 }
 
 impl Model for Tree {
-    ghost use Rattle.bw_tree.specs.View.{TreeView};
-    ghost use Rattle.bw_tree.specs.Trees.{IsTree, view_of};
+    ghost use Rattle.bw_look.specs.View.{TreeView};
+    ghost use Rattle.bw_look.specs.Trees.{IsTree, view_of};
 
     ghost Value = { TreeView };
 
@@ -78,10 +67,8 @@ impl Model for Tree {
 }
 
 impl Tree {
-    ghost use Rattle.bw_level.specs.Reading.{row_writes, writes_over};
-    ghost use Rattle.bw_level.specs.Slots.{slot_at};
-    ghost use Rattle.bw_tree.specs.Trees.{ArePlaced, IsTree};
-    ghost use Rattle.bw_tree.specs.View.{HomeIsOneIn, HomesHoldAll, LeavesHaveDistinctStamps, contents_at};
+    ghost use Rattle.bw_look.specs.Trees.{IsTree};
+    ghost use Rattle.bw_look.specs.View.{contents_at};
     ghost use Rattle.bw_tree.specs.Making.{AreAbutting, IsOverLeaves, count_from, tree_over};
 
     /// The tree of one empty leaf, page 0, which is the root.
@@ -164,52 +151,5 @@ impl Tree {
         ensures { result.now ≡ self.now.heads }
     {
         &self.heads
-    }
-
-    /// What every tree keeps: a key has one home, what the tree holds at a key is what its home holds there, and no two
-    /// writes over a leaf have one stamp. A caller's proof knows it behind this call, which does nothing.
-    pub fn know_homes(&self)
-        ensures one { HomeIsOneIn self.now }
-        ensures values { HomesHoldAll self.now }
-        ensures distinct { LeavesHaveDistinctStamps self.now }
-    {
-        // A look at a field is what makes the type's rule known here.
-        let _ = &self.root;
-    }
-
-    /// What every tree keeps of its levels: they are lawful, and no two writes over the leaves have one stamp. A caller's
-    /// proof knows it behind this call, which does nothing.
-    pub fn know_levels(&self)
-        ensures lawful { AreLevels self.now.slots self.now.root self.now.levels }
-        ensures distinct { HasDistinctStamps (row_writes self.now.slots (row self.now.levels 0)) }
-    {
-        // A look at a field is what makes the type's rule known here.
-        let _ = &self.root;
-    }
-
-    /// What every tree keeps of its index entries: each names the page of the level below that begins at its separator, or a
-    /// removed page, with which no page begins, and none names a page that another one names. So once the entry at the key
-    /// where a page begins is gone, no separator names the page, which is what giving its identifier back asks. A caller's
-    /// proof knows it behind this call, which does nothing.
-    pub fn know_entries(&self)
-        ensures { AreExact self.now.slots self.now.levels }
-    {
-        // A look at a field is what makes the type's rule known here.
-        let _ = &self.root;
-    }
-
-    /// What every tree keeps of its pages and their mapping words: a page of a level has one, each page stands on a level, and
-    /// so does one that has records, one that has none has no writes, and each page has an identifier of 32 bits. A caller's
-    /// proof knows it behind this call, which does nothing.
-    pub fn know_records(&self)
-        ensures stand { AllStand self.now.slots self.now.levels }
-        ensures there { (p : ℕ) → IsInLevels self.now.levels p → p < length self.now.heads }
-        ensures placed { ArePlaced self.now.heads self.now.levels }
-        ensures bare { (p : ℕ) → slice_index self.now.heads p < 2 ^ 32 → writes_over (slot_at self.now.slots p) ≡ [] }
-        ensures slots { length self.now.slots ≡ length self.now.heads }
-        ensures few { length self.now.heads ≤ 2 ^ 32 }
-    {
-        // A look at a field is what makes the type's rule known here.
-        let _ = &self.root;
     }
 }

@@ -3,7 +3,7 @@ ghost use Rattle.std.specs.Prelude.{◌≡◌, ℕ, ◌<◌, ◌≤◌, length, 
 ghost use Rattle.std.specs.List.{AllByRecursion};
 ghost use Rattle.bw_delta.specs.Batches.{write_of};
 ghost use Rattle.bw_group.specs.Homes.{AreHomes};
-ghost use Rattle.bw_tree.specs.View.{contents_at};
+ghost use Rattle.bw_look.specs.View.{contents_at};
 
 use bw_answer::{replies, replies_in_parts};
 use bw_fixtures::{LONG, key, pair, three_leaves, two, value};

@@ -267,7 +267,7 @@ fn growths_back<R: Abort>(rt: &R, alloc: Alloc, scans: &mut Scans) -> u64 {
 fn writes_have_their_effects_once_for_all_scans(rt: HostRuntime) {
     let alloc = heap(rt.alloc()).expect(&rt, "memory");
     let tree = adopted(&rt, alloc);
-    let mut scans = Scans::new(alloc, &tree);
+    let mut scans = Scans::new(alloc, tree.look());
     assert_that(&rt, growths(&rt, alloc, &mut scans) > 4);
     assert_equal(&rt, growths(&rt, alloc, &mut scans), 2);
     assert_equal(&rt, growths_back(&rt, alloc, &mut scans), 2);
@@ -277,7 +277,7 @@ fn writes_have_their_effects_once_for_all_scans(rt: HostRuntime) {
 fn writes_have_their_effects_once_for_all_scans_back(rt: HostRuntime) {
     let alloc = heap(rt.alloc()).expect(&rt, "memory");
     let tree = adopted(&rt, alloc);
-    let mut scans = Scans::new(alloc, &tree);
+    let mut scans = Scans::new(alloc, tree.look());
     assert_that(&rt, growths_back(&rt, alloc, &mut scans) > 4);
     assert_equal(&rt, growths_back(&rt, alloc, &mut scans), 2);
 }
@@ -285,7 +285,7 @@ fn writes_have_their_effects_once_for_all_scans_back(rt: HostRuntime) {
 // Reads the leaves of a tree behind the batch, two of which have writes, and drops what was read.
 fn drop_scans<R: Abort>(rt: &R, alloc: Alloc, tree: &Tree) {
     let from = key(alloc, b"").expect(rt, "memory");
-    let mut scans = Scans::new(alloc, tree);
+    let mut scans = Scans::new(alloc, tree.look());
     let pairs = scans.scan(&from, None, 9, 2).expect(rt, "memory");
     assert_equal(rt, pairs.len(), 3);
 }

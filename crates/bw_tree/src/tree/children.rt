@@ -1,29 +1,13 @@
 // Index entries: inner pages that name one more page.
-ghost use Rattle.std.specs.Prelude.{◌≡◌, None, Decides, MatchOption, OnOk, OnErr};
-ghost use Rattle.bw_level.specs.Children.{HasChildAt};
-ghost use Rattle.bw_level.specs.Searches.{IsInLevels};
-ghost use Rattle.bw_level.specs.Slots.{slot_at};
-ghost use Rattle.bw_level.specs.Turns.{StartsUpto};
+ghost use Rattle.std.specs.Prelude.{◌≡◌, None, OnOk, OnErr};
 
 use super::Tree;
 use bw_delta::Delta;
 use bw_key::{Key, Memory};
 use bw_page::PageId;
 
-/// A page that no page above names yet, as a split leaves it.
-#[derive(Clone, Copy)]
-pub struct Unnamed<'a> {
-    /// The page.
-    pub page: PageId,
-    /// The key at which it begins.
-    pub sep: &'a Key,
-    /// The page of the level above in whose range that key lies.
-    pub parent: PageId,
-}
-
 impl Tree {
-    ghost use Rattle.bw_tree.specs.Children.{HasNoUnnamed, IsNamed, IsUnnamed, MayHaveChild};
-    ghost use Rattle.bw_tree.specs.Routing.{IsInnerPage};
+    ghost use Rattle.bw_tree.specs.Children.{IsNamed, MayHaveChild};
 
     /// Lets an inner page name a page of the level below, as after a split: it gets a delta record with the key at which the
     /// child begins, a key of its range above its low key (ICDE 2013). Searches for keys from there on then come to the
@@ -44,45 +28,5 @@ impl Tree {
             .add_record(Delta::AddChild { sep, child }, head)?;
         self.heads[parent.0 as usize] = word;
         Ok(())
-    }
-
-    /// The right neighbour of a page of a level, if it has one that the level above doesn't name yet: where the key at which
-    /// it begins is at home on a page that doesn't name it at that key. It is none on the root's level, which has no level
-    /// above.
-    ///
-    /// It costs a walk along the page's chain, a search for the key, and one more among the separators of the page above. It
-    /// takes no memory.
-    pub fn unnamed_right(&self, page: PageId) -> Option<Unnamed<'_>>
-        requires { IsInLevels self.now.levels page }
-        ensures { MatchOption result (HasNoUnnamed self.now page)
-            (λ u. IsUnnamed self.now page u.parent u.sep.now u.page) }
-    {
-        let Some(found) = self.neighbour(page) else {
-            return None;
-        };
-        if found.0 >= self.level(self.root) {
-            return None;
-        }
-        let Some(parent) = self.above(found.0 + 1, found.1) else {
-            return None;
-        };
-        if self.has_child(parent, found.1, found.2) {
-            return None;
-        }
-        Some(Unnamed {
-            page: found.2,
-            sep: found.1,
-            parent,
-        })
-    }
-
-    /// Whether an inner page that doesn't begin above a key has this child at it.
-    pub(super) fn has_child(&self, page: PageId, key: &Key, child: PageId) -> bool
-        requires inner { IsInnerPage self.now page }
-        requires starts { StartsUpto (slot_at self.now.slots page) key.now }
-        ensures { Decides result (HasChildAt (slot_at self.now.slots page) key.now child) }
-    {
-        self.chains
-            .has_child(self.heads[page.0 as usize], key, child)
     }
 }

@@ -1,19 +1,13 @@
 // Pages that are absorbed by their left neighbours, their index entries, and roots that have one child.
-ghost use Rattle.std.specs.Prelude.{◌≡◌, ℕ, None, Decides, MatchOption, OnOk, OnErr};
-ghost use Rattle.std.specs.Option.{option_copied};
-ghost use Rattle.bw_level.specs.Before.{removed_at};
-ghost use Rattle.bw_level.specs.Children.{HasChildAt};
+ghost use Rattle.std.specs.Prelude.{◌≡◌, ℕ, None, OnOk, OnErr};
 ghost use Rattle.bw_level.specs.Roots.{HasOneChild, removed_root};
-ghost use Rattle.bw_level.specs.Slots.{slot_at, slot_level};
-ghost use Rattle.bw_level.specs.Turns.{StartsUpto};
 
 use super::Tree;
 use bw_key::{Key, Memory};
-use bw_page::{PageId, RemovedPage};
+use bw_page::PageId;
 
 impl Tree {
-    ghost use Rattle.bw_tree.specs.Merges.{HasLostChild, HasMerged, IsLowered, HasNoNamerOfRemoved, MayLoseChild, MayMerge, IsNamerOfRemoved};
-    ghost use Rattle.bw_tree.specs.Routing.{IsInnerPage};
+    ghost use Rattle.bw_tree.specs.Merges.{HasLostChild, HasMerged, IsLowered, MayLoseChild, MayMerge};
 
     /// Merges a page into its left neighbour, which gets its entries and goes on to its end. The page is a removed one from
     /// then on: a search that comes to it, as the page above still names it, goes on at the left neighbour. Both are base
@@ -66,66 +60,14 @@ impl Tree {
         ensures err { OnErr result (self.new ≡ self.old) }
     {
         let root = self.root;
-        let child = self.only_child();
-        let removed = self.removed_root(child);
+        let tree = self.look();
+        let child = tree.only_child();
+        let removed = tree.removed_root(child);
         let number = self
             .chains
             .remove_base(self.heads[root.0 as usize], removed)?;
         self.heads[root.0 as usize] = number;
         self.root = child;
         Ok(())
-    }
-
-    /// What is left of a page that was removed, or none for another page, a free identifier and one that was never given out.
-    /// It costs a walk along the page's chain, and takes no memory.
-    pub fn removed(&self, page: PageId) -> Option<&RemovedPage>
-        ensures { option_copied result ≡ removed_at (slot_at self.now.slots page) }
-    {
-        if page.0 as usize >= self.heads.len() {
-            return None;
-        }
-        self.chains.removed_page(self.heads[page.0 as usize])
-    }
-
-    /// The page of the level above that still names a page which was removed, as after a merge that isn't finished: at the key
-    /// where the removed page began. It is none where no page names it, and for a page that isn't a removed one. It costs a
-    /// search for that key, and one more among the separators of the page above. It takes no memory.
-    pub fn namer_of_removed(&self, page: PageId) -> Option<PageId>
-        ensures { MatchOption result (HasNoNamerOfRemoved self.now page) (IsNamerOfRemoved self.now page) }
-    {
-        self.know_levels();
-        let Some(removed) = self.removed(page) else {
-            return None;
-        };
-        if removed.level >= self.root_level() {
-            return None;
-        }
-        let Some(parent) = self.above(removed.level + 1, &removed.low) else {
-            return None;
-        };
-        if self.has_child(parent, &removed.low, page) {
-            return Some(parent);
-        }
-        None
-    }
-
-    // The child of a root that has one alone: the page of the level below that has the least key.
-    fn only_child(&self) -> PageId
-        requires { (child : ℕ) × HasOneChild self.now.slots self.now.root child }
-        ensures { HasOneChild self.now.slots self.now.root result }
-    {
-        self.know_levels();
-        self.first_page(self.root_level() - 1)
-    }
-
-    // What is left of the root where it is removed into this child.
-    fn removed_root(&self, child: PageId) -> RemovedPage
-        ensures { result ≡ removed_root (slot_level (slot_at self.now.slots self.now.root)) child }
-    {
-        RemovedPage {
-            left: child,
-            level: self.level(self.root),
-            low: Key::new(*self.heads.allocator(), &[]).unwrap(),
-        }
     }
 }

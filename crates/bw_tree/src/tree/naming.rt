@@ -14,7 +14,7 @@ use bw_page::{Inner, Page, PageId};
 
 impl Tree {
     ghost use Rattle.bw_tree.specs.Children.{AreNamed, MayHaveChildren, state_with_children};
-    ghost use Rattle.bw_tree.specs.Routing.{IsInnerPage};
+    ghost use Rattle.bw_look.specs.Routing.{IsInnerPage};
 
     /// Lets an inner page name several pages of the level below, as after many splits of one page: what `set_child` would do
     /// for each of them, one after another, with one copy of the page's children. Each entry is a page with the key at which
@@ -56,9 +56,10 @@ impl Tree {
         ensures { IfOk result (λ page. (was : PageState) → slot_at self.now.slots parent ≡ Live was →
             plain_inner page ≡ Live (state_with_children entries.entry.items was)) }
     {
-        match self.inner(parent) {
+        let tree = self.look();
+        match tree.inner(parent) {
             Some(inner) => inner.with_children(entries),
-            None => self.inner_page(parent)?.with_children(entries),
+            None => tree.inner_page(parent)?.with_children(entries),
         }
     }
 }

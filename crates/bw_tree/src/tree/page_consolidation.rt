@@ -2,21 +2,20 @@
 ghost use Rattle.std.specs.Prelude.{◌≡◌, ◌<◌, None, length, IfOk, OnOk, OnErr};
 ghost use Rattle.std.specs.Bool.{MatchBool};
 ghost use Rattle.std.specs.List.{Contains};
-ghost use Rattle.std.specs.Option.{option_copied};
 
 use super::Tree;
-use bw_key::{Key, Memory};
+use bw_key::Memory;
 use bw_page::{Inner, Leaf, Page, PageId};
 
 impl Tree {
     ghost use Rattle.bw_chain.specs.Removed.{IsNotRemoved};
     ghost use Rattle.bw_level.specs.Levels.{row};
     ghost use Rattle.bw_level.specs.Changes.{plain};
-    ghost use Rattle.bw_level.specs.Searches.{IsInLevels, plain_inner};
+    ghost use Rattle.bw_level.specs.Searches.{IsInLevels};
     ghost use Rattle.bw_level.specs.Slots.{slot_at};
     ghost use Rattle.bw_tree.specs.Consolidation.{IsConsolidated, IsRebased};
-    ghost use Rattle.bw_tree.specs.Pages.{leaf_as_of};
-    ghost use Rattle.bw_tree.specs.Routing.{IsInnerPage};
+    ghost use Rattle.bw_look.specs.Pages.{leaf_as_of};
+    ghost use Rattle.bw_look.specs.Routing.{IsInnerPage};
 
     /// Consolidates a leaf: what its writes make of its base page, as of the next stamp, takes the place of that page (ICDE
     /// 2013). No batch is staged.
@@ -45,7 +44,7 @@ impl Tree {
         ensures ok { OnOk result (IsConsolidated self.old self.new page) }
         ensures err { OnErr result (self.new ≡ self.old) }
     {
-        let leaf = self.leaf_as_of(page, self.next)?;
+        let leaf = self.look().leaf_as_of(page, self.next)?;
         self.put_leaf(page, leaf);
         Ok(())
     }
@@ -92,18 +91,9 @@ impl Tree {
         if self.narrow(page)? {
             return Ok(());
         }
-        let inner = self.inner_page(page)?;
+        let inner = self.look().inner_page(page)?;
         self.rebase(page, Page::Inner(inner));
         Ok(())
-    }
-
-    /// The inner page that an inner page's chain makes, as a page that has no record. It costs a walk along the chain and a
-    /// copy of the page's children.
-    pub(super) fn inner_page(&self, page: PageId) -> Result<Inner, Memory>
-        requires { IsInnerPage self.now page }
-        ensures { IfOk result (λ inner. slot_at self.now.slots page ≡ plain_inner inner) }
-    {
-        self.chains.inner_page(self.heads[page.0 as usize])
     }
 
     // Puts a page that is what a chain makes in the place of the chain.
@@ -116,15 +106,5 @@ impl Tree {
     {
         let number = self.chains.replace_base(self.heads[page.0 as usize], state);
         self.heads[page.0 as usize] = number;
-    }
-}
-
-/// The same end of a range again.
-pub(super) fn copy_end(end: Option<&Key>) -> Result<Option<Key>, Memory>
-    ensures { IfOk result (λ copy. copy ≡ option_copied end.entry) }
-{
-    match end {
-        Some(key) => Ok(Some(key.copy()?)),
-        None => Ok(None),
     }
 }

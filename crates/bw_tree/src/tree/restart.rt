@@ -7,7 +7,7 @@ use super::Tree;
 impl Tree {
     ghost use Rattle.bw_level.specs.Reading.{writes_over};
     ghost use Rattle.bw_level.specs.Slots.{slot_at};
-    ghost use Rattle.bw_tree.specs.View.{contents_at};
+    ghost use Rattle.bw_look.specs.View.{contents_at};
 
     /// Starts records and stamps over: there is no record any more, and the next stamp is 0. Each page is a base page
     /// by itself, and no batch is staged.

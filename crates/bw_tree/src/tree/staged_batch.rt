@@ -1,20 +1,25 @@
 // The life of a batch: staged, adopted, and then accepted or undone.
-ghost use Rattle.std.specs.Prelude.{◌≡◌, ℕ, ◌<◌, ◌≤◌, ◌+◌, ◌^◌, true, None, Some, length, slice_get, IfOk, OnOk, OnErr, MatchOption};
+ghost use Rattle.std.specs.Prelude.{◌≡◌, ℕ, ◌<◌, ◌≤◌, ◌+◌, ◌^◌, true, None, Some, length, IfOk, OnOk, OnErr};
+ghost use Rattle.std.specs.List.{AllByRecursion};
+ghost use Rattle.bw_core.specs.World.{times};
 ghost use Rattle.bw_level.specs.Slots.{slot_at};
 ghost use Rattle.bw_level.specs.Turns.{slot_without_writes};
 ghost use Rattle.bw_delta.specs.Batches.{writes_of};
-ghost use Rattle.bw_tree.specs.View.{contents_at, contents_with, staged_writes};
-ghost use Rattle.bw_tree.specs.Stages.{IsPostedStage, IsReadInTurn, IsStagedAs, LeavesHaveAll};
+ghost use Rattle.bw_look.specs.Folding.{pages_of};
+ghost use Rattle.bw_look.specs.View.{contents_at, contents_with};
+ghost use Rattle.bw_tree.specs.Beside.{AreFolded, IsAdoptedBeside, with_own_words};
+ghost use Rattle.bw_tree.specs.Stages.{IsPostedStage, IsReadInTurn, LeavesHaveAll};
 ghost use Rattle.bw_tree.specs.Stages.{accepted_tree, adopted_stage, is_adopted, staged_on, undone_tree};
-ghost use Rattle.bw_tree.specs.Words.{IsPostedStageOn, put_words};
+ghost use Rattle.bw_tree.specs.Words.{IsPostedStageOn};
+ghost use Rattle.bw_look.specs.Words.{put_words};
 
 use super::Tree;
-use crate::mapping_words::{WordsBefore, swap_words};
-use crate::staging::{Stage, Staged};
+use crate::folded::swap_leaves;
+use crate::mapping_words::swap_words;
 use bw_board::Closed;
 use bw_chain::FLOOR;
-use bw_delta::Write;
 use bw_key::Memory;
+use bw_look::{Folded, Stage, Staged, WordsBefore};
 use bw_memory::Alloc;
 use bw_model::Op;
 use bw_page::PageId;
@@ -50,29 +55,6 @@ impl Tree {
             floor: FLOOR + records as u64,
             records: (self.chains.len() - records) as u64,
         })
-    }
-
-    /// The batch that is staged, if one is.
-    pub fn staged(&self) -> Option<Staged>
-        ensures { MatchOption result (self.now.staged ≡ None) (IsStagedAs self.now) }
-    {
-        let stage = self.staged.as_ref()?;
-        Some(Staged {
-            base: self.next,
-            floor: FLOOR + stage.records as u64,
-            records: (self.chains.len() - stage.records) as u64,
-        })
-    }
-
-    /// The write of a staged record, by its place among them.
-    pub fn staged_write(&self, place: u64) -> &Write
-        requires { place < length (staged_writes self.now.staged) }
-        ensures { slice_get (staged_writes self.now.staged) place ≡ Some result.now }
-    {
-        match &self.staged {
-            Some(stage) => self.chains.write_at(stage.records + place as usize),
-            None => unreachable!(),
-        }
     }
 
     /// Takes the words that a board was closed with, on which each staged record was posted to the page of its key: its
@@ -130,6 +112,37 @@ impl Tree {
         }
     }
 
+    /// The same where workers consolidated leaves beside the posting, and a board swapped the words of their pages for the
+    /// numbers of these: each leaf takes the place of its page's chain, under the records that were posted there. What the
+    /// tree holds from the batch's first stamp on is that of `adopt`. The base pages that go are kept until the batch is
+    /// accepted or undone. It takes no memory, and a step for each of the pages, records and leaves.
+    pub fn adopt_folded(
+        &mut self,
+        pages: Vec<PageId, Alloc>,
+        closed: Closed,
+        mut folded: Vec<Folded, Alloc>,
+    )
+        requires folded { AreFolded self.old folded.items }
+        requires once { (p : ℕ) → times p (pages_of folded.items) ≤ 1 }
+        requires listed { AllByRecursion (λ f. 0 < times f.page pages.items) folded.items }
+        requires posted { IsPostedStageOn (with_own_words self.old folded.items) self.old.staged pages.items
+            closed.heads closed.links }
+        ensures { let words = put_words self.old.heads pages.entry.items closed.heads in
+            IsAdoptedBeside self.old self.new folded.entry.items words }
+    {
+        let (words, link_words, _) = closed.into_parts();
+        if let Some(stage) = self.staged.take() {
+            self.chains.set_links(stage.records, &link_words);
+            swap_leaves(&mut self.chains, &mut folded);
+            let before = swap_words(&mut self.heads, &pages, words);
+            self.staged.replace(Stage {
+                records: stage.records,
+                ops: stage.ops,
+                before: Some(WordsBefore::UnderLeaves(pages, before, folded)),
+            });
+        }
+    }
+
     /// Ends the stage of a batch that was adopted: it stays, and the next stamp is the one behind its operations.
     pub fn accept(&mut self)
         requires { is_adopted self.old.staged ≡ true }
@@ -147,7 +160,7 @@ impl Tree {
         if let Some(stage) = self.staged.take() {
             self.chains.truncate(stage.records);
             if let Some(before) = stage.before {
-                before.put_back(&mut self.heads);
+                before.put_back(&mut self.heads, &mut self.chains);
             }
         }
     }

@@ -24,7 +24,7 @@ fn drop_tree<R: Abort>(rt: &R, alloc: Alloc) {
 fn drop_scans<R: Abort>(rt: &R, alloc: Alloc, tree: &Tree) {
     let kept = alloc.used();
     let from = key(rt, alloc, b"");
-    let mut scans = Scans::new(alloc, tree);
+    let mut scans = Scans::new(alloc, tree.look());
     let pairs = scans.scan(&from, None, 9, 0).expect(rt, "memory");
     drop(pairs);
     assert_that(rt, alloc.used() > kept);

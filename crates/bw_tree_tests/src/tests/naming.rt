@@ -1,6 +1,6 @@
 // Pages that get their index entries at once, as the splits of one leaf leave them.
 ghost use Rattle.std.specs.Prelude.{◌≡◌, ◌<◌, ◌^◌, [], ◌∷◌, Some, None, IfOk, slice_index};
-ghost use Rattle.bw_tree.specs.Children.{IsUnnamed};
+ghost use Rattle.bw_look.specs.Unnamed.{IsUnnamed};
 ghost use Rattle.bw_tree.specs.Making.{AreAbutting};
 
 use super::making::{are, heap, key, stands};

@@ -76,7 +76,7 @@ fn is_found<R: Abort>(rt: &R, alloc: Alloc, tree: &Tree, routes: &mut Routes<'_>
 fn keys_that_rise_are_found(rt: HostRuntime) {
     let alloc = heap(&rt, rt.alloc());
     let tree = many_leaves(&rt, alloc);
-    let mut routes = Routes::new(&tree);
+    let mut routes = Routes::new(tree.look());
     for number in 0..LEAVES * 10 + 20 {
         is_found(&rt, alloc, &tree, &mut routes, number);
     }
@@ -86,7 +86,7 @@ fn keys_that_rise_are_found(rt: HostRuntime) {
 fn keys_that_fall_are_found(rt: HostRuntime) {
     let alloc = heap(&rt, rt.alloc());
     let tree = many_leaves(&rt, alloc);
-    let mut routes = Routes::new(&tree);
+    let mut routes = Routes::new(tree.look());
     for number in (0..LEAVES * 10 + 20).rev() {
         is_found(&rt, alloc, &tree, &mut routes, number);
     }
@@ -96,7 +96,7 @@ fn keys_that_fall_are_found(rt: HostRuntime) {
 fn keys_in_any_order_are_found(rt: HostRuntime) {
     let alloc = heap(&rt, rt.alloc());
     let tree = many_leaves(&rt, alloc);
-    let mut routes = Routes::new(&tree);
+    let mut routes = Routes::new(tree.look());
     let mut state: u32 = 1;
     for _ in 0..4000 {
         // A linear congruence, whose high bits are taken.
@@ -109,7 +109,7 @@ fn keys_in_any_order_are_found(rt: HostRuntime) {
 fn steps_of_each_width_are_found(rt: HostRuntime) {
     let alloc = heap(&rt, rt.alloc());
     let tree = many_leaves(&rt, alloc);
-    let mut routes = Routes::new(&tree);
+    let mut routes = Routes::new(tree.look());
     for width in 1..LEAVES {
         is_found(&rt, alloc, &tree, &mut routes, 0);
         is_found(&rt, alloc, &tree, &mut routes, width * 10);
@@ -121,7 +121,7 @@ fn steps_of_each_width_are_found(rt: HostRuntime) {
 fn one_leaf_has_all_keys(rt: HostRuntime) {
     let alloc = heap(&rt, rt.alloc());
     let tree = Tree::from_level(alloc, one_leaf(&rt, alloc)).expect(&rt, "memory");
-    let mut routes = Routes::new(&tree);
+    let mut routes = Routes::new(tree.look());
     for number in [3, 7, 0, 7] {
         is_found(&rt, alloc, &tree, &mut routes, number);
     }
@@ -132,7 +132,7 @@ fn searches_take_no_memory(rt: HostRuntime) {
     let alloc = heap(&rt, rt.alloc());
     let tree = many_leaves(&rt, alloc);
     alloc.refuse(1);
-    let mut routes = Routes::new(&tree);
+    let mut routes = Routes::new(tree.look());
     for number in [0, 5, 10, 2500, 2501, 9, 4000] {
         is_found(&rt, alloc, &tree, &mut routes, number);
     }

@@ -79,7 +79,7 @@ fn a_scan_back_of_no_range_has_no_pairs(rt: HostRuntime) {
 fn scans_follow_one_another_at_any_stamps(rt: HostRuntime) {
     let alloc = heap(&rt, rt.alloc());
     let tree = three_leaves(&rt, alloc);
-    let mut scans = Scans::new(alloc, &tree);
+    let mut scans = Scans::new(alloc, tree.look());
     let from = key(&rt, alloc, b"b");
     for stamp in [3u64, 7, 7, 2] {
         has_pairs(
@@ -98,7 +98,7 @@ fn scans_follow_one_another_at_any_stamps(rt: HostRuntime) {
 
 // The scans of a tree whose second and third leaf were read.
 fn read<'a, R: Abort>(rt: &R, alloc: Alloc, tree: &'a Tree) -> Scans<'a> {
-    let mut scans = Scans::new(alloc, tree);
+    let mut scans = Scans::new(alloc, tree.look());
     let from = key(rt, alloc, b"c");
     has_pairs(
         rt,

@@ -2,7 +2,7 @@ use Rattle.std.proofs.Common.{◌≡◌, ◌++◌, List, length, take, drop, sym
 use Rattle.bw_delta.proofs.Zips.{whole}
 use Rattle.bw_model.specs.Model.{replies_of}
 use Rattle.bw_model.specs.declared.operations.Op.{Op}
-use Rattle.bw_tree.specs.View.{contents_at}
+use Rattle.bw_look.specs.View.{contents_at}
 use Rattle.bw_answer.specs.Replies.{ReaderView, contents_before}
 use Rattle.bw_answer.proofs.ReplyLemmas.{replies_length}
 use Rattle.bw_answer.proofs.batch_replies.replies_in_parts.Goals as goal

@@ -2,7 +2,7 @@ use Rattle.std.proofs.Common.{ℕ, List, length, ap, subst, ◌∙◌}
 use Rattle.bw_tree.proofs.WordLemmas.{length_put}
 use Rattle.bw_group.proofs.SameHomes.{homes_stay}
 use Rattle.bw_model.specs.Model.{replies_of}
-use Rattle.bw_tree.specs.View.{contents_at}
+use Rattle.bw_look.specs.View.{contents_at}
 use Rattle.bw_shape.specs.Tidying.{HasBoth}
 use Rattle.bw_batch.proofs.BatchLemmas.{start_adopted}
 use Rattle.bw_batch.proofs.DueLemmas.{within_posted}

@@ -2,7 +2,7 @@ use Rattle.std.proofs.Common.{◌≡◌, ◌≤◌, ◌+◌, ℕ, List, length, 
 use Rattle.bw_core.specs.Keeping.{pairs_of}
 use Rattle.bw_model.specs.Model.{contents_after, replies_of}
 use Rattle.bw_model.specs.declared.operations.Op.{Op}
-use Rattle.bw_tree.specs.View.{TreeView, contents_with, staged_writes}
+use Rattle.bw_look.specs.View.{TreeView, contents_with, staged_writes}
 use Rattle.bw_batch.proofs.BatchLemmas.{accepted_as, first_read, reads_on}
 use Rattle.bw_batch.proofs.DueLemmas.{within_batch}
 use Rattle.bw_batch.proofs.LeavesLemmas.{batch_leaves}

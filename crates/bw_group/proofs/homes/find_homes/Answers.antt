@@ -20,7 +20,7 @@ pub loop-start-init : goal.loop-start-init
 loop-start-init c = record {
   found = none_found c.args.tree.now c.args.batch.now.ops c.batch.inside.points.items c.new-pages.result.items c.in_ok-numbers.numbers.items c.new-pages.ensures.items
       (c.in_ok-numbers.ensures ∙ ap (λ (v : GroupingView). length v.ops) c.batch.view_is);
-  tree = c.new-routes.ensures.tree;
+  tree = c.new-routes.ensures.tree ∙ c.look.ensures;
 }
 
 pub set_numbers-requires : goal.set_numbers-requires

@@ -1,11 +1,11 @@
-use Rattle.std.proofs.Common.{refl, ap, sym, ◌∙◌, ◌≡◌, ◌<◌, ◌+◌, arith, min}
+use Rattle.std.proofs.Common.{refl, ap, sym, ◌∙◌, ◌≡◌, ◌+◌, arith, min}
 use Rattle.bw_core.specs.Events.{book_after_claim}
 use Rattle.bw_board.specs.Plays.{lost_in}
 use Rattle.bw_board.specs.Public.{SeatView}
 use Rattle.bw_board.proofs.WorkingLemmas.{left_claimed}
 use Rattle.bw_post.proofs.OwnedCounts.{owned_more}
 use Rattle.bw_post.proofs.Homes.{same_home}
-use Rattle.bw_post.proofs.Joined.{fresh_worked, told_worked}
+use Rattle.bw_post.proofs.Joined.{fresh_worked, same_folded, told_worked}
 use Rattle.bw_post.proofs.workers.post_claimed.Goals as goal
 
 pub loop-span-init : goal.loop-span-init
@@ -34,6 +34,7 @@ loop-span-preserved g c =
         posted = e.posted;
         homes = e.homes;
         lost = omega (arith, i.worked.lost, ap (λ (v : SeatView). lost_in v.book.posted) t, e.lost);
+        folded = same_folded c.args.tree.now c.args.homes.now.pages c.args.board.now c.loop-span.worker c.post_piece.new.seat (e.swaps ∙ ap (λ (v : SeatView). v.book.swaps) t) i.worked.folded;
       };
       width = e.width ∙ ap (λ (v : SeatView). v.book.width) t ∙ i.width;
       few = e.few;

@@ -1,5 +1,4 @@
-use Rattle.std.proofs.Common.{arith, ap, sym, subst, ◌∙◌, length}
-use Rattle.bw_board.specs.Public.{Posts}
+use Rattle.std.proofs.Common.{arith, ap, ◌∙◌}
 use Rattle.bw_board.proofs.WorkingLemmas.{left_next, left_over}
 use Rattle.bw_post.proofs.Homes.{home_more}
 use Rattle.bw_post.proofs.Lost.{lost_few, lost_more}
@@ -16,7 +15,7 @@ overflow_add-lost g c =
     let i = c.loop-record.invariant in
     let t = c.post-lost.ensures.posted in
     let more = lost_more c.loop-record.seat c.post-lost.new.seat c.loop-record.record _ c.post-lost.result.lost t in
-    let few = lost_few c.post-lost.new.seat c.args.board.now (ap (λ z. z.board) t.after ∙ i.board) c.requires.over.few c.requires.over.spareless c.post-lost.ensures.sound in
+    let few = lost_few c.post-lost.new.seat c.args.board.now (ap (λ z. z.board) t.after ∙ i.board) c.requires.over.few c.post-lost.ensures.sound in
     omega (arith, i.lost, more, few.1)
 
 pub loop-record-preserved : goal.loop-record-preserved
@@ -24,10 +23,11 @@ loop-record-preserved g c =
     let i = c.loop-record.invariant in
     let t = c.post-lost.ensures.posted in
     let more = lost_more c.loop-record.seat c.post-lost.new.seat c.loop-record.record _ c.post-lost.result.lost t in
-    let few = lost_few c.post-lost.new.seat c.args.board.now (ap (λ z. z.board) t.after ∙ i.board) c.requires.over.few c.requires.over.spareless c.post-lost.ensures.sound in
+    let few = lost_few c.post-lost.new.seat c.args.board.now (ap (λ z. z.board) t.after ∙ i.board) c.requires.over.few c.post-lost.ensures.sound in
     record {
       board = ap (λ z. z.board) t.after ∙ i.board;
       width = ap (λ z. z.book.width) t.after ∙ i.width;
+      swaps = ap (λ z. z.book.swaps) t.after ∙ i.swaps;
       owned = ap (λ z. z.book.owned) t.after ∙ i.owned;
       once = c.post-lost.ensures.sound.own_once;
       left = left_over c.loop-record.seat c.post-lost.new.seat c.loop-record.record c.args.piece.end _ c.post-lost.result.lost i.left (omega (arith, c.loop-record-test.true)) t;

@@ -9,6 +9,7 @@ abbrev pub invariant-loop-record : goal.invariant-loop-record
 invariant-loop-record g l = record {
   board : l.seat.board ≡ l.board;
   width : l.seat.book.width ≡ l.fn.seat.book.width;
+  swaps : l.seat.book.swaps ≡ l.fn.seat.book.swaps;
   owned : l.seat.book.owned ≡ l.fn.seat.book.owned;
   once : (r : ℕ) → owns r l.seat.book ≤ 1;
   left : HasLeft l.seat l.record l.fn.piece.end;

@@ -1,7 +1,7 @@
 use Rattle.std.proofs.Common.{subst}
 use Rattle.std.specs.Prelude.{MatchOption}
-use Rattle.bw_tree.specs.Pages.{IsState}
-use Rattle.bw_tree.specs.Routing.{IsInNoLevel}
+use Rattle.bw_look.specs.Pages.{IsState}
+use Rattle.bw_look.specs.Routing.{IsInNoLevel}
 use Rattle.bw_shape.proofs.absorbing.count_entries.Goals as goal
 
 pub unreachable-requires : goal.unreachable-requires

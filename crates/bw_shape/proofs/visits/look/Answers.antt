@@ -2,7 +2,7 @@ use Rattle.std.proofs.Common.{◌≤◌, [], ◌∷◌, length, ◌∙◌, sym, 
 use Rattle.std.proofs.lemmas.List.{length-append}
 use Rattle.bw_level.specs.Slots.{slot_at}
 use Rattle.bw_level.specs.Splits.{slot_entries}
-use Rattle.bw_tree.specs.View.{TreeView}
+use Rattle.bw_look.specs.View.{TreeView}
 use Rattle.bw_shape.specs.Limits.{AreWithinBut}
 use Rattle.bw_shape.proofs.TidyLemmas.{few_within, holds_on, holds_same, within_bare, within_pass}
 use Rattle.bw_shape.proofs.visits.look.Goals as goal

@@ -1,5 +1,5 @@
 use Rattle.std.proofs.Common.{◌≡◌, ◌<◌, ◌^◌, true, false, slice_index, sym, subst, ◌∙◌}
-use Rattle.bw_tree.specs.Pages.{IsNamer}
+use Rattle.bw_look.specs.Pages.{IsNamer}
 use Rattle.bw_steps.proofs.MergeLemmas.{absorber_is, not_plain, page_on}
 use Rattle.bw_steps.proofs.merges.absorber.Goals as goal
 

@@ -2,7 +2,7 @@ use Rattle.std.proofs.Common.{sym, subst, ◌∙◌}
 use Rattle.bw_level.specs.Children.{MayDropChild}
 use Rattle.bw_level.specs.Slots.{slot_at}
 use Rattle.bw_tree.specs.Merges.{HasLostChild}
-use Rattle.bw_tree.proofs.RemovedLemmas.{gone_of}
+use Rattle.bw_look.proofs.RemovedLemmas.{gone_of}
 use Rattle.bw_steps.proofs.MergeLemmas.{low_same, may_drop}
 use Rattle.bw_steps.proofs.merges.finish_absorb.Goals as goal
 

@@ -2,8 +2,8 @@ use Rattle.std.proofs.Common.{◌∙◌, ℕ, Option, sym, ap, subst}
 use Rattle.std.specs.Prelude.{MatchOption}
 use Rattle.bw_key.specs.Order.{KeyBytes}
 use Rattle.bw_level.specs.Searches.{IsInLevels}
-use Rattle.bw_tree.specs.Children.{IsUnnamed}
-use Rattle.bw_tree.specs.View.{TreeView}
+use Rattle.bw_look.specs.Unnamed.{IsUnnamed}
+use Rattle.bw_look.specs.View.{TreeView}
 use Rattle.bw_steps.specs.Naming.{AreUnnamed, HasNoUnnamedOn, last_page}
 use Rattle.bw_steps.proofs.NamingLemmas.{last_in_levels, last_more, more_unnamed, walks_less}
 use Rattle.bw_steps.proofs.right_neighbours.unnamed_rights.Goals as goal

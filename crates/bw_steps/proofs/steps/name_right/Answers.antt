@@ -1,7 +1,7 @@
 use Rattle.std.proofs.Common.{refl, sym, subst}
 use Rattle.bw_key.specs.Order.{KeyBytes}
 use Rattle.bw_level.specs.Children.{FitsChild}
-use Rattle.bw_tree.proofs.UnnamedLemmas.{fits_child}
+use Rattle.bw_look.proofs.UnnamedLemmas.{fits_child}
 use Rattle.bw_steps.proofs.FinishLemmas.{over_namer, where_refused}
 use Rattle.bw_steps.proofs.steps.name_right.Goals as goal
 

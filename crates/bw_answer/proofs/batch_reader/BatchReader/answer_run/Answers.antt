@@ -6,7 +6,7 @@ use Rattle.bw_delta.specs.Writes.{WriteView}
 use Rattle.bw_delta.specs.Batches.{writes_to}
 use Rattle.bw_delta.specs.History.{pointed_to}
 use Rattle.bw_tree.specs.Levels.{IsHome, row}
-use Rattle.bw_tree.specs.View.{TreeView}
+use Rattle.bw_look.specs.View.{TreeView}
 use Rattle.bw_group.specs.Points.{IsEntryOf, IsPointOf, entries_of}
 use Rattle.bw_answer.specs.Replies.{IsReadBy, ReaderView}
 use Rattle.bw_group.proofs.Entries.{group_rises, part_holds}

@@ -1,7 +1,7 @@
 use Rattle.std.proofs.Common.{◌+◌, get_or, slice_get, sym, ap, subst, ◌∙◌}
 use Rattle.std.proofs.lemmas.List.{get_or_default}
 use Rattle.bw_model.specs.Model.{reply_of}
-use Rattle.bw_tree.specs.View.{TreeView, contents_at}
+use Rattle.bw_look.specs.View.{TreeView, contents_at}
 use Rattle.bw_answer.specs.Replies.{ReaderView, IsReadInTurn}
 use Rattle.bw_answer.proofs.ReplyLemmas.{scan_more}
 use Rattle.bw_answer.proofs.batch_reader.BatchReader.answer_scans.Goals as goal

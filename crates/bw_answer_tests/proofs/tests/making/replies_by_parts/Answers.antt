@@ -1,7 +1,7 @@
 use Rattle.std.proofs.Common.{◌∙◌, ◌+◌, List, take, ap, sym}
 use Rattle.bw_model.specs.Model.{contents_after}
 use Rattle.bw_model.specs.declared.operations.Op.{Op}
-use Rattle.bw_tree.specs.View.{contents_at}
+use Rattle.bw_look.specs.View.{contents_at}
 use Rattle.bw_answer_tests.proofs.ReadOnly.{reads_leave}
 use Rattle.bw_answer_tests.proofs.tests.making.replies_by_parts.Goals as goal
 

@@ -1,6 +1,6 @@
 use Rattle.std.proofs.Common.{◌∙◌, List, ap, length, sym}
 use Rattle.bw_model.specs.declared.operations.Reply.{Reply}
-use Rattle.bw_tree.specs.View.{contents_at}
+use Rattle.bw_look.specs.View.{contents_at}
 use Rattle.bw_batch.specs.Lens.{key_count}
 use Rattle.bw_batch.specs.Settings.{limits_of}
 use Rattle.bw_batch.proofs.DueLemmas.{within_answered}

@@ -1,5 +1,5 @@
 use Rattle.std.proofs.Common.{◌≡◌, ◌<◌, length, sym, subst}
-use Rattle.bw_tree.specs.View.{TreeView}
+use Rattle.bw_look.specs.View.{TreeView}
 use Rattle.bw_tree.proofs.tree.Tree.consolidate_inner.Goals as goal
 
 pub rebase-requires-clause-there : goal.rebase-requires-clause-there

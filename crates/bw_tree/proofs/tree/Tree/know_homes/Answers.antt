@@ -1,22 +1,12 @@
-use Rattle.bw_level.specs.Levels.{row}
-use Rattle.bw_level.proofs.HomeLemmas.{home_value, one_home}
-use Rattle.bw_tree.proofs.LeafScanLemmas.{distinct_here, lawful_here}
-use Rattle.bw_tree.proofs.ScanLemmas.{page_distinct}
+use Rattle.std.proofs.Common.{subst}
+use Rattle.bw_look.specs.View.{HomeIsOneIn, HomesHoldAll, LeavesHaveDistinctStamps, TreeView}
 use Rattle.bw_tree.proofs.tree.Tree.know_homes.Goals as goal
 
 pub returns-clause-one : goal.returns-clause-one
-returns-clause-one c = λ key p q home other.
-    let tree = c.args.self.now in
-    one_home tree.slots _ tree.levels (lawful_here c.self.inside.heads.items c.self.inside.chains.bases c.self.inside.chains.records c.self.inside.root c.self.inside.next _ c.self.inside.staged _ c.self.view_is c.self.invariant.now) key q p other home
+returns-clause-one c = subst (λ (v : TreeView). HomeIsOneIn v) c.look.ensures c.know_homes.ensures.one
 
 pub returns-clause-values : goal.returns-clause-values
-returns-clause-values c = λ key p stamp home.
-    let tree = c.args.self.now in
-    home_value tree.slots _ tree.levels (lawful_here c.self.inside.heads.items c.self.inside.chains.bases c.self.inside.chains.records c.self.inside.root c.self.inside.next _ c.self.inside.staged _ c.self.view_is c.self.invariant.now)
-    (distinct_here c.self.inside.heads.items c.self.inside.chains.bases c.self.inside.chains.records c.self.inside.root c.self.inside.next _ c.self.inside.staged _ c.self.view_is c.self.invariant.now) key p stamp home
+returns-clause-values c = subst (λ (v : TreeView). HomesHoldAll v) c.look.ensures c.know_homes.ensures.values
 
 pub returns-clause-distinct : goal.returns-clause-distinct
-returns-clause-distinct c = λ p has.
-    let tree = c.args.self.now in
-    page_distinct tree.slots (row tree.levels 0) p has
-    (distinct_here c.self.inside.heads.items c.self.inside.chains.bases c.self.inside.chains.records c.self.inside.root c.self.inside.next _ c.self.inside.staged _ c.self.view_is c.self.invariant.now)
+returns-clause-distinct c = subst (λ (v : TreeView). LeavesHaveDistinctStamps v) c.look.ensures c.know_homes.ensures.distinct

@@ -8,9 +8,9 @@ use Rattle.bw_chain.specs.Chains.{Records}
 use Rattle.bw_chain.specs.Records.{with_link}
 use Rattle.bw_chain.specs.Supports.{base_under}
 use Rattle.bw_tree.specs.Children.{AreNamed}
-use Rattle.bw_tree.specs.Trees.{IsTree, view_of}
+use Rattle.bw_look.specs.Trees.{IsTree, view_of}
 use Rattle.bw_tree.proofs.NamingLemmas.{all_named_on, ends_behind}
-use Rattle.bw_tree.proofs.RoutingLemmas.{page_at_head, page_there}
+use Rattle.bw_look.proofs.RoutingLemmas.{page_at_head, page_there}
 use Rattle.bw_tree.proofs.tree.Tree.name_all.Goals as goal
 
 pub index-head-requires : goal.index-head-requires

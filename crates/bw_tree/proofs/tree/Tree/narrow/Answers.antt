@@ -1,6 +1,6 @@
 use Rattle.std.proofs.Common.{◌∙◌, set, ap, get_or, arith}
 use Rattle.bw_tree.proofs.NarrowLemmas.{narrowed_on, sound_at}
-use Rattle.bw_tree.proofs.RoutingLemmas.{page_at_head, page_there}
+use Rattle.bw_look.proofs.RoutingLemmas.{page_at_head, page_there}
 use Rattle.bw_tree.proofs.tree.Tree.narrow.Goals as goal
 
 pub index-requires : goal.index-requires

@@ -1,7 +1,7 @@
 use Rattle.std.proofs.Common.{set, ◌∙◌, ap, get_or, arith}
 use Rattle.std.proofs.lemmas.List.{get_or_default}
 use Rattle.bw_chain.specs.Supports.{base_under}
-use Rattle.bw_tree.proofs.LeafScanLemmas.{leaf_held, leaf_at}
+use Rattle.bw_look.proofs.LeafScanLemmas.{leaf_held, leaf_at}
 use Rattle.bw_tree.proofs.ConsolidationLemmas.{consolidated_on}
 use Rattle.bw_tree.proofs.tree.Tree.put_leaf.Goals as goal
 

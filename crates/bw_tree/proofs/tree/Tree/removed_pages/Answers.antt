@@ -1,15 +1,8 @@
-use Rattle.std.proofs.Common.{◌≡◌, rules, subst, sym}
-use Rattle.bw_chain.specs.Chains.{slots_of}
-use Rattle.bw_tree.specs.Freeing.{HasEachRemoved}
-use Rattle.bw_tree.specs.View.{TreeView}
-use Rattle.bw_tree.proofs.LeftLemmas.{each_removed}
+use Rattle.std.proofs.Common.{subst}
+use Rattle.std.specs.Prelude.{IfOk}
+use Rattle.bw_look.specs.RemovedPages.{HasEachRemoved}
+use Rattle.bw_look.specs.View.{TreeView}
 use Rattle.bw_tree.proofs.tree.Tree.removed_pages.Goals as goal
 
 pub returns : goal.returns
-returns c =
-    let heads = c.self.inside.heads.items in
-    let bases = c.self.inside.chains.bases in
-    let records = c.self.inside.chains.records in
-    let items : c.extend_from_slice.new.self.items ≡ c.removed_numbers.result.now = search rules in
-    subst (λ (v : TreeView). HasEachRemoved v.slots c.extend_from_slice.new.self.items) c.self.view_is
-    (subst (HasEachRemoved (slots_of heads bases records)) (sym items) (each_removed heads bases records c.self.invariant.now.own c.removed_numbers.result.now c.removed_numbers.ensures))
+returns c = subst (λ (v : TreeView). IfOk c.removed_pages.result (λ pages. HasEachRemoved v.slots pages.items)) c.look.ensures c.removed_pages.ensures

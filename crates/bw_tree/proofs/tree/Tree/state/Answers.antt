@@ -1,17 +1,9 @@
-use Rattle.std.proofs.Common.{subst, arith}
-use Rattle.bw_tree.specs.Routing.{IsInLevel}
-use Rattle.bw_tree.proofs.PageLemmas.{lowest_leaf}
+use Rattle.std.proofs.Common.{subst}
+use Rattle.std.specs.Prelude.{IfOk, MatchOption}
+use Rattle.bw_look.specs.Pages.{IsState}
+use Rattle.bw_look.specs.Routing.{IsInNoLevel}
+use Rattle.bw_look.specs.View.{TreeView}
 use Rattle.bw_tree.proofs.tree.Tree.state.Goals as goal
 
-pub returns-then-level-eq0 : goal.returns-then-level-eq0
-returns-then-level-eq0 c = (
-  lowest_leaf c.args.self.now c.args.self.now.root c.know_levels.ensures.lawful c.args.page
-      (subst (IsInLevel c.args.self.now c.args.page) (omega (arith, c.if-level-eq0.true)) c.in-Some.ensures.level),
-  c.in_ok-leaf_as_of.ensures,
-)
-
-pub inner_page-requires : goal.inner_page-requires
-inner_page-requires c = record {
-  in_levels = record { level = c.in-Some.level; within = c.in-Some.ensures.level.0; in_level = c.in-Some.ensures.level.1 };
-  raised = omega (arith, c.if-level-eq0.false);
-}
+pub returns : goal.returns
+returns c = subst (λ (v : TreeView). IfOk c.state.result (λ state. MatchOption state (IsInNoLevel v c.args.page) (IsState v c.args.page c.args.stamp))) c.look.ensures c.state.ensures

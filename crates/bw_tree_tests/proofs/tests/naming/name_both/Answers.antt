@@ -4,8 +4,9 @@ use Rattle.std.specs.Ordering.{is_lt}
 use Rattle.bw_page.proofs.Truths.{both_of, true_holds}
 use Rattle.std.specs.FinMap.{is_sorted}
 use Rattle.bw_key.specs.Order.{KeyBytes, key_cmp}
-use Rattle.bw_tree.specs.Children.{IsUnnamed, MayHaveChildren}
-use Rattle.bw_tree.proofs.UnnamedLemmas.{fits_child, home_inner}
+use Rattle.bw_look.specs.Unnamed.{IsUnnamed}
+use Rattle.bw_tree.specs.Children.{MayHaveChildren}
+use Rattle.bw_look.proofs.UnnamedLemmas.{fits_child, home_inner}
 use Rattle.bw_tree_tests.proofs.tests.naming.name_both.Goals as goal
 
 same : (p q : ℕ) → nat_eq p q ≡ true → p ≡ q

@@ -1,7 +1,7 @@
 use Rattle.std.proofs.Common.{sym, subst}
 use Rattle.bw_key.specs.Order.{KeyBytes}
 use Rattle.bw_tree.specs.Children.{MayHaveChild}
-use Rattle.bw_tree.proofs.UnnamedLemmas.{fits_child}
+use Rattle.bw_look.proofs.UnnamedLemmas.{fits_child}
 use Rattle.bw_tree_tests.proofs.tests.naming.name_one.Goals as goal
 
 pub set_child-requires-clause-page : goal.set_child-requires-clause-page

@@ -1,0 +1,11 @@
+pub mod View
+pub mod Trees
+pub mod Folding
+pub mod Words
+pub mod Stages
+pub mod Replaying
+pub mod Routing
+pub mod Pages
+pub mod Shapes
+pub mod Unnamed
+pub mod RemovedPages

@@ -1,0 +1,24 @@
+//! What is read of a Bw-tree: searches from the root by separators and side links as in a B-link tree, values and scans as
+//! of a stamp, and what is told of one page, of a level, and of a staged batch.
+//!
+//! A `Look` is a tree that is lent to be read. What changes a tree is in the crate above.
+#![tactic(auto)]
+
+mod folded;
+mod look;
+mod mapping_words;
+mod routes;
+mod scans;
+mod staging;
+
+pub use folded::Folded;
+pub use look::{Look, PageShape, Unnamed};
+pub use mapping_words::WordsBefore;
+pub use routes::Routes;
+pub use scans::Scans;
+pub use staging::{Stage, Staged};
+
+/// What is read of a leaf.
+pub use bw_chain::LeafChain;
+/// Out of memory.
+pub use bw_key::Memory;

@@ -1,0 +1,112 @@
+// What is read of a tree: values, scans, and what its leaves have.
+ghost use Rattle.std.specs.Prelude.{◌≡◌, IfOk};
+ghost use Rattle.std.specs.List.{Contains};
+ghost use Rattle.std.specs.Option.{option_copied};
+ghost use Rattle.std.specs.FinMap.{get};
+ghost use Rattle.bw_level.specs.Slots.{slot_at};
+ghost use Rattle.bw_chain.specs.LeafChains.{IsLeafChain};
+ghost use Rattle.bw_level.specs.Levels.{row};
+ghost use Rattle.bw_level.specs.Scans.{high_of};
+ghost use Rattle.bw_look.specs.View.{ArePairsUnder, contents_at, first_pairs, last_pairs};
+ghost use Rattle.bw_look.specs.Replaying.{IsReadLeaf};
+
+use super::Look;
+use crate::scans::{ReadLeaf, Scans};
+use bw_chain::LeafChain;
+use bw_delta::value_as_of;
+use bw_key::{Key, Memory};
+use bw_memory::Alloc;
+use bw_model::{Pairs, Value};
+use bw_page::PageId;
+
+impl<'a> Look<'a> {
+    /// The value at a key as of a stamp: what the writes below the stamp leave of the value on the key's base page.
+    ///
+    /// Of the chain of the key's leaf it sorts the writes to the key, and copies the one value that it answers.
+    /// `Memory` is answered where the list or the copy finds none.
+    pub fn value_at(&self, key: &Key, stamp: u64) -> Result<Option<Value>, Memory>
+        ensures { IfOk result (λ value. value ≡ get (contents_at self.now stamp) key.now) }
+    {
+        let page = self.route(key);
+        let head = self.heads[page.0 as usize];
+        let alloc = *self.heads.allocator();
+        let found = self.chains.writes_at(alloc, head, key)?;
+        let start = self.chains.base_value_at(head, key);
+        value_as_of(alloc, start, &found, stamp)
+    }
+
+    /// All that is read of a leaf: its writes, its base page, where its range ends, and its right neighbour. It costs one
+    /// walk along the leaf's chain. Memory is taken for the list of the writes alone, and none where the leaf has none.
+    /// `Memory` is answered where the list finds none.
+    pub fn leaf(&self, alloc: Alloc, page: PageId) -> Result<LeafChain<'a>, Memory>
+        requires { Contains (row self.now.levels 0) page }
+        ensures leaf { IfOk result (IsLeafChain (slot_at self.now.slots page)) }
+        ensures values { IfOk result (λ leaf. ArePairsUnder self.now page leaf.base.now.pairs) }
+    {
+        self.chains.leaf(alloc, self.heads[page.0 as usize])
+    }
+
+    /// Where a leaf's range ends: a walk along its chain.
+    pub fn end(&self, page: PageId) -> Option<&'a Key>
+        requires { Contains (row self.now.levels 0) page }
+        ensures { option_copied result ≡ high_of (slot_at self.now.slots page) }
+    {
+        self.chains.end(self.heads[page.0 as usize]).0
+    }
+
+    /// The first pairs of a range of keys as of a stamp, in the order of their keys: those from `from` on and below
+    /// `to`, and no more than `most` of them.
+    ///
+    /// From the leaf of `from` on it reads leaf after leaf along the side links, until there are enough pairs or a leaf
+    /// ends the range. The writes of a leaf below the stamp have their effects beside it, whatever `most` is; `Scans` does
+    /// so once for many scans. Memory is taken for the pairs that are answered and, for one leaf with writes at a time, for
+    /// lists of the writes and for a map of the keys that they changed, and none by `most`. `Memory` is answered where a
+    /// list, a map or a copy finds none.
+    pub fn scan_at(
+        &self,
+        from: &Key,
+        to: Option<&Key>,
+        most: u64,
+        stamp: u64,
+    ) -> Result<Pairs, Memory>
+        ensures { IfOk result (λ pairs. pairs ≡ first_pairs self.now from.now (option_copied to.entry) most stamp) }
+    {
+        Scans::once(*self.heads.allocator(), self.again()).scan(from, to, most, stamp)
+    }
+
+    /// The last pairs of a range of keys as of a stamp, the greatest key first: those from `from` on and below `to`,
+    /// and no more than `most` of them.
+    ///
+    /// From the leaf that has the last of the range on it reads leaf after leaf back, until there are enough pairs or a
+    /// leaf begins the range. Side links lead to the right alone, so it searches for each leaf from the root. Else the
+    /// costs are those of `scan_at`. `Memory` is answered where a list, a map or a copy finds none.
+    pub fn rscan_at(
+        &self,
+        from: &Key,
+        to: Option<&Key>,
+        most: u64,
+        stamp: u64,
+    ) -> Result<Pairs, Memory>
+        ensures { IfOk result (λ pairs. pairs ≡ last_pairs self.now from.now (option_copied to.entry) most stamp) }
+    {
+        Scans::once(*self.heads.allocator(), self.again()).scan_back(from, to, most, stamp)
+    }
+
+    /// What a scan reads of a leaf: its bounds, its right neighbour, and its pairs as of stamp 0, which go on to later
+    /// stamps.
+    pub(crate) fn read_leaf(&self, alloc: Alloc, page: PageId) -> Result<ReadLeaf<'a>, Memory>
+        requires { Contains (row self.now.levels 0) page }
+        ensures stamp { IfOk result (λ leaf. leaf.replay.stamp ≡ 0) }
+        ensures leaf { IfOk result (IsReadLeaf (slot_at self.now.slots page)) }
+    {
+        self.know_homes();
+        let leaf = self.leaf(alloc, page)?;
+        let replay = leaf.replay(alloc)?;
+        Ok(ReadLeaf {
+            low: leaf.base.low(),
+            end: leaf.end,
+            side: leaf.side,
+            replay,
+        })
+    }
+}
