@@ -1,12 +1,14 @@
 -- A batch on a tree, from its staging to its end.
-use Rattle.std.proofs.Common.{◌≡◌, ℕ, ◌+◌, true, false, List, length, take, Option, Some, None, refl, sym, ap, ◌∙◌, subst, arith}
+use Rattle.std.proofs.Common.{◌≡◌, ℕ, ◌+◌, ◌≤◌, true, false, List, [], length, take, Option, Some, None, refl, sym, ap, ◌∙◌, subst, arith}
 use Rattle.std.proofs.lemmas.List.{take_all}
 use Rattle.bw_model.specs.Model.{contents_after}
 use Rattle.bw_model.specs.declared.operations.Op.{Op}
 use Rattle.bw_delta.specs.Batches.{writes_of}
 use Rattle.bw_tree.specs.Stages.{accepted_tree, adopted_stage, is_adopted, staged_on, undone_tree}
 use Rattle.bw_look.specs.View.{TreeView, StageView, contents_at, contents_with}
-use Rattle.bw_post.specs.Posting.{IsWaiting}
+use Rattle.bw_look.specs.declared.folded.Folded.{Folded}
+use Rattle.bw_tree.specs.Words.{IsPostedStageOn}
+use Rattle.bw_post.specs.Posting.{IsPostedBeside, IsWaiting}
 use Rattle.bw_batch.specs.Stages.{operations_staged}
 
 -- a batch that was staged waits to be posted
@@ -55,15 +57,24 @@ same_count tree after staged = ap operations_staged staged ∙ by tree.staged
     by None = refl
     by (Some stage) = refl
 
+-- a batch that was posted with nothing beside it
+pub posted_alone : (tree : TreeView) (leaves : List Folded) (pages heads links : List ℕ) → leaves ≡ [] → IsPostedStageOn tree tree.staged pages heads links → IsPostedBeside tree leaves pages heads links
+posted_alone tree leaves pages heads links none posted =
+    subst (λ (l : List Folded). IsPostedBeside tree l pages heads links) (sym none) (record { folded = tt; once = λ p. omega arith; listed = tt; posted = posted })
+
+-- from the batch's first stamp on the adopted tree is read as the staged one with its writes
+abbrev pub ReadsOn : TreeView → TreeView → Type 0
+ReadsOn tree after = (stamp : ℕ) → tree.next ≤ stamp → contents_at after stamp ≡ contents_with tree stamp
+
 -- what a read sees once a batch was adopted
-pub reads_adopted : (tree after : TreeView) (ops : List Op) → after.next ≡ tree.next → ((stamp : ℕ) → contents_at after stamp ≡ contents_with tree stamp) → ((i : ℕ) → contents_with tree (tree.next + i) ≡ contents_after (take i ops) (contents_with tree tree.next)) →
+pub reads_adopted : (tree after : TreeView) (ops : List Op) → after.next ≡ tree.next → ReadsOn tree after → ((i : ℕ) → contents_with tree (tree.next + i) ≡ contents_after (take i ops) (contents_with tree tree.next)) →
     (i : ℕ) → contents_at after (after.next + i) ≡ contents_after (take i ops) (contents_at after after.next)
 reads_adopted tree after ops next same reads i =
-    ap (λ n. contents_at after (n + i)) next ∙ same (tree.next + i) ∙ reads i
-    ∙ ap (contents_after (take i ops)) (sym (same tree.next) ∙ ap (contents_at after) (sym next))
+    ap (λ n. contents_at after (n + i)) next ∙ same (tree.next + i) (omega arith) ∙ reads i
+    ∙ ap (contents_after (take i ops)) (sym (same tree.next (omega arith)) ∙ ap (contents_at after) (sym next))
 
-pub start_adopted : (tree after : TreeView) → after.next ≡ tree.next → ((stamp : ℕ) → contents_at after stamp ≡ contents_with tree stamp) → contents_at after after.next ≡ contents_with tree tree.next
-start_adopted tree after next same = ap (contents_at after) next ∙ same tree.next
+pub start_adopted : (tree after : TreeView) → after.next ≡ tree.next → ReadsOn tree after → contents_at after after.next ≡ contents_with tree tree.next
+start_adopted tree after next same = ap (contents_at after) next ∙ same tree.next (omega arith)
 
 -- an accepted batch
 pub record IsAccepted (before after : TreeView) (ops : List Op) : Type 0 where
@@ -73,7 +84,7 @@ pub record IsAccepted (before after : TreeView) (ops : List Op) : Type 0 where
   pub contents : contents_at after after.next ≡ contents_after ops (contents_at before before.next)
 
 pub accepted_as : (before tree now after : TreeView) (ops : List Op) → tree ≡ staged_on before ops → ((i : ℕ) → contents_with tree (before.next + i) ≡ contents_after (take i ops) (contents_at before before.next)) →
-    now.next ≡ tree.next → now.records ≡ tree.records → ((stamp : ℕ) → contents_at now stamp ≡ contents_with tree stamp) → is_adopted now.staged ≡ true → operations_staged now.staged ≡ operations_staged tree.staged → after ≡ accepted_tree now now.staged →
+    now.next ≡ tree.next → now.records ≡ tree.records → ReadsOn tree now → is_adopted now.staged ≡ true → operations_staged now.staged ≡ operations_staged tree.staged → after ≡ accepted_tree now now.staged →
     IsAccepted before after ops
 accepted_as before tree now after ops is reads next records same so count accepted_is = by now.staged so count accepted_is
   where
@@ -91,6 +102,6 @@ accepted_as before tree now after ops is reads next records same so count accept
           none = ap (λ (t : TreeView). t.staged) is';
           records = ap (λ (t : TreeView). t.records) is' ∙ records ∙ ap (λ (t : TreeView). t.records) is;
           contents =
-              ap (λ (t : TreeView). contents_at t t.next) is' ∙ ap (contents_at now) next_is ∙ same (before.next + length ops) ∙ reads (length ops)
+              ap (λ (t : TreeView). contents_at t t.next) is' ∙ ap (contents_at now) next_is ∙ same (before.next + length ops) (omega (arith, ap (λ (t : TreeView). t.next) is)) ∙ reads (length ops)
               ∙ ap (λ (l : List Op). contents_after l (contents_at before before.next)) (take_all (length ops) ops (omega arith));
         }

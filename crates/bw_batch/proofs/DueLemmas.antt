@@ -1,9 +1,9 @@
 -- The leaves that a batch has written are due: all others are as they were.
-use Rattle.std.proofs.Common.{inl, inr, ◌⊎◌, ◌≡◌, ℕ, suc, ◌<◌, ◌≤◌, Bool, true, false, cond, List, [], ◌∷◌, ◌++◌, length, reverse, Option, Some, None, Result, Ok, Err, OnOk, OnErr, refl, sym, ap, ◌∙◌, subst, arith}
+use Rattle.std.proofs.Common.{inl, inr, ◌⊎◌, ◌≡◌, ℕ, suc, ◌<◌, ◌≤◌, Bool, true, false, cond, List, [], ◌∷◌, ◌++◌, length, set, Option, Some, None, Result, Ok, Err, OnOk, OnErr, refl, sym, ap, ◌∙◌, subst, arith}
 use Rattle.std.specs.Prelude.{filter, slice_get}
 use Rattle.std.proofs.lemmas.Bool.{cases_eq, cases_lt}
 use Rattle.std.proofs.lemmas.List.Sorted.{length_permutation}
-use Rattle.std.specs.List.{Contains}
+use Rattle.std.specs.List.{AllByRecursion, Contains}
 use Rattle.bw_core.specs.World.{times}
 use Rattle.bw_core.proofs.Lists.{one_other}
 use Rattle.bw_key.specs.Order.{KeyBytes}
@@ -17,6 +17,12 @@ use Rattle.bw_model.specs.declared.operations.Op.{Op}
 use Rattle.bw_tree.specs.Stages.{LeavesHaveAll, accepted_tree, staged_on}
 use Rattle.bw_look.specs.View.{StageView, TreeView, staged_writes}
 use Rattle.bw_tree.specs.Words.{IsPostedStageOn}
+use Rattle.bw_tree.specs.Beside.{folded_tree, with_own_words}
+use Rattle.bw_tree.specs.Making.{leaf_slot}
+use Rattle.bw_look.specs.Folding.{put_each}
+use Rattle.bw_look.specs.declared.folded.Folded.{Folded}
+use Rattle.bw_post.specs.Posting.{IsPostedBeside}
+use Rattle.bw_batch.proofs.RangeLemmas.{put_at}
 use Rattle.bw_shape.specs.Limits.{LimitsView, AreWithinBut, IsWithin}
 use Rattle.bw_shape.specs.Tidying.{DueView, HasBoth, KeepsWithin}
 
@@ -67,22 +73,36 @@ own_home tree p key leaf inside = by (slot_at tree.slots p) refl inside
     by (Gone l) is inside = absurd (cc)
     by Free is inside = absurd (cc)
 
-module _ (tree after : TreeView) (pages heads links due due' : List ℕ) (both : HasBoth pages due due') (posted : IsPostedStageOn tree tree.staged pages heads links) (levels : after.levels ≡ tree.levels)
-    (bare : (p : ℕ) → slot_without_writes (slot_at after.slots p) ≡ slot_without_writes (slot_at tree.slots p)) (writes : LeavesHaveAll tree after) where
+module _ (tree after : TreeView) (pages heads links due due' : List ℕ) (both : HasBoth pages due due') (leaves : List Folded) (posted : IsPostedBeside tree leaves pages heads links) (levels : after.levels ≡ tree.levels)
+    (bare : (p : ℕ) → slot_without_writes (slot_at after.slots p) ≡ slot_without_writes (slot_at (folded_tree tree leaves).slots p)) (writes : LeavesHaveAll (folded_tree tree leaves) after) where
   -- a page that was written to is one of those
-  was_posted : (o : Option StageView) → IsPostedStageOn tree o pages heads links → (r p : ℕ) (w : WriteView) → slice_get (staged_writes o) r ≡ Some w → IsHome tree.slots tree.levels w.key p → 0 < times p pages
+  was_posted : (o : Option StageView) → IsPostedStageOn (with_own_words tree leaves) o pages heads links → (r p : ℕ) (w : WriteView) → slice_get (staged_writes o) r ≡ Some w → IsHome tree.slots tree.levels w.key p → 0 < times p pages
   was_posted None none r p w at home = absurd none
   was_posted (Some stage) so r p w at home = so.1.homes r p w at home
+
+  -- no leaf took the place of another page's chain
+  same_slot : (p : ℕ) → times p pages ≡ 0 → slot_at (folded_tree tree leaves).slots p ≡ slot_at tree.slots p
+  same_slot p none = by leaves posted.listed tree.slots
+    where
+      by : (fs : List Folded) → AllByRecursion (λ f. 0 < times f.page pages) fs → (slots : List Slot) → slot_at (put_each (λ f. leaf_slot f.leaf) slots fs) p ≡ slot_at slots p
+      by [] listed slots = refl
+      by (f ∷ fs) listed slots =
+          by fs listed.1 (set slots f.page (leaf_slot f.leaf)) ∙ elim (put_at slots f.page p (leaf_slot f.leaf)) [
+            | inl here ↦ absurd (omega (arith, none, subst (λ (q : ℕ). 0 < times q pages) (sym here.0) listed.0))
+            | inr there ↦ there
+          ]
 
   same_writes : (p : ℕ) → Contains (row tree.levels 0) p → times p pages ≡ 0 → length (writes_over (slot_at after.slots p)) ≡ length (writes_over (slot_at tree.slots p))
   same_writes p leaf none =
       length_permutation _ _ (writes p leaf)
+      ∙ ap (λ (s : Slot). length (filter (λ (w : WriteView). has_key s w.key) (staged_writes tree.staged) ++ writes_over s)) (same_slot p none)
       ∙ ap (λ (l : List WriteView). length (l ++ writes_over (slot_at tree.slots p)))
       (none_left (λ (w : WriteView). has_key (slot_at tree.slots p) w.key) (staged_writes tree.staged)
-      (λ r w at inside. omega (arith, none, was_posted tree.staged posted r p w at (own_home tree p w.key leaf inside))))
+      (λ r w at inside. omega (arith, none, was_posted tree.staged posted.posted r p w at (own_home tree p w.key leaf inside))))
 
-  same_pairs : (p : ℕ) → length (pairs_under (slot_at after.slots p)) ≡ length (pairs_under (slot_at tree.slots p))
-  same_pairs p = ap length (sym (bare_pairs (slot_at after.slots p)) ∙ ap pairs_under (bare p) ∙ bare_pairs (slot_at tree.slots p))
+  same_pairs : (p : ℕ) → times p pages ≡ 0 → length (pairs_under (slot_at after.slots p)) ≡ length (pairs_under (slot_at tree.slots p))
+  same_pairs p none =
+      ap length (sym (bare_pairs (slot_at after.slots p)) ∙ ap pairs_under (bare p ∙ ap slot_without_writes (same_slot p none)) ∙ bare_pairs (slot_at tree.slots p))
 
   -- the pages that were written to are due, besides those that were
   pub within_posted : KeepsWithin tree after due due'
@@ -94,7 +114,7 @@ module _ (tree after : TreeView) (pages heads links due due' : List ℕ) (both :
       by : (0 < times p pages) ⊎ (times p pages ≤ 0) → Contains due p ⊎ IsWithin limits (slot_at tree.slots p) → Contains due' p ⊎ IsWithin limits (slot_at after.slots p)
       by (inl some) was = inl (both.left p (listed pages p some))
       by (inr none) (inl has) = inl (both.right p has)
-      by (inr none) (inr within) = inr (omega (arith, within.0, same_writes p was_leaf (omega (arith, none))), omega (arith, within.1, same_pairs p))
+      by (inr none) (inr within) = inr (omega (arith, within.0, same_writes p was_leaf (omega (arith, none))), omega (arith, within.1, same_pairs p (omega (arith, none))))
 
 -- and so behind the batch: to stage it and to accept it moves no page
 pub within_batch : (before tree now after : TreeView) (ops : List Op) (due due' : List ℕ) → tree ≡ staged_on before ops → after ≡ accepted_tree now now.staged → KeepsWithin tree now due due' → KeepsWithin before after due due'

@@ -5,13 +5,13 @@ use Rattle.std.proofs.Math.Dec.{eqb-suc-zero}
 use Rattle.std.specs.Ordering.{is_lt}
 use Rattle.std.specs.FinMap.{entries, len, len-entries}
 use Rattle.bw_key.specs.Order.{KeyBytes, key_cmp}
-use Rattle.bw_model.specs.Contents.{Contents, is_in_range, is_pair_in_range, pairs_of_range}
+use Rattle.bw_model.specs.Contents.{Contents, is_pair_in_range, pairs_of_range}
 use Rattle.bw_model.specs.Values.{ValueBytes}
 use Rattle.bw_page.proofs.KeyLemmas.{below_trans}
 use Rattle.bw_level.specs.Before.{low_of}
 use Rattle.bw_level.specs.Levels.{AreLevels, SideBySide, Stands, row}
 use Rattle.bw_level.specs.Scans.{high_of}
-use Rattle.bw_level.specs.Slots.{Slot, PageState, Body, Pairs, Children, IsSoundBody, body_is_leaf, is_leaf, level_of, slot_at}
+use Rattle.bw_level.specs.Slots.{Body, Pairs, Children, IsSoundBody, body_is_leaf, is_leaf, level_of, slot_at}
 use Rattle.bw_level.proofs.LeafRowLemmas.{low_below}
 use Rattle.bw_level.specs.Splits.{slot_entries}
 use Rattle.bw_look.specs.Shapes.{level_shape, levels_shape, page_shape, pairs_on, shape_of}

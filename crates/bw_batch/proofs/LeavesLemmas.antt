@@ -4,18 +4,16 @@ use Rattle.std.specs.Prelude.{nat_eq}
 use Rattle.std.proofs.Math.Dec.{eqb-suc-zero}
 use Rattle.std.proofs.lemmas.List.{append-nil}
 use Rattle.bw_level.specs.Levels.{row}
-use Rattle.bw_level.specs.Before.{low_of}
-use Rattle.bw_level.specs.Scans.{high_of}
-use Rattle.bw_level.specs.Slots.{Slot, Free, Gone, Live, slot_at}
-use Rattle.bw_level.specs.Turns.{slot_without_writes}
+use Rattle.bw_level.specs.Slots.{slot_at}
 use Rattle.bw_look.specs.Shapes.{level_shape, levels_shape, page_shape, shape_of}
 use Rattle.bw_tree.specs.Stages.{accepted_tree, staged_on}
 use Rattle.bw_look.specs.View.{StageView, TreeView}
 use Rattle.bw_look.specs.declared.look.shape.PageShape.{PageShape}
 use Rattle.bw_model.specs.declared.operations.Op.{Op}
 use Rattle.bw_shape.specs.Leaves.{LeafRange, leaf_range, leaf_ranges}
-use Rattle.bw_shape.proofs.LeafLemmas.{HasSameRange, same_leaves, same_row}
+use Rattle.bw_shape.proofs.LeafLemmas.{same_leaves, same_row}
 use Rattle.bw_batch.specs.Leaves.{leaves_of, range_of}
+use Rattle.bw_batch.proofs.RangeLemmas.{IsAsWide}
 
 both : (xs ys : List PageShape) → leaves_of (xs ++ ys) ≡ leaves_of xs ++ leaves_of ys
 both [] ys = refl
@@ -59,22 +57,9 @@ module _ (tree : TreeView) where
 pub same_listed : (old new : TreeView) → leaf_ranges new ≡ leaf_ranges old → leaves_of (shape_of new) ≡ leaves_of (shape_of old)
 same_listed old new same = listed new ∙ same ∙ sym (listed old)
 
--- a page that differs in its writes alone has its range
-bare_range : (old new : Slot) → slot_without_writes new ≡ slot_without_writes old → HasSameRange old new
-bare_range old new bare = record { low = low_bare new ∙ ap low_of bare ∙ sym (low_bare old); high = high_bare new ∙ ap high_of bare ∙ sym (high_bare old) }
-  where
-    low_bare : (s : Slot) → low_of s ≡ low_of (slot_without_writes s)
-    low_bare (Live s) = refl
-    low_bare (Gone l) = refl
-    low_bare Free = refl
-
-    high_bare : (s : Slot) → high_of s ≡ high_of (slot_without_writes s)
-    high_bare (Live s) = refl
-    high_bare (Gone l) = refl
-    high_bare Free = refl
-
-pub posted_leaves : (old new : TreeView) → new.levels ≡ old.levels → ((p : ℕ) → slot_without_writes (slot_at new.slots p) ≡ slot_without_writes (slot_at old.slots p)) → leaf_ranges new ≡ leaf_ranges old
-posted_leaves old new levels bare = same_leaves old new (same_row old new levels) (λ p has. bare_range (slot_at old.slots p) (slot_at new.slots p) (bare p))
+-- pages that are as wide as before
+pub wide_leaves : (old new : TreeView) → new.levels ≡ old.levels → ((p : ℕ) → IsAsWide (slot_at old.slots p) (slot_at new.slots p)) → leaf_ranges new ≡ leaf_ranges old
+wide_leaves old new levels wide = same_leaves old new (same_row old new levels) (λ p has. record { low = (wide p).low; high = (wide p).high })
 
 -- to stage a batch and to accept it moves no page
 pub batch_leaves : (before tree now after : TreeView) (ops : List Op) → tree ≡ staged_on before ops → after ≡ accepted_tree now now.staged → leaf_ranges now ≡ leaf_ranges tree → leaf_ranges after ≡ leaf_ranges before

@@ -2,6 +2,7 @@ pub mod OutcomesLemmas
 pub mod BatchLemmas
 pub mod ContentsLemmas
 pub mod ChangesLemmas
+pub mod RangeLemmas
 pub mod DueLemmas
 pub mod LenLemmas
 pub mod LeafPairsLemmas

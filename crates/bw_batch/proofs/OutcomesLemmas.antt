@@ -1,11 +1,10 @@
 -- What `run` ensures of one batch, and a run of batches one batch further.
-use Rattle.std.proofs.Common.{◌≡◌, ℕ, ◌+◌, ◌<◌, ◌≤◌, Bool, true, cond, subst, List, [], ◌∷◌, ◌++◌, length, take, get_or, Option, Some, None, Result, Ok, Err, IfOk, OnOk, OnErr, inl, inr, refl, sym, ap, ◌∙◌, arith, length-append}
+use Rattle.std.proofs.Common.{◌≡◌, ℕ, ◌+◌, ◌<◌, ◌≤◌, Bool, true, false, cond, subst, List, [], ◌∷◌, ◌++◌, length, take, get_or, Option, Some, None, Result, Ok, Err, IfOk, OnOk, OnErr, inl, inr, refl, sym, ap, ◌∙◌, arith, length-append}
 use Rattle.std.specs.Result.{IsOkUnless}
 use Rattle.std.proofs.lemmas.Bool.{cases_lt}
 use Rattle.std.proofs.lemmas.List.{take_more, map-append}
 use Rattle.bw_memory.specs.Alloc.{Vec}
 use Rattle.bw_key.specs.Order.{KeyBytes}
-use Rattle.bw_core.specs.Keeping.{pairs_of}
 use Rattle.bw_delta.specs.Batches.{stamped, write_of, writes_of}
 use Rattle.bw_model.specs.Values.{ValueBytes}
 use Rattle.bw_model.specs.Contents.{Contents}
@@ -17,6 +16,7 @@ use Rattle.bw_model.specs.declared.outcomes.Refusal.{Refusal}
 use Rattle.bw_model.specs.declared.outcomes.Refusal.TheVariants.{TooLong, Memory}
 use Rattle.bw_model.proofs.RunsLemmas.{one_more, left_one_more}
 use Rattle.bw_batch.specs.Outcomes.{batches_of, outcome_of, outcomes_of, IsCounted, AreCounted}
+use Rattle.bw_batch.specs.Settings.{Settings, most_lost}
 use Rattle.bw_batch.specs.View.{IndexView, contents_of}
 use Rattle.bw_batch.specs.declared.index.Done.{Done}
 
@@ -86,17 +86,17 @@ same_writes (op ∷ ops) i j =
     )
 
 -- what `run` tells besides of a batch
-pub told_by : (ops : List Op) (next : ℕ) (outcome : Result Done Refusal) → IfOk outcome (λ done. done.lost ≤ pairs_of (length (writes_of next ops))) → IsCounted ops outcome
-told_by ops next (Ok done) lost = subst (λ n. done.lost ≤ pairs_of n) (same_writes ops next 0) lost
-told_by ops next (Err refusal) lost = tt
+pub told_by : (settings : Settings) (ops : List Op) (next : ℕ) (outcome : Result Done Refusal) → IfOk outcome (λ done. done.lost ≤ most_lost settings (length (writes_of next ops))) → (settings.beside ≡ false → IfOk outcome (λ done. done.replaced ≡ 0)) → IsCounted settings ops outcome
+told_by settings ops next (Ok done) lost replaced = (subst (λ n. done.lost ≤ most_lost settings n) (same_writes ops next 0) lost, replaced)
+told_by settings ops next (Err refusal) lost replaced = tt
 
-one_told : (batches : List (List Op)) (outcomes : List (Result Done Refusal)) (ops : List Op) (outcome : Result Done Refusal) → AreCounted batches outcomes → IsCounted ops outcome → AreCounted (batches ++ ops ∷ []) (outcomes ++ outcome ∷ [])
-one_told [] [] ops outcome told here = (here, tt)
-one_told (b ∷ batches) (o ∷ outcomes) ops outcome told here = (told.0, one_told batches outcomes ops outcome told.1 here)
-one_told [] (o ∷ outcomes) ops outcome told here = absurd told
-one_told (b ∷ batches) [] ops outcome told here = absurd told
+one_told : (settings : Settings) (batches : List (List Op)) (outcomes : List (Result Done Refusal)) (ops : List Op) (outcome : Result Done Refusal) → AreCounted settings batches outcomes → IsCounted settings ops outcome → AreCounted settings (batches ++ ops ∷ []) (outcomes ++ outcome ∷ [])
+one_told settings [] [] ops outcome told here = (here, tt)
+one_told settings (b ∷ batches) (o ∷ outcomes) ops outcome told here = (told.0, one_told settings batches outcomes ops outcome told.1 here)
+one_told settings [] (o ∷ outcomes) ops outcome told here = absurd told
+one_told settings (b ∷ batches) [] ops outcome told here = absurd told
 
 -- and of one batch more
-pub told_more : (vs : List (Vec Op)) (i : ℕ) (v : Vec Op) (outcomes outcomes' : List (Result Done Refusal)) (outcome : Result Done Refusal) →
-    i < length vs → v ≡ get_or vs i v → outcomes' ≡ outcomes ++ outcome ∷ [] → AreCounted (batches_of (take i vs)) outcomes → IsCounted v.items outcome → AreCounted (batches_of (take (i + 1) vs)) outcomes'
-told_more vs i v outcomes outcomes' outcome lt is more told here = rw (batches_more vs i v lt is, more) (one_told (batches_of (take i vs)) outcomes v.items outcome told here)
+pub told_more : (settings : Settings) (vs : List (Vec Op)) (i : ℕ) (v : Vec Op) (outcomes outcomes' : List (Result Done Refusal)) (outcome : Result Done Refusal) →
+    i < length vs → v ≡ get_or vs i v → outcomes' ≡ outcomes ++ outcome ∷ [] → AreCounted settings (batches_of (take i vs)) outcomes → IsCounted settings v.items outcome → AreCounted settings (batches_of (take (i + 1) vs)) outcomes'
+told_more settings vs i v outcomes outcomes' outcome lt is more told here = rw (batches_more vs i v lt is, more) (one_told settings (batches_of (take i vs)) outcomes v.items outcome told here)

@@ -1,13 +1,13 @@
 -- What became of batches, as the model knows it.
 use Rattle.std.specs.Prelude.{◌≡◌, ◌+◌, ◌<◌, ◌≤◌, List, [], ◌∷◌, length, map, false, Result, Ok, Err}
 use Rattle.bw_memory.specs.Alloc.{Vec}
-use Rattle.bw_core.specs.Keeping.{pairs_of}
 use Rattle.bw_delta.specs.Batches.{writes_of}
 use Rattle.bw_model.specs.Model.{contents_after}
 use Rattle.bw_model.specs.Runs.{Outcome}
 use Rattle.bw_model.specs.declared.operations.Op.{Op}
 use Rattle.bw_model.specs.declared.outcomes.Refusal.{Refusal}
 use Rattle.bw_batch.specs.Leaves.{leaves_of}
+use Rattle.bw_batch.specs.Settings.{Settings, most_lost}
 use Rattle.bw_batch.specs.Sweeps.{base_of, is_sweep_due, records_before}
 use Rattle.bw_batch.specs.View.{IndexView, contents_of, next_stamp_of, settings_of}
 use Rattle.bw_batch.specs.declared.index.Done.{Done}
@@ -24,17 +24,20 @@ outcome_of (Err refusal) = Err refusal
 abbrev pub outcomes_of : List (Result Done Refusal) → List Outcome
 outcomes_of = map outcome_of
 
--- what else is told of an accepted batch: no more exchanges were lost than its writes can lose to one another
-abbrev pub IsCounted : List Op → Result Done Refusal → Type 0
-IsCounted ops (Ok done) = done.lost ≤ pairs_of (length (writes_of 0 ops))
-IsCounted ops (Err refusal) = Unit {0}
+-- What else is told of an accepted batch: no more exchanges were lost than its writes can lose, and no leaf was replaced where
+-- none is consolidated beside the posting.
+abbrev pub IsCounted : Settings → List Op → Result Done Refusal → Type 0
+IsCounted settings ops (Ok done) = (done.lost ≤ most_lost settings (length (writes_of 0 ops)))
+    × (settings.beside ≡ false → done.replaced ≡ 0)
+IsCounted settings ops (Err refusal) = Unit {0}
 
 -- the same of batches in turn
-abbrev pub AreCounted : List (List Op) → List (Result Done Refusal) → Type 0
-AreCounted [] [] = Unit {0}
-AreCounted (ops ∷ batches) (outcome ∷ outcomes) = IsCounted ops outcome × AreCounted batches outcomes
-AreCounted [] (outcome ∷ outcomes) = ⊥
-AreCounted (ops ∷ batches) [] = ⊥
+abbrev pub AreCounted : Settings → List (List Op) → List (Result Done Refusal) → Type 0
+AreCounted settings [] [] = Unit {0}
+AreCounted settings (ops ∷ batches) (outcome ∷ outcomes) =
+    IsCounted settings ops outcome × AreCounted settings batches outcomes
+AreCounted settings [] (outcome ∷ outcomes) = ⊥
+AreCounted settings (ops ∷ batches) [] = ⊥
 
 -- the index before and behind an accepted batch, of which this is told
 pub record IsBehind (old new : IndexView) (ops : List Op) (done : Done) : Type 0 where

@@ -1,13 +1,14 @@
 // One batch on a tree: staged, posted, adopted, answered, and then accepted; or undone.
-ghost use Rattle.std.specs.Prelude.{◌≡◌, ℕ, ◌<◌, ◌≤◌, ◌+◌, ◌^◌, true, None, length, take, IfOk, OnOk, OnErr};
-ghost use Rattle.bw_core.specs.Keeping.{pairs_of};
+ghost use Rattle.std.specs.Prelude.{◌≡◌, ℕ, ◌<◌, ◌≤◌, ◌+◌, ◌^◌, true, false, [], None, length, take, IfOk, OnOk, OnErr};
 ghost use Rattle.bw_delta.specs.Batches.{writes_of};
 ghost use Rattle.bw_model.specs.Model.{contents_after, replies_of};
 ghost use Rattle.bw_tree.specs.Stages.{is_adopted, undone_tree};
 ghost use Rattle.bw_look.specs.View.{contents_at, contents_with, staged_writes};
-ghost use Rattle.bw_post.specs.Posting.{IsWaiting};
+ghost use Rattle.bw_group.specs.Homes.{AreHomes};
+ghost use Rattle.bw_post.specs.Posting.{IsPostedBeside, IsWaiting};
 ghost use Rattle.bw_shape.specs.Leaves.{leaf_ranges};
 ghost use Rattle.bw_shape.specs.Tidying.{HasBoth, KeepsWithin};
+ghost use Rattle.bw_batch.specs.Settings.{most_lost};
 ghost use Rattle.bw_batch.specs.Stages.{operations_staged};
 
 use crate::options::Options;
@@ -16,20 +17,21 @@ use bw_group::Grouping;
 use bw_key::Memory;
 use bw_memory::Alloc;
 use bw_model::{Op, Replies};
-use bw_post::{Gate, Posting, post_all};
+use bw_post::{Gate, Posting, post_all, post_beside};
 use bw_shape::{Due, PageId};
 use bw_tree::Tree;
 use std::thread::Threads;
 
-/// The replies to a batch, and how many exchanges its posting lost.
+/// The replies to a batch, how many exchanges its posting lost, and how many leaves took the places of their chains beside it.
 #[derive(Drop)]
 pub(crate) struct Answered {
     pub(crate) replies: Replies,
     pub(crate) lost: u64,
+    pub(crate) replaced: u64,
 }
 
 /// Runs a batch on a tree, whose replies are those of one thread that runs its operations in order on an ordered map. The
-/// pages that it writes to are due then, behind those that are due already. After `Memory` all is as before.
+/// pages that it changes are due then, behind those that are due already. After `Memory` all is as before.
 pub(crate) fn run_batch<R: Threads + Sync, G: Gate>(
     rt: &R,
     alloc: Alloc,
@@ -44,7 +46,9 @@ pub(crate) fn run_batch<R: Threads + Sync, G: Gate>(
     requires fits { tree.old.next + length ops.now ≤ 2 ^ 40 }
     ensures replies { IfOk result (λ answered.
         answered.replies ≡ replies_of ops.now (contents_at tree.old tree.old.next)) }
-    ensures lost { IfOk result (λ answered. answered.lost ≤ pairs_of (length (writes_of tree.old.next ops.now))) }
+    ensures lost { IfOk result (λ answered.
+        answered.lost ≤ most_lost options.now (length (writes_of tree.old.next ops.now))) }
+    ensures replaced { options.now.beside ≡ false → IfOk result (λ answered. answered.replaced ≡ 0) }
     ensures contents { OnOk result (contents_at tree.new tree.new.next
         ≡ contents_after ops.now (contents_at tree.old tree.old.next)) }
     ensures stamped { OnOk result (tree.new.next ≡ tree.old.next + length ops.now) }
@@ -86,8 +90,11 @@ fn answer_staged<R: Threads + Sync, G: Gate>(
     requires fits { tree.old.next + length batch.now.ops ≤ 2 ^ 40 }
     ensures replies { IfOk result (λ answered.
         answered.replies ≡ replies_of batch.now.ops (contents_with tree.old tree.old.next)) }
-    ensures lost { IfOk result (λ answered. answered.lost ≤ pairs_of (length (staged_writes tree.old.staged))) }
-    ensures contents { OnOk result ((stamp : ℕ) → contents_at tree.new stamp ≡ contents_with tree.old stamp) }
+    ensures lost { IfOk result (λ answered.
+        answered.lost ≤ most_lost options.now (length (staged_writes tree.old.staged))) }
+    ensures replaced { options.now.beside ≡ false → IfOk result (λ answered. answered.replaced ≡ 0) }
+    ensures contents { OnOk result ((stamp : ℕ) → tree.old.next ≤ stamp →
+        contents_at tree.new stamp ≡ contents_with tree.old stamp) }
     ensures recorded { OnOk result (tree.new.records ≡ tree.old.records) }
     ensures leaves { OnOk result (leaf_ranges tree.new ≡ leaf_ranges tree.old) }
     ensures within { OnOk result (KeepsWithin tree.old tree.new due.old.pages due.new.pages) }
@@ -97,24 +104,55 @@ fn answer_staged<R: Threads + Sync, G: Gate>(
     ensures count { operations_staged tree.new.staged ≡ operations_staged tree.old.staged }
     ensures undone { undone_tree tree.new tree.new.staged ≡ undone_tree tree.old tree.old.staged }
 {
-    let (piece, workers) = (options.piece(), options.workers());
+    tree.know_levels();
+    let workers = options.workers();
     let Posting {
         homes,
         pages,
         closed,
         lost,
-        ..
-    } = post_all(rt, alloc, tree, batch, piece, workers, gate)?;
-    let written = Vec::from_slice(alloc, &pages)?;
-    tree.adopt_on(pages, closed);
+        folded,
+    } = post(rt, alloc, tree, batch, options, gate)?;
+    let replaced = folded.len() as u64;
+    let changed = Vec::from_slice(alloc, &pages)?;
+    tree.adopt_folded(pages, closed, folded);
     let base = tree.next_stamp();
     let replies = replies(rt, alloc, tree, base, batch, &homes, workers)?;
-    add_written(due, tree, written)?;
-    Ok(Answered { replies, lost })
+    add_changed(due, tree, changed)?;
+    Ok(Answered {
+        replies,
+        lost,
+        replaced,
+    })
 }
 
-// These pages are due too. A batch of reads wrote to none, and takes no memory for them.
-fn add_written(due: &mut Due, tree: &Tree, pages: Vec<PageId, Alloc>) -> Result<(), Memory>
+// Posts a staged batch, where that is asked for with leaves consolidated beside it.
+fn post<R: Threads + Sync, G: Gate>(
+    rt: &R,
+    alloc: Alloc,
+    tree: &Tree,
+    batch: &Grouping<'_>,
+    options: &Options,
+    gate: &G,
+) -> Result<Posting, Memory>
+    requires waiting { IsWaiting tree.now tree.now.staged batch.now.ops }
+    ensures homes { IfOk result (λ posting. AreHomes tree.now batch.now.ops posting.homes) }
+    ensures posted { IfOk result (λ posting. IsPostedBeside tree.now posting.folded.items posting.pages.items
+        posting.closed.heads posting.closed.links) }
+    ensures lost { IfOk result (λ posting.
+        posting.lost ≤ most_lost options.now (length (staged_writes tree.now.staged))) }
+    ensures none { options.now.beside ≡ false → IfOk result (λ posting. posting.folded.items ≡ []) }
+{
+    let (piece, workers) = (options.piece(), options.workers());
+    if options.beside() {
+        let chain_max = options.chain_max();
+        return post_beside(rt, alloc, tree, batch, piece, workers, gate, chain_max);
+    }
+    post_all(rt, alloc, tree, batch, piece, workers, gate)
+}
+
+// These pages are due too. A batch of reads changed none, unless leaves were consolidated beside it, and takes no memory then.
+fn add_changed(due: &mut Due, tree: &Tree, pages: Vec<PageId, Alloc>) -> Result<(), Memory>
     ensures ok { OnOk result (HasBoth pages.entry.items due.old.pages due.new.pages) }
     ensures err { OnErr result (due.new ≡ due.old) }
 {

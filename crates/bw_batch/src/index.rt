@@ -1,7 +1,6 @@
 // The index: batches in, replies out.
 ghost use Rattle.std.specs.Prelude.{◌≡◌, ◌<◌, ◌≤◌, ◌+◌, ◌^◌, [], ◌∷◌, None, false, length, nat_lt, IsOkUnless, IfOk, OnOk, OnErr};
 ghost use Rattle.std.specs.FinMap.{empty, entries};
-ghost use Rattle.bw_core.specs.Keeping.{pairs_of};
 ghost use Rattle.bw_delta.specs.Batches.{writes_of};
 ghost use Rattle.bw_model.specs.Contents.{pairs_of_range};
 ghost use Rattle.bw_shape.specs.Limits.{AreWithinBut};
@@ -32,6 +31,8 @@ pub struct Done {
     pub tidy: Tidy,
     /// How many exchanges the workers lost to one another while they posted.
     pub lost: u64,
+    /// How many leaves were consolidated beside the posting, and took the places of their chains.
+    pub replaced: u64,
 }
 
 /// An ordered index from keys to values, changed in batches: a tree whose pages are base pages and the chains of the
@@ -90,7 +91,7 @@ impl Model for Index {
 impl Index {
     ghost use Rattle.std.specs.Prelude.{nat_eq};
     ghost use Rattle.bw_batch.specs.Lens.{key_count};
-    ghost use Rattle.bw_batch.specs.Settings.{limits_of};
+    ghost use Rattle.bw_batch.specs.Settings.{limits_of, most_lost};
     ghost use Rattle.bw_batch.specs.View.{contents_of, settings_of, next_stamp_of};
     ghost use Rattle.bw_batch.specs.Leaves.{leaves_of};
     ghost use Rattle.bw_batch.specs.Sweeps.{base_of, is_sweep_due, records_before};
@@ -195,9 +196,10 @@ impl Index {
         // Where tidying didn't stop, no page is due any more.
         ensures tidied { IfOk result (λ done. done.tidy.stopped ≡ false → self.new.due ≡ []) }
 
-        // An exchange is lost to another write alone.
-        ensures lost { IfOk result (λ done. done.lost ≤ pairs_of
+        // An exchange is lost to another write, or to a leaf that was consolidated beside it.
+        ensures lost { IfOk result (λ done. done.lost ≤ most_lost (settings_of self.old)
             (length (writes_of (next_stamp_of self.old) ops.now))) }
+        ensures replaced { (settings_of self.old).beside ≡ false → IfOk result (λ done. done.replaced ≡ 0) }
     {
         let most = self.options.batch_max();
         let count = ops.len() as u64;
@@ -205,12 +207,17 @@ impl Index {
             return Err(Refusal::TooLong { ops: count, most });
         }
         self.make_room(count)?;
-        let Answered { replies, lost } = self.answer(rt, ops, gate)?;
+        let Answered {
+            replies,
+            lost,
+            replaced,
+        } = self.answer(rt, ops, gate)?;
         let tidy = self.tidy();
         Ok(Done {
             replies,
             tidy,
             lost,
+            replaced,
         })
     }
 
@@ -249,8 +256,9 @@ impl Index {
         requires few { length ops.now ≤ 65536 }
         requires fits { next_stamp_of self.old + length ops.now ≤ 2 ^ 40 }
         ensures replies { IfOk result (λ answered. answered.replies ≡ replies_of ops.now (contents_of self.old)) }
-        ensures lost { IfOk result (λ answered.
-            answered.lost ≤ pairs_of (length (writes_of (next_stamp_of self.old) ops.now))) }
+        ensures lost { IfOk result (λ answered. answered.lost ≤ most_lost (settings_of self.old)
+            (length (writes_of (next_stamp_of self.old) ops.now))) }
+        ensures replaced { (settings_of self.old).beside ≡ false → IfOk result (λ answered. answered.replaced ≡ 0) }
         ensures contents { OnOk result (contents_of self.new ≡ contents_after ops.now (contents_of self.old)) }
         ensures refused { OnErr result (self.new ≡ self.old) }
         ensures settings { settings_of self.new ≡ settings_of self.old }
@@ -305,8 +313,9 @@ impl Index {
             (outcomes_of outcomes.items)) }
         ensures none { OnErr result (self.new ≡ self.old) }
 
-        // Each outcome tells of lost exchanges what `run` does.
-        ensures told { IfOk result (λ outcomes. AreCounted (batches_of batches.now) outcomes.items) }
+        // Each outcome tells of lost exchanges and of replaced leaves what `run` does.
+        ensures told { IfOk result (λ outcomes.
+            AreCounted (settings_of self.old) (batches_of batches.now) outcomes.items) }
         ensures settings { settings_of self.new ≡ settings_of self.old }
 
         // From batch to batch stamps, records and the pages that are due are as `run` leaves them.

@@ -1,7 +1,7 @@
 //! An index and a map that lose all their keys.
 ghost use Rattle.std.specs.Prelude.{◌<◌};
 
-use crate::workload::{Kind, Order, Random, deletes, drawn, numbers, upserts};
+use crate::workload::{Draw, Kind, Order, Random, deletes, drawn, numbers, upserts};
 use crate::{
     BATCH, Both, Heaps, Load, RECORDS_DEFAULT, Runs, SEED, counting_heap, no_runs, one_heap,
     print_longest, run_batch,
@@ -111,7 +111,7 @@ fn bytes_of_new(global: Global, workers: u64) -> Result<u64> {
 // Runs a batch of reads, before which an index sweeps whose records are to be no more than one batch has.
 fn sweep<R: Threads + Clock + Sync>(rt: &R, heaps: Heaps, both: &mut Both) -> Result<()> {
     let mut random = Random { state: SEED };
-    let ops = drawn(heaps.ops, &mut random, 1, BATCH, Kind::Gets)?;
+    let ops = drawn(heaps.ops, &mut random, Draw::Uniform, 1, BATCH, Kind::Gets)?;
     let mut runs = no_runs(heaps.ops);
     run_batch(rt, heaps.ops, both, &ops, &mut runs)
 }

@@ -4,20 +4,22 @@
 //! batches, which are drawn from a seed. With no word there are few keys, and how many replies of the two are the same
 //! is printed. `run` times batches of one kind, as its options say; `time` those of all kinds over 10,000 keys and
 //! 1,000,000, `small` batches of 1, 8, 64 and 1,024 operations, `insert` an empty index and an empty map that get
-//! 1,048,576 keys, rising ones and scattered ones, and `drain` both as they lose as many. What is printed is
-//! nanoseconds an operation, of the batch whose time is in the middle and of all batches together, index / map, and the
+//! 1,048,576 keys, rising ones and scattered ones, and `drain` both as they lose as many. `beside` times an index by
+//! itself, with and without leaves that are consolidated beside the posting. What is printed is nanoseconds an operation, of the batch whose time is in the middle and of all batches together, index / map, and the
 //! ratio. `bytes` prints how many bytes a key the index and the map have in use. `picture` writes what `run` times as
 //! an SVG text, over several numbers of workers, operations of a batch or keys.
 #![tactic(auto)]
 
 ghost use Rattle.std.specs.Prelude.{◌≡◌, ◌<◌, IfOk};
 
+mod beside;
 mod chart;
 mod drain;
 mod request;
 mod workload;
 
 use anyhow::{Context, Result, bail};
+use beside::{print_besides, print_checked_beside};
 use bw_batch::{Index, Key, Op, OpenGate, Options, Tree, Value};
 use bw_memory::{Alloc, Heap, LIMIT_MAX};
 use chart::{Column, print_chart};
@@ -29,35 +31,39 @@ use std::env;
 use std::num::nearest_u64_to_f64;
 use std::thread::Threads;
 use std::time::{Clock, Duration, Instant};
-use workload::{Kind, Order, Random, answer, drawn, leaves_for, upserts};
+use workload::{Draw, Kind, Order, Random, answer, drawn, leaves_for, upserts};
 
 // Operations of the longest batch.
 const BATCH: u64 = 65_536;
 
 const WORKERS_MAX: u64 = 64;
 
-/// How many keys there are, how many operations a batch has, and how many batches of a kind are run.
+/// How many keys there are, how they are drawn, how many operations a batch has, and how many batches of a kind are run.
 #[derive(Clone, Copy)]
 struct Load {
     keys: u64,
+    draw: Draw,
     operations: u64,
     rounds: u64,
 }
 
 const BRIEF: Load = Load {
     keys: 1000,
+    draw: Draw::Uniform,
     operations: 2048,
     rounds: 3,
 };
 
 const SMALL: Load = Load {
     keys: 10_000,
+    draw: Draw::Uniform,
     operations: BATCH,
     rounds: 15,
 };
 
 const LARGE: Load = Load {
     keys: 1_000_000,
+    draw: Draw::Uniform,
     operations: BATCH,
     rounds: 15,
 };
@@ -91,6 +97,7 @@ fn fresh(keys: u64, operations: u64) -> Load
 {
     Load {
         keys,
+        draw: Draw::Uniform,
         operations,
         rounds: keys.div_ceil(operations),
     }
@@ -103,10 +110,11 @@ struct Both {
     map: BTreeMap<Key, Value, Alloc>,
 }
 
-/// How many replies were the same, and the times of all batches.
+/// How many replies were the same, how many leaves were replaced beside the posting, and the times of all batches.
 #[derive(Drop)]
 struct Runs {
     same: u64,
+    replaced: u64,
     index: Vec<Duration, Alloc>,
     map: Vec<Duration, Alloc>,
 }
@@ -131,12 +139,14 @@ fn run_batch<R: Threads + Clock + Sync>(
     let pairs = done.replies.as_slice().iter().zip(&expected);
     let same = pairs.filter(|(left, right)| *left == *right).count();
     runs.same = runs.same.saturating_add(same as u64);
+    runs.replaced = runs.replaced.saturating_add(done.replaced);
     Ok(())
 }
 
 fn no_runs(alloc: Alloc) -> Runs {
     Runs {
         same: 0,
+        replaced: 0,
         index: Vec::new(alloc),
         map: Vec::new(alloc),
     }
@@ -159,14 +169,18 @@ fn one_heap(alloc: Alloc) -> Heaps {
     }
 }
 
+// What an index is told where nothing else is said.
+fn options_of(workers: u64) -> Result<Options> {
+    Ok(Options::new(workers, 64, 8, 64, 16, BATCH, RECORDS_DEFAULT)?)
+}
+
 // An index and a map with all keys, put by batches.
 fn filled<R: Threads + Clock + Sync>(
     rt: &R,
     heaps: Heaps,
-    workers: u64,
+    options: Options,
     keys: u64,
 ) -> Result<Both> {
-    let options = Options::new(workers, 64, 8, 64, 16, BATCH, RECORDS_DEFAULT)?;
     let tree = Tree::from_level(heaps.index, leaves_for(heaps.index, keys)?)?;
     let mut both = Both {
         index: Index::from_tree(heaps.index, options, tree)?,
@@ -218,7 +232,14 @@ fn drawn_runs<R: Threads + Clock + Sync>(
     let mut random = Random { state: seed };
     let mut runs = no_runs(alloc);
     for _ in 0..load.rounds {
-        let ops = drawn(alloc, &mut random, load.keys, load.operations, kind)?;
+        let ops = drawn(
+            alloc,
+            &mut random,
+            load.draw,
+            load.keys,
+            load.operations,
+            kind,
+        )?;
         run_batch(rt, alloc, both, &ops, &mut runs)?;
     }
     Ok(runs)
@@ -254,6 +275,7 @@ fn load_of(request: &Request) -> Result<Load>
         workers,
         batch,
         batches,
+        draw,
         ..
     } = *request;
     if keys == 0 || batches == 0 {
@@ -267,6 +289,7 @@ fn load_of(request: &Request) -> Result<Load>
     }
     Ok(Load {
         keys,
+        draw,
         operations: batch,
         rounds: batches,
     })
@@ -281,7 +304,8 @@ fn runs_of<R: Threads + Clock + Sync>(
 ) -> Result<Runs>
     requires { 0 < load.keys }
 {
-    let mut both = filled(rt, one_heap(alloc), request.workers, load.keys)?;
+    let options = options_of(request.workers)?.with_beside(request.beside);
+    let mut both = filled(rt, one_heap(alloc), options, load.keys)?;
     drawn_runs(rt, alloc, &mut both, load, request.kind, request.seed)
 }
 
@@ -304,8 +328,9 @@ fn print_run<R: Threads + Clock + Sync + Print>(
         ..
     } = *request;
     let words = request.kind.words();
+    let draw = load.draw.words();
     println!(rt;
-        "{keys} keys, {workers} workers, {batches} batches of {batch} {words}, seed {seed}:"
+        "{keys} keys, {draw}, {workers} workers, {batches} batches of {batch} {words}, seed {seed}:"
     )?;
     print_times(rt, &mut runs, batch)?;
     print_rate(rt, &runs, batch)
@@ -384,7 +409,7 @@ fn print_load<R: Threads + Clock + Sync + Print>(
 {
     for workers in [1, 2, 4] {
         println!(rt; "{} keys, workers {workers}:", load.keys)?;
-        let mut both = filled(rt, one_heap(alloc), workers, load.keys)?;
+        let mut both = filled(rt, one_heap(alloc), options_of(workers)?, load.keys)?;
         print_kind(rt, alloc, &mut both, load, Kind::Gets, is_timed)?;
         print_kind(rt, alloc, &mut both, load, Kind::GetsAndUpserts, is_timed)?;
         print_kind(rt, alloc, &mut both, load, Kind::ScansAndUpserts, is_timed)?;
@@ -396,11 +421,12 @@ fn print_load<R: Threads + Clock + Sync + Print>(
 fn print_small<R: Threads + Clock + Sync + Print>(rt: &R, alloc: Alloc, keys: u64) -> Result<()>
     requires { 0 < keys }
 {
-    let mut both = filled(rt, one_heap(alloc), 1, keys)?;
+    let mut both = filled(rt, one_heap(alloc), options_of(1)?, keys)?;
     for operations in SIZES {
         println!(rt; "{keys} keys, batches of {operations}:")?;
         let load = Load {
             keys,
+            draw: Draw::Uniform,
             operations,
             rounds: SMALL_ROUNDS,
         };
@@ -550,7 +576,8 @@ fn print_bytes<R: Threads + Clock + Sync + Print>(
         map: counting_heap(global)?,
     };
     let keys = request.keys;
-    let both = filled(rt, heaps, request.workers, keys)?;
+    let options = options_of(request.workers)?.with_beside(request.beside);
+    let both = filled(rt, heaps, options, keys)?;
     let index = bytes_each(heaps.index.used(), keys);
     let map = bytes_each(heaps.map.used(), keys);
     println!(rt;
@@ -569,6 +596,7 @@ fn bytes_each(bytes: u64, keys: u64) -> f64 {
 // Compares the replies of an index and of a map over few keys.
 fn print_brief<R: Threads + Clock + Sync + Print>(rt: &R, alloc: Alloc) -> Result<()> {
     print_load(rt, alloc, BRIEF, false)?;
+    print_checked_beside(rt, alloc)?;
     print_inserts(rt, alloc, Order::Scattered, fresh(1000, 64), RECORDS, false)?;
     let drain = Drain {
         order: Order::Scattered,
@@ -603,6 +631,7 @@ fn print_request<R: Threads + Clock + Sync + Print>(
         }
         Job::Insert => print_all_inserts(rt, alloc),
         Job::Drain => print_drains(rt, global, alloc),
+        Job::Beside => print_besides(rt, alloc),
         Job::Picture => print_picture(rt, alloc, request),
     }
 }

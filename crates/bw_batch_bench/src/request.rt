@@ -1,8 +1,8 @@
 //! What the words of the command line ask for.
 
-use crate::workload::Kind;
+use crate::workload::{Draw, Kind};
 use clap::error::Error;
-use clap::{Arg, ArgMatches, Command, value_parser};
+use clap::{Arg, ArgAction, ArgMatches, Command, value_parser};
 use std::alloc::{AllocError, Global};
 
 /// What is done.
@@ -15,6 +15,7 @@ pub enum Job {
     Small,
     Insert,
     Drain,
+    Beside,
     Picture,
 }
 
@@ -57,6 +58,8 @@ static KEYS: [u64; 3] = [10_000, 100_000, 1_000_000];
 pub struct Request {
     pub job: Job,
     pub kind: Kind,
+    pub draw: Draw,
+    pub beside: bool,
     pub keys: u64,
     pub workers: u64,
     pub batch: u64,
@@ -85,8 +88,8 @@ impl Request {
     }
 }
 
-static JOBS: [&str; 8] = [
-    "check", "run", "bytes", "time", "small", "insert", "drain", "picture",
+static JOBS: [&str; 9] = [
+    "check", "run", "bytes", "time", "small", "insert", "drain", "beside", "picture",
 ];
 
 static BYS: [&str; 3] = ["workers", "batch", "keys"];
@@ -102,12 +105,14 @@ const AFTER: &str = "The jobs:
   insert  times an empty index and an empty map that get 1048576 keys
   drain   times an index and a map of 1048576 keys that lose them all, with 1 and 4 workers, and
           prints what bytes they have in use then
+  beside  times batches of gets and upserts on an index alone, without and with --beside, over 10000
+          keys and 1000000, uniform and skewed, with 1, 2 and 4 workers
   picture writes a picture of times to standard output, an SVG text: what `run` times with 1, 2
           and 4 workers, by batches of 1, 8, 64, 1024 and 65536 operations, or over 10000, 100000
           and 1000000 keys, as --by says; of small batches as many as have 8192 operations
 
---keys, --workers and --kind are read by `run`, `bytes` and `picture`, --batch, --batches and --seed
-by `run` and `picture`, and --by by `picture`.
+--keys, --workers, --kind and --beside are read by `run`, `bytes` and `picture`, --skewed, --batch,
+--batches and --seed by `run` and `picture`, and --by by `picture`.
 
 The kinds: gets; upserts, half of them gets; scans, of 32 pairs, half of them upserts.";
 
@@ -118,6 +123,8 @@ pub fn request_in(global: Global, words: &[&str]) -> Result<Request, Error> {
     Ok(Request {
         job: job_named(matches.get_str("JOB")),
         kind: kind_named(matches.get_str("kind")),
+        draw: draw_of(matches.get_flag("skewed")),
+        beside: matches.get_flag("beside"),
         keys: number_in(&matches, "keys"),
         workers: number_in(&matches, "workers"),
         batch: number_in(&matches, "batch"),
@@ -135,6 +142,7 @@ fn job_named(word: Option<&str>) -> Job {
         Some("small") => Job::Small,
         Some("insert") => Job::Insert,
         Some("drain") => Job::Drain,
+        Some("beside") => Job::Beside,
         Some("picture") => Job::Picture,
         _ => Job::Check,
     }
@@ -145,6 +153,13 @@ fn kind_named(word: Option<&str>) -> Kind {
         Some("upserts") => Kind::GetsAndUpserts,
         Some("scans") => Kind::ScansAndUpserts,
         _ => Kind::Gets,
+    }
+}
+
+fn draw_of(is_skewed: bool) -> Draw {
+    match is_skewed {
+        true => Draw::Skewed,
+        false => Draw::Uniform,
     }
 }
 
@@ -168,7 +183,17 @@ fn program<'a>(global: Global) -> Result<Command<'a>, AllocError> {
         .after_help(AFTER)
         .no_binary_name(true)
         .arg(job_argument(global))?
-        .arg(kind_option(global))?;
+        .arg(kind_option(global))?
+        .arg(flag(
+            global,
+            "skewed",
+            "Draw some keys more often than others, as by Zipf's law",
+        ))?
+        .arg(flag(
+            global,
+            "beside",
+            "Consolidate leaves beside the posting of a batch",
+        ))?;
     with_numbers(global, command)?.arg(by_option(global))
 }
 
@@ -204,6 +229,14 @@ fn with_numbers<'a>(global: Global, command: Command<'a>) -> Result<Command<'a>,
         .arg(number(global, "batch", "65536", batch))?
         .arg(number(global, "batches", "15", "How many batches are timed"))?
         .arg(number(global, "seed", "20130408", "Where drawn numbers begin"))
+}
+
+// An option that has no value.
+fn flag<'a>(global: Global, id: &'a str, help: &'a str) -> Arg<'a> {
+    Arg::new(global, id)
+        .long(id)
+        .action(ArgAction::SetTrue)
+        .help(help)
 }
 
 // An option whose value is a number.

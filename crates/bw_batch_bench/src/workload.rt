@@ -13,6 +13,9 @@ const LEAF: u64 = 44;
 // Pairs that a scan wants.
 const SCANNED: u64 = 32;
 
+// An odd number, whose multiples are scattered.
+const SCATTER: u64 = 0x9e37_79b9_7f4a_7c15;
+
 // No leaf has a greater place: the last one has all further keys.
 const PLACE_MAX: u64 = 1_000_000;
 
@@ -109,7 +112,7 @@ impl Order {
     fn number(self, place: u64) -> u64 {
         match self {
             Order::Rising => place,
-            Order::Scattered => place.wrapping_mul(0x9e37_79b9_7f4a_7c15),
+            Order::Scattered => place.wrapping_mul(SCATTER),
         }
     }
 }
@@ -158,6 +161,46 @@ pub fn deletes(alloc: Alloc, numbers: &[u64]) -> Result<Vec<Op, Alloc>> {
     Ok(ops)
 }
 
+/// How often the keys of batches come.
+#[derive(Clone, Copy, Debug, PartialEq, Eq)]
+pub enum Draw {
+    /// Each as often as each other one.
+    Uniform,
+    /// The r-th most frequent one with a share of some 1 / r, as by Zipf's law, and these keys scattered.
+    Skewed,
+}
+
+impl Draw {
+    /// Its words in what is printed.
+    pub fn words(self) -> &'static str {
+        match self {
+            Draw::Uniform => "uniform",
+            Draw::Skewed => "skewed",
+        }
+    }
+
+    // The number of a key.
+    fn number(self, random: &mut Random, keys: u64) -> u64
+        requires { 0 < keys }
+    {
+        match self {
+            Draw::Uniform => random.below(keys),
+            Draw::Skewed => {
+                let rank = skewed(random, keys);
+                rank.wrapping_mul(SCATTER) % keys
+            }
+        }
+    }
+}
+
+// A number that is drawn below the keys, halved a number of times that is drawn: so smaller ones are drawn more often.
+fn skewed(random: &mut Random, keys: u64) -> u64 {
+    let bits = 64u64.saturating_sub(keys.leading_zeros() as u64).max(1);
+    let halvings = random.below(bits) as u32;
+    let most = keys.checked_shr(halvings).unwrap_or(0).max(1);
+    random.below(most)
+}
+
 /// What a batch is made of; of two kinds of operations in equal parts.
 #[derive(Clone, Copy, PartialEq, Eq)]
 pub enum Kind {
@@ -181,6 +224,7 @@ impl Kind {
 pub fn drawn(
     alloc: Alloc,
     random: &mut Random,
+    draw: Draw,
     keys: u64,
     operations: u64,
     kind: Kind,
@@ -189,7 +233,7 @@ pub fn drawn(
 {
     let mut ops = Vec::new(alloc);
     for number in 0..operations {
-        let drawn = random.below(keys);
+        let drawn = draw.number(random, keys);
         let is_write = kind != Kind::Gets && random.below(2) == 0;
         ops.push(if is_write {
             upsert(alloc, drawn, number)?

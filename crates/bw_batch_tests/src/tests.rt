@@ -2,6 +2,7 @@
 // texts, and which pages the tree below has.
 mod assertions;
 mod batches;
+mod beside;
 mod gates;
 mod merges;
 mod options;

@@ -26,7 +26,7 @@ always_some : {X : Type 0} {P : Type 0} (o : Option X) → P → IfSome o (λ _.
 always_some None p = tt
 always_some (Some x) p = p
 
-always_none : {X : Type 0} {P : Type 0} (o : Option X) → P → IfNone o P
+pub always_none : {X : Type 0} {P : Type 0} (o : Option X) → P → IfNone o P
 always_none None p = p
 always_none (Some x) p = tt
 

@@ -1,11 +1,11 @@
 -- A trace that was read whole.
-use Rattle.std.proofs.Common.{◌≡◌, ℕ, List, ◌++◌, Option, Some, None, Result, Ok, Err, IfOk, sym, ap, ◌∙◌, subst, append-nil, refl, []}
+use Rattle.std.proofs.Common.{◌≡◌, ℕ, Bool, List, ◌++◌, Option, Some, None, Result, Ok, Err, IfOk, sym, ap, ◌∙◌, subst, append-nil, refl, []}
 use Rattle.std.specs.Option.{IfSome}
 use Rattle.std.proofs.KnownBytes.{Appends-nil}
 use Rattle.std.specs.Io.KnownBytes.{Appends, Consumes, IsAtEnd}
 use Rattle.bw_batch.specs.Settings.{Settings}
 use Rattle.bw_model.specs.Runs.{Outcome}
-use Rattle.bw_command.specs.Jobs.{IsOutOfMemory}
+use Rattle.bw_command.specs.Jobs.{IsJobOutcome, IsOutOfMemory}
 use Rattle.bw_trace.specs.Ends.{IsEndText}
 use Rattle.bw_trace.specs.Grammar.{first_place}
 use Rattle.bw_trace.specs.Running.{IsRun, left_by_run, summary_of}
@@ -47,3 +47,8 @@ nothing_done settings job (Some bytes) contents = (
   (trace_from first_place bytes, record { batches = []; reads = refl; answered = tt }),
   ([], ([], refl), Appends-nil contents),
 )
+
+-- what a job's outcome tells, it tells of each way to post
+pub as_told : (status : ℕ) (settings : Settings) (beside : Bool) (job : Job) (input old new : Option (List ℕ)) (failures after : ℕ) → IsJobOutcome status (record settings { beside = beside }) job input old new failures after →
+    IsJobOutcome status settings job input old new failures after
+as_told status settings beside job input old new failures after told = record { one_of = told.one_of; done = told.done; line = told.line; failed = told.failed }

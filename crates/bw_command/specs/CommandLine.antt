@@ -65,7 +65,8 @@ program_with rules = record {
 }
 
 abbrev pub program_of : JobWords → App
-program_of jobs = program_with (job_rule jobs ∷ file_rule ∷ flag_rule (codes "stats") ∷ number_rules)
+program_of jobs = program_with (job_rule jobs ∷ file_rule ∷ flag_rule (codes "stats")
+    ∷ flag_rule (codes "beside") ∷ number_rules)
 
 -- ---- what words ask for
 
@@ -125,6 +126,7 @@ pub record IsMadeBy (values : List Row) (request : Request) : Type 0 where
   pub job : request.job ≡ job_of values
   pub limits : request.limits ≡ limits_of values
   pub stats : IsFlag (codes "stats") values request.stats
+  pub beside : IsFlag (codes "beside") values request.beside
   pub file : option_map (λ path. path.now) request.file ≡ file_of values
 
 -- the request of words in which nothing is wrong

@@ -79,7 +79,7 @@ fn run_request<F: Files + AllocGlobal + Threads + Clock + Sync, R: Inlet, W: Out
     ensures most { result ≤ 4 }
 {
     let options = match request.limits.options() {
-        Ok(options) => options,
+        Ok(options) => options.with_beside(request.beside),
         Err(fault) => {
             report(alloc, errors, fault);
             return 2;

@@ -53,6 +53,8 @@ pub struct Request<'a> {
     pub limits: Limits,
     /// Whether a line at the end tells how much was run, and how fast.
     pub stats: bool,
+    /// Whether workers consolidate leaves beside the posting of a batch.
+    pub beside: bool,
     /// The path of the trace, None for standard input.
     pub file: Option<&'a str>,
 }
@@ -129,6 +131,7 @@ fn request_of<'a>(matches: &ArgMatches<'a>) -> Request<'a>
         job: job_in(matches),
         limits: limits_in(matches),
         stats: flag_in(matches, "stats"),
+        beside: flag_in(matches, "beside"),
         file: file_in(matches),
     }
 }
@@ -200,6 +203,8 @@ fn program<'a>(global: Global) -> Result<Command<'a>, AllocError>
     ensures { IfOk result (λ command. (jobs : JobWords) × (app_of command ≡ program_of jobs)) }
 {
     let stats = "Tell on standard error how much was run, and how fast";
+    let beside =
+        "Let the workers consolidate leaves before they post: for many workers, and keys that come back";
     let command = Command::new(global, "bw_run")
         .about(ABOUT)
         .after_help(AFTER)
@@ -208,7 +213,8 @@ fn program<'a>(global: Global) -> Result<Command<'a>, AllocError>
         .no_binary_name(true)
         .arg(job_argument(global))?
         .arg(file_argument(global))?
-        .arg(flag(global, "stats", stats))?;
+        .arg(flag(global, "stats", stats))?
+        .arg(flag(global, "beside", beside))?;
     with_limits(global, command)
 }
 

@@ -7,6 +7,5 @@ pub mod PassedPages
 mod HomeLemmas
 pub mod HomeReads
 mod NumberLemmas
-pub mod SameHomes
 pub mod SortedPoints
 mod RankLemmas

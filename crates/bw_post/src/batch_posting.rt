@@ -60,6 +60,7 @@ pub fn post_all<R: Threads + Sync, G: Gate>(
     ensures no_pages { length (staged_writes tree.now.staged) ≡ 0 →
         IfOk result (λ posting. posting.pages.items ≡ []) }
     ensures lost { IfOk result (λ posting. posting.lost ≤ pairs_of (length (staged_writes tree.now.staged))) }
+    ensures folded { IfOk result (λ posting. posting.folded.items ≡ []) }
 {
     let staged = tree.staged().unwrap();
     let homes = find_homes(alloc, tree, batch)?;

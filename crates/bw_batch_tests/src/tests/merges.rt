@@ -116,9 +116,9 @@ fn small<R: Abort>(rt: &R, workers: u64, piece: u64) -> Options {
 }
 
 // Five letters come and go twice, and when they have gone once, one leaf is left of two.
-fn come_and_go<R: Abort + Threads + Sync>(rt: &R, alloc: Alloc, workers: u64, piece: u64) {
-    compare_with(rt, alloc, small(rt, workers, piece), TWICE, &[]);
-    let mut index = Index::new(alloc, small(rt, workers, piece)).expect(rt, "an index");
+fn come_and_go<R: Abort + Threads + Sync>(rt: &R, alloc: Alloc, options: Options) {
+    compare_with(rt, alloc, options, TWICE, &[]);
+    let mut index = Index::new(alloc, options).expect(rt, "an index");
     read(rt, alloc, &mut index, FIRST);
     has_pages(rt, &index, FIVE);
     read(rt, alloc, &mut index, GONE);
@@ -128,14 +128,15 @@ fn come_and_go<R: Abort + Threads + Sync>(rt: &R, alloc: Alloc, workers: u64, pi
 #[test]
 fn each_number_of_workers_merges_leaves(rt: HostRuntime) {
     let alloc = heap(rt.alloc()).expect(&rt, "a heap");
-    for workers in WORKERS {
-        come_and_go(&rt, alloc, workers, 1);
-        come_and_go(&rt, alloc, workers, 4096);
+    for &workers in WORKERS {
+        come_and_go(&rt, alloc, small(&rt, workers, 1));
+        come_and_go(&rt, alloc, small(&rt, workers, 4096));
+        come_and_go(&rt, alloc, small(&rt, workers, 1).with_beside(true));
     }
 }
 
 // Seventeen letters in the order of keys, and deletes of them.
-const SEVENTEEN: [TextOp; 17] = [
+const SEVENTEEN: &[TextOp] = &[
     Delete("a"),
     Delete("b"),
     Delete("c"),
@@ -170,7 +171,7 @@ fn leaves_under_two_pages_stay_apart(rt: HostRuntime) {
     let alloc = heap(rt.alloc()).expect(&rt, "a heap");
     let mut index = small_pages(&rt, alloc);
     insert(&rt, alloc, &mut index, 17);
-    let tidy = run(&rt, alloc, &mut index, &SEVENTEEN);
+    let tidy = run(&rt, alloc, &mut index, SEVENTEEN);
     assert_that(&rt, !tidy.stopped && tidy.merges == 3);
     has_pages(&rt, &index, TWO_UNDER_TWO);
     assert_that(&rt, index.is_empty());

@@ -145,4 +145,6 @@ fn options_are_copied_and_read(rt: HostRuntime) {
     let copy = options;
     assert_equal(&rt, options.batch_max(), 3);
     assert_equal(&rt, copy.batch_max(), 3);
+    assert_that(&rt, !options.beside() && options.with_beside(true).beside());
+    assert_that(&rt, !Options::default().beside());
 }

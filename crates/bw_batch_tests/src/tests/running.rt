@@ -10,7 +10,7 @@ use std::thread::Threads;
 pub const LONG: &str = "a text of more than 24 bytes";
 
 /// Numbers of workers.
-pub const WORKERS: [u64; 4] = [1, 2, 16, 64];
+pub const WORKERS: &[u64] = &[1, 2, 16, 64];
 
 /// An operation and its reply.
 pub type Row = (TextOp, TextReply);
@@ -18,6 +18,11 @@ pub type Row = (TextOp, TextReply);
 /// Options with so many workers, and pieces of so many records.
 pub fn working<R: Abort>(rt: &R, workers: u64, piece: u64) -> Options {
     Options::new(workers, piece, 8, 64, 16, 65536, 1048576).expect(rt, "options")
+}
+
+/// The same, with leaves consolidated beside the posting.
+pub fn working_beside<R: Abort>(rt: &R, workers: u64, piece: u64) -> Options {
+    working(rt, workers, piece).with_beside(true)
 }
 
 /// Options with this `batch_max`.

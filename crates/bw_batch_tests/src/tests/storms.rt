@@ -52,12 +52,17 @@ fn find_one_another<R: Abort>(rt: &R, alloc: Alloc, replies: &[Reply]) {
     }
 }
 
+// So many workers, pieces of so many records, and one write in a chain.
+fn options<R: Abort>(rt: &R, workers: u64, piece: u64) -> Options {
+    Options::new(workers, piece, 1, 64, 16, 65536, 1048576).expect(rt, "options")
+}
+
 // Runs the batch with these options.
-fn storm<R: Abort + Threads + Sync>(rt: &R, alloc: Alloc, ops: &[Op], workers: u64, piece: u64) {
-    let options = Options::new(workers, piece, 1, 64, 16, 65536, 1048576).expect(rt, "options");
+fn storm<R: Abort + Threads + Sync>(rt: &R, alloc: Alloc, ops: &[Op], options: Options) {
     let mut index = Index::new(alloc, options).expect(rt, "an index");
     let done = index.run(rt, ops, &OpenGate).expect(rt, "memory");
-    assert_that(rt, workers > 1 || done.lost == 0);
+    assert_that(rt, options.workers() > 1 || done.lost == 0);
+    assert_equal(rt, done.replaced, 0);
     find_one_another(rt, alloc, done.replies.as_slice());
     holds(rt, &index, &[("a", "1999")]);
 }
@@ -66,8 +71,39 @@ fn storm<R: Abort + Threads + Sync>(rt: &R, alloc: Alloc, ops: &[Op], workers: u
 fn writes_of_one_key_are_answered_in_their_order(rt: HostRuntime) {
     let alloc = heap(rt.alloc()).expect(&rt, "a heap");
     let ops = batch(&rt, alloc);
-    for workers in WORKERS {
-        storm(&rt, alloc, &ops, workers, 1);
-        storm(&rt, alloc, &ops, workers, 64);
+    for &workers in WORKERS {
+        storm(&rt, alloc, &ops, options(&rt, workers, 1));
+        storm(&rt, alloc, &ops, options(&rt, workers, 64));
+    }
+}
+
+// Behind a write of 7, which is in the chain when the batch comes, one worker may put a leaf in its place while others post.
+// Each reply is that without it.
+fn storm_beside<R: Abort + Threads + Sync>(rt: &R, alloc: Alloc, ops: &[Op], options: Options) {
+    let mut index = Index::new(alloc, options.with_beside(true)).expect(rt, "an index");
+    let seven = upsert(rt, alloc, 7);
+    index.run(rt, &[seven], &OpenGate).expect(rt, "memory");
+    let done = index.run(rt, ops, &OpenGate).expect(rt, "memory");
+    assert_that(rt, done.replaced <= 1);
+    assert_that(
+        rt,
+        options.workers() > 1 || done.replaced == 1 && done.lost == 0,
+    );
+    let replies = done.replies.as_slice();
+    assert_equal(rt, replies.len(), WRITES as usize);
+    assert_that(
+        rt,
+        is_was(rt, alloc, replies.first().expect(rt, "a reply"), 7),
+    );
+    holds(rt, &index, &[("a", "1999")]);
+}
+
+#[test]
+fn writes_of_one_key_are_answered_beside_a_consolidation(rt: HostRuntime) {
+    let alloc = heap(rt.alloc()).expect(&rt, "a heap");
+    let ops = batch(&rt, alloc);
+    for &workers in WORKERS {
+        storm_beside(&rt, alloc, &ops, options(&rt, workers, 1));
+        storm_beside(&rt, alloc, &ops, options(&rt, workers, 64));
     }
 }

@@ -1,5 +1,5 @@
 // Batches one by one and all at once, by each number of workers.
-use super::running::{Row, WORKERS, holds, is_accepted, ops_of, run, working};
+use super::running::{Row, WORKERS, holds, is_accepted, ops_of, run, working, working_beside};
 use crate::tests::assertions::assert_equal;
 use bw_batch::{Done, Index, Op, OpenGate, Options, Refusal};
 use bw_fixtures::{TextPair, heap};
@@ -74,8 +74,8 @@ pub fn compare_with<R: Abort + Threads + Sync>(
     run_at_once(rt, alloc, options, batches, after);
 }
 
-/// Runs the batches with each number of workers, in the smallest pieces and in the greatest. Compares the replies, and
-/// the pairs in the end.
+/// Runs the batches with each number of workers, in the smallest pieces and in the greatest, and with leaves consolidated
+/// beside the posting. Compares the replies, and the pairs in the end.
 pub fn compare<R: Abort + Threads + Sync>(
     rt: &R,
     global: Global,
@@ -83,8 +83,9 @@ pub fn compare<R: Abort + Threads + Sync>(
     after: &[TextPair],
 ) {
     let alloc = heap(global).expect(rt, "a heap");
-    for workers in WORKERS {
+    for &workers in WORKERS {
         compare_with(rt, alloc, working(rt, workers, 1), batches, after);
         compare_with(rt, alloc, working(rt, workers, 4096), batches, after);
+        compare_with(rt, alloc, working_beside(rt, workers, 1), batches, after);
     }
 }

@@ -5,7 +5,7 @@ use bw_command::run_words;
 
 const FIVE: &str = "insert a 1\ninsert b 2\ninsert c 3\ninsert d 4\ninsert e 5\n";
 
-const SMALL_PAGES: [&str; 7] = [
+const SMALL_PAGES: &[&str] = &[
     "picture",
     "--page-max",
     "4",
@@ -35,7 +35,7 @@ fn five_pairs_are_drawn_on_three_pages(rt: HostRuntime) {
     let status = run_words(
         &rt,
         runner.alloc,
-        &SMALL_PAGES,
+        SMALL_PAGES,
         input,
         &mut out,
         &mut errors,

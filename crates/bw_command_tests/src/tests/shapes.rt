@@ -13,7 +13,7 @@ insert j 10\ninsert k 11\ninsert l 12\ninsert m 13\ninsert n 14\ninsert o 15\nin
 // The pages that five of them lie on, where a page has four pairs.
 pub const FIVE_SPLIT: &str = "leaf % c 2 0\nleaf c * 3 0\ninner 1 % * 2\n";
 
-pub const SMALL_PAGES: [&str; 7] = [
+pub const SMALL_PAGES: &[&str] = &[
     "shape",
     "--page-max",
     "4",
@@ -48,6 +48,18 @@ fn writes_stand_before_a_leaf(rt: HostRuntime) {
     }
 }
 
+const TWO_IN_A_CHAIN: &[&str] = &["shape", "--workers", "1", "--chain", "2"];
+
+const BESIDE: &[&str] = &["shape", "--workers", "1", "--chain", "2", "--beside"];
+
+#[test]
+fn a_leaf_takes_the_place_of_its_chain_where_that_is_asked_for(rt: HostRuntime) {
+    let runner = Runner::new(&rt, rt.alloc());
+    let text = "upsert a 1\ngo\nupsert a 2\nget a";
+    runner.expect_words(TWO_IN_A_CHAIN, text, "leaf % * 1 2\n", "", 0);
+    runner.expect_words(BESIDE, text, "leaf % * 1 1\n", "", 0);
+}
+
 #[test]
 fn a_sweep_leaves_the_writes_of_the_last_batch(rt: HostRuntime) {
     let runner = Runner::new(&rt, rt.alloc());
@@ -63,7 +75,7 @@ fn a_sweep_leaves_the_writes_of_the_last_batch(rt: HostRuntime) {
 #[test]
 fn five_pairs_split_a_leaf_of_four(rt: HostRuntime) {
     let runner = Runner::new(&rt, rt.alloc());
-    runner.expect_words(&SMALL_PAGES, FIVE, FIVE_SPLIT, "", 0);
+    runner.expect_words(SMALL_PAGES, FIVE, FIVE_SPLIT, "", 0);
 }
 
 #[test]
@@ -71,7 +83,7 @@ fn seventeen_pairs_make_three_levels(rt: HostRuntime) {
     let runner = Runner::new(&rt, rt.alloc());
     let output = "leaf % e 4 0\nleaf e i 4 0\nleaf i m 4 0\nleaf m o 2 0\nleaf o * 3 0
 inner 1 % i 2\ninner 1 i * 3\ninner 2 % * 2\n";
-    runner.expect_words(&SMALL_PAGES, SEVENTEEN, output, "", 0);
+    runner.expect_words(SMALL_PAGES, SEVENTEEN, output, "", 0);
 }
 
 #[test]
@@ -79,7 +91,7 @@ fn keys_of_bounds_are_spelled(rt: HostRuntime) {
     let runner = Runner::new(&rt, rt.alloc());
     let text = "insert a 1\ninsert b 2\ninsert %ff 3\ninsert %ff00 4\ninsert %ff01 5\n";
     let output = "leaf % %ff 2 0\nleaf %ff * 3 0\ninner 1 % * 2\n";
-    runner.expect_words(&SMALL_PAGES, text, output, "", 0);
+    runner.expect_words(SMALL_PAGES, text, output, "", 0);
 }
 
 #[test]

@@ -14,7 +14,7 @@ type End = (u8, &'static str);
 
 // Tidying went on to its end; it stopped before a root was put over both leaves, before the leaf was split, or before it
 // was consolidated; the batch was refused; the program found no memory outside a batch.
-const ONE_BATCH: [End; 6] = [
+const ONE_BATCH: &[End] = &[
     (0, FIVE_SPLIT),
     (0, "leaf % c 2 0\nleaf c * 3 0\n"),
     (0, "leaf % * 5 0\n"),
@@ -25,21 +25,21 @@ const ONE_BATCH: [End; 6] = [
 
 // With batches of nothing behind that one: all is tidied, the inserts were refused, the program found no memory, or one
 // of the batches of nothing was refused.
-const MORE_BATCHES: [End; 4] = [
+const MORE_BATCHES: &[End] = &[
     (0, FIVE_SPLIT),
     (4, "leaf % * 0 0\n"),
     (1, ""),
     (4, FIVE_SPLIT),
 ];
 
-const RUN: [&str; 7] = ["run", "--page-max", "4", "--page-min", "1", "--chain", "1"];
+const RUN: &[&str] = &["run", "--page-max", "4", "--page-min", "1", "--chain", "1"];
 
 // The reads of what five inserts leave.
 const READS: &str = "go\nget a\nget b\nget c\nget d\nget e\nscan % * 9\n";
 
 // Both batches were accepted; the inserts were refused, or the reads; the program found no memory before the replies to
 // the first batch were printed, or behind them.
-const READ_BATCH: [End; 5] = [
+const READ_BATCH: &[End] = &[
     (0, BOTH),
     (4, "refused memory\nnone\nnone\nnone\nnone\nnone\nscan 0\n"),
     (
@@ -135,7 +135,7 @@ impl<R: Abort + Files + AllocGlobal + Threads + Clock + Sync> Runner<'_, R> {
 fn tidying_stops_before_each_of_its_steps(rt: HostRuntime) {
     let runner = Runner::new(&rt, rt.alloc());
     let mut counts = [0u64; 6];
-    runner.count_ends(&SMALL_PAGES, FIVE, &ONE_BATCH, &mut counts);
+    runner.count_ends(SMALL_PAGES, FIVE, ONE_BATCH, &mut counts);
     for count in counts {
         assert_that(&rt, count > 0);
     }
@@ -147,7 +147,7 @@ fn the_next_batch_goes_on_with_tidying(rt: HostRuntime) {
     for rest in ["go\ngo\n", "go\ngo\ngo\n"] {
         let text = runner.joined(&[FIVE, rest]);
         let mut counts = [0u64; 4];
-        runner.count_ends(&SMALL_PAGES, text.as_str(), &MORE_BATCHES, &mut counts);
+        runner.count_ends(SMALL_PAGES, text.as_str(), MORE_BATCHES, &mut counts);
         assert_that(&rt, counts[0] > 1 && counts[1] > 0 && counts[2] > 0);
     }
 }
@@ -157,6 +157,6 @@ fn pairs_are_read_where_tidying_stopped(rt: HostRuntime) {
     let runner = Runner::new(&rt, rt.alloc());
     let text = runner.joined(&[FIVE, READS]);
     let mut counts = [0u64; 5];
-    runner.count_ends(&RUN, text.as_str(), &READ_BATCH, &mut counts);
+    runner.count_ends(RUN, text.as_str(), READ_BATCH, &mut counts);
     assert_that(&rt, counts[0] > 1 && counts[1] > 0 && counts[2] > 0);
 }

@@ -6,7 +6,7 @@ use std::rt::Files;
 use std::thread::Threads;
 use std::time::Clock;
 
-const WORKERS: [&str; 4] = ["1", "2", "16", "64"];
+const WORKERS: &[&str] = &["1", "2", "16", "64"];
 
 // Each write, where the key is absent and where it is there.
 const WRITES: &str =
@@ -45,7 +45,7 @@ impl<R: Abort + Files + AllocGlobal + Threads + Clock + Sync> Runner<'_, R> {
 
     // The same by each number of workers.
     fn expect_by_each(&self, text: &str, output: &str) {
-        for workers in WORKERS {
+        for &workers in WORKERS {
             self.expect_by(workers, "1", text, output);
             self.expect_by(workers, "4096", text, output);
         }
@@ -78,7 +78,7 @@ impl<R: Abort + Files + AllocGlobal + Threads + Clock + Sync> Runner<'_, R> {
 
     // The same by each number of workers.
     fn expect_small_by_each(&self, job: &'static str, text: &str, output: &str) {
-        for workers in WORKERS {
+        for &workers in WORKERS {
             self.expect_small_by(job, workers, "1", text, output);
             self.expect_small_by(job, workers, "4096", text, output);
         }

@@ -144,21 +144,30 @@ fn batches_over_250_leaves_are_answered_as_by_the_plain_program(rt: HostRuntime)
 }
 
 // Numbers of workers.
-const WORKERS: [u64; 4] = [1, 2, 16, 64];
+const WORKERS: &[u64] = &[1, 2, 16, 64];
 
-// Two long batches by so many workers, in pieces of so many records.
-fn compare_long<R: Abort + Threads + Sync>(rt: &R, alloc: Alloc, workers: u64, piece: u64) {
-    let mut both = over_leaves(rt, alloc, 64, 4, working(rt, workers, piece));
-    let seed = workers.wrapping_add(piece);
-    compare(rt, alloc, seed, &mut both, (2, 1000));
+// Long batches with these options.
+fn compare_long<R: Abort + Threads + Sync>(rt: &R, alloc: Alloc, options: Options, batches: u64) {
+    let mut both = over_leaves(rt, alloc, 64, 4, options);
+    let seed = options.workers().wrapping_add(options.piece());
+    compare(rt, alloc, seed, &mut both, (batches, 1000));
 }
 
 #[test]
 fn long_batches_are_answered_alike_by_any_number_of_workers(rt: HostRuntime) {
     let alloc = heap(rt.alloc()).expect(&rt, "a heap");
-    for workers in WORKERS {
-        compare_long(&rt, alloc, workers, 1);
-        compare_long(&rt, alloc, workers, 64);
-        compare_long(&rt, alloc, workers, 4096);
+    for &workers in WORKERS {
+        compare_long(&rt, alloc, working(&rt, workers, 1), 2);
+        compare_long(&rt, alloc, working(&rt, workers, 64), 2);
+        compare_long(&rt, alloc, working(&rt, workers, 4096), 2);
+    }
+}
+
+#[test]
+fn long_batches_are_answered_alike_beside_consolidations(rt: HostRuntime) {
+    let alloc = heap(rt.alloc()).expect(&rt, "a heap");
+    for &workers in WORKERS {
+        compare_long(&rt, alloc, working(&rt, workers, 1).with_beside(true), 4);
+        compare_long(&rt, alloc, working(&rt, workers, 64).with_beside(true), 4);
     }
 }

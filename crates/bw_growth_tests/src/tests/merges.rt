@@ -11,7 +11,7 @@ const LONGEST: usize = 1024;
 
 const SHORT: usize = 1;
 
-const LETTERS: [&str; 5] = ["a", "b", "c", "d", "e"];
+const LETTERS: &[&str] = &["a", "b", "c", "d", "e"];
 
 // A batch, and what it is answered.
 #[derive(Drop)]
@@ -47,7 +47,7 @@ fn no_operation(alloc: Alloc) -> Turn {
 fn inserts<R: Abort>(rt: &R, alloc: Alloc, first: u8, len: usize) -> Turn {
     let mut turn = no_operation(alloc);
     let mut number = first;
-    for text in LETTERS {
+    for &text in LETTERS {
         let op = Op::Insert(letter(rt, alloc, text), value_of(rt, alloc, number, len));
         add(rt, &mut turn, op, Reply::Inserted);
         number = number.wrapping_add(1);
@@ -58,7 +58,7 @@ fn inserts<R: Abort>(rt: &R, alloc: Alloc, first: u8, len: usize) -> Turn {
 // Adds deletes of the letters, which had these values.
 fn add_deletes<R: Abort>(rt: &R, alloc: Alloc, turn: &mut Turn, first: u8, len: usize) {
     let mut number = first;
-    for text in LETTERS {
+    for &text in LETTERS {
         let was = Reply::Was(value_of(rt, alloc, number, len));
         add(rt, turn, Op::Delete(letter(rt, alloc, text)), was);
         number = number.wrapping_add(1);
@@ -75,7 +75,7 @@ fn deletes<R: Abort>(rt: &R, alloc: Alloc, first: u8, len: usize) -> Turn {
 fn all_pairs<R: Abort>(rt: &R, alloc: Alloc, first: u8, len: usize) -> Reply {
     let mut pairs = Vec::new(alloc);
     let mut number = first;
-    for text in LETTERS {
+    for &text in LETTERS {
         let pair = (letter(rt, alloc, text), value_of(rt, alloc, number, len));
         pairs.push(pair).expect(rt, "memory");
         number = number.wrapping_add(1);
@@ -114,9 +114,12 @@ fn turns<R: Abort>(rt: &R, alloc: Alloc, len: usize) -> Vec<Turn, Alloc> {
     turns
 }
 
-// An empty index of small pages, by so many workers: one write in a chain, and four pairs.
-fn small_pages<R: Abort>(rt: &R, alloc: Alloc, workers: u64) -> Index {
-    let options = Options::new(workers, 1, 1, 4, 1, 65536, 1048576).expect(rt, "options");
+// Small pages, by so many workers: one write in a chain, and four pairs.
+fn small<R: Abort>(rt: &R, workers: u64) -> Options {
+    Options::new(workers, 1, 1, 4, 1, 65536, 1048576).expect(rt, "options")
+}
+
+fn empty_index<R: Abort>(rt: &R, alloc: Alloc, options: Options) -> Index {
     Index::new(alloc, options).expect(rt, "an index")
 }
 
@@ -183,7 +186,7 @@ fn letters_with_the_longest_values_come_and_go_twice(rt: HostRuntime) {
     let alloc = heap(rt.alloc()).expect(&rt, "a heap");
     let turns = turns(&rt, alloc, LONGEST);
     for workers in [1, 2, 16, 64] {
-        let mut index = small_pages(&rt, alloc, workers);
+        let mut index = empty_index(&rt, alloc, small(&rt, workers));
         run_each(&rt, &mut index, &turns, 0, 4);
     }
 }
@@ -220,7 +223,7 @@ fn stands<R: Abort>(rt: &R, index: &Index, before: &Before) {
 fn reads<R: Abort>(rt: &R, alloc: Alloc, first: u8, len: usize) -> Turn {
     let mut turn = no_operation(alloc);
     let mut number = first;
-    for text in LETTERS {
+    for &text in LETTERS {
         let found = Reply::Found(value_of(rt, alloc, number, len));
         add(rt, &mut turn, Op::Get(letter(rt, alloc, text)), found);
         number = number.wrapping_add(1);
@@ -233,7 +236,7 @@ fn reads<R: Abort>(rt: &R, alloc: Alloc, first: u8, len: usize) -> Turn {
 // The same where there are no letters.
 fn reads_of_none<R: Abort>(rt: &R, alloc: Alloc) -> Turn {
     let mut turn = no_operation(alloc);
-    for text in LETTERS {
+    for &text in LETTERS {
         let get = Op::Get(letter(rt, alloc, text));
         add(rt, &mut turn, get, Reply::Absent);
     }
@@ -256,19 +259,19 @@ fn reads_behind<R: Abort>(rt: &R, alloc: Alloc, len: usize) -> Vec<Turn, Alloc> 
     turns
 }
 
-// Batches, what is read behind each, and by how many workers.
+// Batches, what is read behind each, and with which options.
 #[derive(Drop)]
 struct Story {
     turns: Vec<Turn, Alloc>,
     reads: Vec<Turn, Alloc>,
-    workers: u64,
+    options: Options,
 }
 
-fn story_of<R: Abort>(rt: &R, alloc: Alloc, workers: u64, len: usize) -> Story {
+fn story_of<R: Abort>(rt: &R, alloc: Alloc, options: Options, len: usize) -> Story {
     Story {
         turns: turns(rt, alloc, len),
         reads: reads_behind(rt, alloc, len),
-        workers,
+        options,
     }
 }
 
@@ -308,7 +311,7 @@ fn is_refused<R: Abort + Threads + Sync>(
     place: usize,
     growth: u64,
 ) -> bool {
-    let mut index = small_pages(rt, alloc, story.workers);
+    let mut index = empty_index(rt, alloc, story.options);
     run_each(rt, &mut index, &story.turns, 0, place);
     let turn = story.turns.get(place).expect(rt, "a batch");
     let refused = run_refused(rt, alloc, &mut index, turn, growth);
@@ -334,9 +337,9 @@ fn refuse_in_turn<R: Abort + Threads + Sync>(rt: &R, alloc: Alloc, story: &Story
     panic!(rt; "no batch met no refusal");
 }
 
-// The same for each batch by so many workers.
-fn refuse_each<R: Abort + Threads + Sync>(rt: &R, alloc: Alloc, workers: u64, len: usize) {
-    let story = story_of(rt, alloc, workers, len);
+// The same for each batch with these options.
+fn refuse_each<R: Abort + Threads + Sync>(rt: &R, alloc: Alloc, options: Options, len: usize) {
+    let story = story_of(rt, alloc, options, len);
     for place in 0..4usize {
         refuse_in_turn(rt, alloc, &story, place);
     }
@@ -345,23 +348,30 @@ fn refuse_each<R: Abort + Threads + Sync>(rt: &R, alloc: Alloc, workers: u64, le
 #[test]
 fn letters_that_come_and_go_twice_meet_each_refusal(rt: HostRuntime) {
     let alloc = heap(rt.alloc()).expect(&rt, "a heap");
-    refuse_each(&rt, alloc, 1, SHORT);
+    refuse_each(&rt, alloc, small(&rt, 1), SHORT);
 }
 
 #[test]
 fn letters_that_four_workers_post_meet_each_refusal(rt: HostRuntime) {
     let alloc = heap(rt.alloc()).expect(&rt, "a heap");
-    refuse_each(&rt, alloc, 4, SHORT);
+    refuse_each(&rt, alloc, small(&rt, 4), SHORT);
 }
 
 #[test]
 fn letters_with_the_longest_values_meet_each_refusal(rt: HostRuntime) {
     let alloc = heap(rt.alloc()).expect(&rt, "a heap");
-    refuse_each(&rt, alloc, 1, LONGEST);
+    refuse_each(&rt, alloc, small(&rt, 1), LONGEST);
 }
 
 #[test]
 fn the_longest_values_that_four_workers_post_meet_each_refusal(rt: HostRuntime) {
     let alloc = heap(rt.alloc()).expect(&rt, "a heap");
-    refuse_each(&rt, alloc, 4, LONGEST);
+    refuse_each(&rt, alloc, small(&rt, 4), LONGEST);
+}
+
+#[test]
+fn letters_beside_consolidations_meet_each_refusal(rt: HostRuntime) {
+    let alloc = heap(rt.alloc()).expect(&rt, "a heap");
+    refuse_each(&rt, alloc, small(&rt, 1).with_beside(true), SHORT);
+    refuse_each(&rt, alloc, small(&rt, 4).with_beside(true), SHORT);
 }

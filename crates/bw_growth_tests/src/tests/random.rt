@@ -71,11 +71,15 @@ fn run_drawn<R: Abort + Threads + Sync>(
     assert_equal(rt, refusal, expected);
 }
 
-// Runs batches that are drawn from a seed, some 1,800 writes on a few keys, with so many workers and pieces of so many
-// records: the one leaf is consolidated among them, and with so few keys never split.
-fn compare<R: Abort + Threads + Sync>(rt: &R, alloc: Alloc, seed: u64, workers: u64, piece: u64) {
+// So many workers, pieces of so many records, so many writes in a chain, and batches of up to 48 operations.
+fn limited<R: Abort>(rt: &R, workers: u64, piece: u64, chain: u64) -> Options {
+    Options::new(workers, piece, chain, 64, 16, 48, 1048576).expect(rt, "options")
+}
+
+// Runs batches that are drawn from a seed, some 1,800 writes on a few keys: the one leaf is consolidated among them, and
+// with so few keys never split.
+fn compare<R: Abort + Threads + Sync>(rt: &R, alloc: Alloc, seed: u64, options: Options) {
     let mut random = Random::new(seed);
-    let options = Options::new(workers, piece, 8, 64, 16, 48, 1048576).expect(rt, "options");
     let mut both = Compared {
         index: Index::new(alloc, options).expect(rt, "an index"),
         map: ReferenceMap::new(alloc),
@@ -89,8 +93,25 @@ fn compare<R: Abort + Threads + Sync>(rt: &R, alloc: Alloc, seed: u64, workers: 
 fn batches_are_answered_as_by_the_plain_program(rt: HostRuntime) {
     let alloc = heap(rt.alloc()).expect(&rt, "a heap");
     for workers in [1u64, 2, 16, 64] {
-        compare(&rt, alloc, 2013, workers, 1);
-        compare(&rt, alloc, 20180610, workers, 64);
-        compare(&rt, alloc, 65536, workers, 4096);
+        compare(&rt, alloc, 2013, limited(&rt, workers, 1, 8));
+        compare(&rt, alloc, 20180610, limited(&rt, workers, 64, 8));
+        compare(&rt, alloc, 65536, limited(&rt, workers, 4096, 8));
+    }
+}
+
+// With leaves consolidated beside the posting, chains of three lengths.
+fn compare_beside<R: Abort + Threads + Sync>(rt: &R, alloc: Alloc, workers: u64, piece: u64) {
+    for chain in [1, 2, 8] {
+        let options = limited(rt, workers, piece, chain).with_beside(true);
+        compare(rt, alloc, workers.wrapping_add(chain), options);
+    }
+}
+
+#[test]
+fn batches_beside_consolidations_are_answered_as_by_the_plain_program(rt: HostRuntime) {
+    let alloc = heap(rt.alloc()).expect(&rt, "a heap");
+    for workers in [1u64, 2, 16, 64] {
+        compare_beside(&rt, alloc, workers, 1);
+        compare_beside(&rt, alloc, workers, 64);
     }
 }

@@ -8,7 +8,7 @@ use std::process::Abort;
 pub type Row = (u32, u32, &'static [u8], Option<&'static [u8]>, usize, usize);
 
 /// A leaf with a write, a leaf with none, and the root.
-pub const THREE: [Row; 3] = [
+pub const THREE: &[Row] = &[
     (0, 0, b"", Some(b"c"), 2, 1),
     (4, 0, b"c", None, 1, 0),
     (3, 1, b"", None, 2, 0),

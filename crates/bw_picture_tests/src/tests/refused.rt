@@ -18,7 +18,7 @@ fn picture_refused<R: Abort>(rt: &R, alloc: Alloc, pages: &[PageShape], growth: 
 #[test]
 fn each_growth_of_a_picture_is_refused(rt: HostRuntime) {
     let alloc = heap(rt.alloc()).expect(&rt, "memory");
-    let pages = pages_of(alloc, &THREE).expect(&rt, "the pages");
+    let pages = pages_of(alloc, THREE).expect(&rt, "the pages");
     for growth in 1..200 {
         if !picture_refused(&rt, alloc, &pages, growth) {
             assert_that(&rt, growth > 20);

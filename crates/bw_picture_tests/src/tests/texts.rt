@@ -61,7 +61,7 @@ fn three_pages_are_drawn(rt: HostRuntime) {
     let alloc = heap(rt.alloc()).expect(&rt, "memory");
     assert_equal(
         &rt,
-        drawn(&rt, alloc, &THREE).as_slice(),
+        drawn(&rt, alloc, THREE).as_slice(),
         THREE_PAGES.as_bytes(),
     );
 }

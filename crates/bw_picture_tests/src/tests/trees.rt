@@ -9,7 +9,7 @@ use bw_tree::Tree;
 use std::process::Abort;
 
 // Three leaves and their root, as `Tree::shape` lists them.
-const LISTED: [Row; 4] = [
+const LISTED: &[Row] = &[
     (0, 0, b"", Some(b"c"), 2, 0),
     (1, 0, b"c", Some(b"e"), 1, 0),
     (2, 0, b"e", None, 1, 0),
@@ -17,7 +17,7 @@ const LISTED: [Row; 4] = [
 ];
 
 // The pages of two rows above the leaves stand where their ranges begin.
-const FOUR_LEVELS: [Row; 7] = [
+const FOUR_LEVELS: &[Row] = &[
     (0, 0, b"", Some(b"c"), 2, 0),
     (1, 0, b"c", Some(b"e"), 1, 0),
     (2, 0, b"e", None, 1, 0),
@@ -40,14 +40,14 @@ fn a_tree_is_drawn_as_its_list(rt: HostRuntime) {
     assert_equal(
         &rt,
         picture_of(&rt, alloc, &tree),
-        drawn(&rt, alloc, &LISTED),
+        drawn(&rt, alloc, LISTED),
     );
 }
 
 #[test]
 fn inner_pages_stand_above_their_leaves(rt: HostRuntime) {
     let alloc = heap(rt.alloc()).expect(&rt, "memory");
-    let text = drawn(&rt, alloc, &FOUR_LEVELS);
+    let text = drawn(&rt, alloc, FOUR_LEVELS);
     assert_that(&rt, are_closed(&text));
     let text = String::from_utf8(text).expect(&rt, "a text");
     assert_that(

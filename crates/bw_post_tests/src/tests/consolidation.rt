@@ -12,7 +12,7 @@ use std::process::Abort;
 use std::thread::Threads;
 
 // What the batch leaves of the three leaves.
-const AFTER: [(&[u8], &[u8]); 3] = [(b"a", b"1"), (b"b", b"2"), (b"c", b"9")];
+const AFTER: &[(&[u8], &[u8])] = &[(b"a", b"1"), (b"b", b"2"), (b"c", b"9")];
 
 // The tree over three leaves, two of which have the batch's writes over them.
 fn written<R: Abort + Threads + Sync>(rt: &R, alloc: Alloc) -> Tree
@@ -48,10 +48,10 @@ fn one_leaf_of_three_is_consolidated(rt: HostRuntime) {
     let mut tree = written(&rt, alloc);
     assert_equal(&rt, consolidate(&rt, alloc, &mut tree, b"d"), Ok(PageId(1)));
     stands(&rt, &tree, &[0, 1, FLOOR + 1, 3], 2, 3);
-    holds(&rt, alloc, &tree, 3, &AFTER);
+    holds(&rt, alloc, &tree, 3, AFTER);
     assert_equal(&rt, consolidate(&rt, alloc, &mut tree, b"e"), Ok(PageId(2)));
     stands(&rt, &tree, &[0, 1, 2, 3], 2, 3);
-    holds(&rt, alloc, &tree, 3, &AFTER);
+    holds(&rt, alloc, &tree, 3, AFTER);
 }
 
 // Starts over a tree of three leaves and their root, where its mapping words name their base pages.
@@ -70,7 +70,7 @@ fn a_tree_of_consolidated_leaves_starts_over(rt: HostRuntime) {
     consolidate(&rt, alloc, &mut tree, b"e").expect(&rt, "memory");
     start_over(&rt, &mut tree);
     stands(&rt, &tree, &[0, 1, 2, 3], 0, 0);
-    holds(&rt, alloc, &tree, 0, &AFTER);
+    holds(&rt, alloc, &tree, 0, AFTER);
 }
 
 #[test]
@@ -82,7 +82,7 @@ fn a_batch_is_posted_over_a_consolidated_leaf(rt: HostRuntime) {
     let Posting { pages, closed, .. } = post(&rt, alloc, &mut tree, &ops, 64);
     tree.adopt_on(pages, closed);
     stands(&rt, &tree, &[0, FLOOR + 2, FLOOR + 1, 3], 3, 3);
-    holds(&rt, alloc, &tree, 3, &AFTER);
+    holds(&rt, alloc, &tree, 3, AFTER);
     holds(
         &rt,
         alloc,
@@ -105,7 +105,7 @@ fn consolidation_refused<R: Abort + Threads + Sync>(rt: &R, alloc: Alloc, growth
     if consolidated.is_err() {
         stands(rt, &tree, &[0, FLOOR, FLOOR + 1, 3], 2, 3);
     }
-    holds(rt, alloc, &tree, 3, &AFTER);
+    holds(rt, alloc, &tree, 3, AFTER);
     refused
 }
 

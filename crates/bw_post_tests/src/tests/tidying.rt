@@ -19,14 +19,14 @@ use std::process::Abort;
 use std::thread::Threads;
 
 // What five pairs become.
-const FIVE: [Wanted; 3] = [
+const FIVE: &[Wanted] = &[
     (0, 0, b"", Some(b"c"), 2, 0),
     (1, 0, b"c", None, 3, 0),
     (2, 1, b"", None, 2, 0),
 ];
 
 // What the pairs of the 17 keys from `a` to `q` become.
-const SEVENTEEN: [Wanted; 8] = [
+const SEVENTEEN: &[Wanted] = &[
     (0, 0, b"", Some(b"e"), 4, 0),
     (3, 0, b"e", Some(b"i"), 4, 0),
     (1, 0, b"i", Some(b"m"), 4, 0),
@@ -201,7 +201,7 @@ pub fn five_tidied<R: Abort + Threads + Sync>(rt: &R, alloc: Alloc) -> Tree
 {
     let mut tree = five(rt, alloc);
     tidy_does(rt, alloc, &mut tree, &four_pairs(), &[PageId(0)], (1, 1));
-    has_pages(rt, &tree, &FIVE);
+    has_pages(rt, &tree, FIVE);
     tree
 }
 
@@ -249,7 +249,7 @@ fn three_levels<R: Abort + Threads + Sync>(rt: &R, alloc: Alloc) -> Tree
 {
     let mut tree = written(rt, alloc, b'a', b'r');
     tidy_does(rt, alloc, &mut tree, &four_pairs(), &[PageId(0)], (2, 5));
-    has_pages(rt, &tree, &SEVENTEEN);
+    has_pages(rt, &tree, SEVENTEEN);
     tree
 }
 

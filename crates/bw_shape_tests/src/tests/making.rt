@@ -57,18 +57,20 @@ pub fn stands<R: Abort>(rt: &R, alloc: Alloc, tree: &Tree, root: u32, heads: &[u
     reads_all(rt, alloc, tree);
 }
 
+// All that is read of such a tree.
+const FIVE_PAIRS: &[(&[u8], &[u8])] = &[
+    (b"a", b"1"),
+    (b"b", b"2"),
+    (b"c", b"3"),
+    (b"d", b"4"),
+    (b"e", b"5"),
+];
+
 /// Compares all that is read of a tree.
 pub fn reads_all<R: Abort>(rt: &R, alloc: Alloc, tree: &Tree) {
     let from = key(alloc, b"").expect(rt, "a key");
     let pairs = tree.scan_at(&from, None, 9, 0).expect(rt, "the pairs");
-    let wanted: [(&[u8], &[u8]); 5] = [
-        (b"a", b"1"),
-        (b"b", b"2"),
-        (b"c", b"3"),
-        (b"d", b"4"),
-        (b"e", b"5"),
-    ];
-    assert_that(rt, are(&pairs, &wanted));
+    assert_that(rt, are(&pairs, FIVE_PAIRS));
 }
 
 /// Splits a page, and compares what that did.

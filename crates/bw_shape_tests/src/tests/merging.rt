@@ -4,7 +4,7 @@ ghost use Rattle.std.specs.Prelude.{◌≡◌, [], ◌∷◌, Some, None, IfOk};
 use super::making::{
     FLOOR, consolidate_does, finds, finish_does, five, grow_does, split_does, stands,
 };
-use super::shapes::has_pages;
+use super::shapes::{Wanted, has_pages};
 use super::tidying::{did, four_pairs};
 use crate::tests::assertions::{assert_equal, assert_that};
 use bw_fixtures::{are, heap, key};
@@ -71,12 +71,14 @@ pub fn of_two_pairs<R: Abort>(rt: &R, alloc: Alloc) -> Tree
     Tree::from_level(alloc, leaves).expect(rt, "a tree")
 }
 
+// All that is read of that tree.
+const TWO_PAIRS: &[(&[u8], &[u8])] = &[(b"a", b"1"), (b"c", b"3")];
+
 /// Compares all that is read of that tree.
 pub fn has_two_pairs<R: Abort>(rt: &R, alloc: Alloc, tree: &Tree) {
     let from = key(alloc, b"").expect(rt, "a key");
     let pairs = tree.scan_at(&from, None, 9, 0).expect(rt, "the pairs");
-    let wanted: [(&[u8], &[u8]); 2] = [(b"a", b"1"), (b"c", b"3")];
-    assert_that(rt, are(&pairs, &wanted));
+    assert_that(rt, are(&pairs, TWO_PAIRS));
 }
 
 /// The tree of five pairs as two leaves without records, 0 and 1, under the root 2, which names both.
@@ -90,6 +92,9 @@ pub fn two_leaves<R: Abort>(rt: &R, alloc: Alloc) -> Tree
     tree
 }
 
+/// Both pairs on one leaf.
+pub const ONE_LEAF: &[Wanted] = &[(0, 0, b"", None, 2, 0)];
+
 // A merge was left where the page above still names the leaf. Tidying all pages finishes it, and the root goes.
 #[test]
 fn a_merge_that_was_left_is_finished(rt: HostRuntime) {
@@ -97,7 +102,7 @@ fn a_merge_that_was_left_is_finished(rt: HostRuntime) {
     let mut tree = of_two_pairs(&rt, alloc);
     absorb_does(&rt, &mut tree, 1, Did::Done);
     assert_equal(&rt, tidy(&mut tree, &four_pairs()), did(0, 0));
-    has_pages(&rt, &tree, &[(0, 0, b"", None, 2, 0)]);
+    has_pages(&rt, &tree, ONE_LEAF);
     has_two_pairs(&rt, alloc, &tree);
 }
 

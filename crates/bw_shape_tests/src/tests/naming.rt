@@ -154,7 +154,7 @@ fn new_pages_of_2000_pairs_are_named_at_once(rt: HostRuntime) {
 }
 
 // The leaf in the middle becomes eight.
-const MIDDLE: [u16; 3] = [4098, 4118, 4120];
+const MIDDLE: &[u16] = &[4098, 4118, 4120];
 
 // Tidies three leaves where this growth is refused, and then to the end. Whether it was refused.
 fn tidy_on<R: Abort>(rt: &R, alloc: Alloc, tree: &mut Tree, growth: u64) -> bool
@@ -177,7 +177,7 @@ fn tidy_on<R: Abort>(rt: &R, alloc: Alloc, tree: &mut Tree, growth: u64) -> bool
 
 // Does that, and compares the pages with those of a tree that was tidied at once. Whether the growth was refused.
 fn middle_refused<R: Abort>(rt: &R, alloc: Alloc, wanted: &Tree, growth: u64) -> bool {
-    let mut tree = tree_of(rt, alloc, FROM, &MIDDLE);
+    let mut tree = tree_of(rt, alloc, FROM, MIDDLE);
     let refused = tidy_on(rt, alloc, &mut tree, growth);
     has_pages_of(rt, &tree, wanted);
     are_named(rt, &mut tree);
@@ -194,7 +194,7 @@ fn has_pages_of<R: Abort>(rt: &R, tree: &Tree, wanted: &Tree) {
 #[test]
 fn a_stop_at_each_growth_leaves_what_is_tidied_to_the_same_pages(rt: HostRuntime) {
     let alloc = heap(rt.alloc()).expect(&rt, "memory");
-    let mut wanted = tree_of(&rt, alloc, FROM, &MIDDLE);
+    let mut wanted = tree_of(&rt, alloc, FROM, MIDDLE);
     tidy_whole(&rt, alloc, &mut wanted, &[PageId(1)]);
     for growth in 1..1000 {
         if !middle_refused(&rt, alloc, &wanted, growth) {

@@ -3,9 +3,9 @@ ghost use Rattle.std.specs.Prelude.{◌≡◌, None};
 
 use super::making::{consolidate_does, finish_does, five, grow_does, reads_all, split_does};
 use super::merging::{
-    absorb_does, drop_does, forget_does, has_two_pairs, of_two_pairs, two_leaves,
+    ONE_LEAF, absorb_does, drop_does, forget_does, has_two_pairs, of_two_pairs, two_leaves,
 };
-use super::shapes::has_pages;
+use super::shapes::{Wanted, has_pages};
 use crate::tests::assertions::{assert_equal, assert_that};
 use bw_fixtures::{heap, key, was_refused};
 use bw_memory::Alloc;
@@ -19,6 +19,12 @@ fn release_does<R: Abort>(rt: &R, tree: &mut Tree, page: u32, wanted: Did)
 {
     assert_equal(rt, release(tree, PageId(page)), Ok(wanted));
 }
+
+/// Both pairs on leaves of their own.
+pub const ONE_EACH: &[Wanted] = &[(0, 0, b"", Some(b"c"), 1, 0), (1, 0, b"c", None, 1, 0)];
+
+// The same, where the second leaf has another identifier.
+const ON_ANOTHER: &[Wanted] = &[(0, 0, b"", Some(b"c"), 1, 0), (2, 0, b"c", None, 1, 0)];
 
 // A leaf goes, its index entry after it, then its identifier, and then the root. The leaf that is left is split again, and the
 // new page takes the identifier.
@@ -39,15 +45,11 @@ fn two_leaves_become_one_and_part_again(rt: HostRuntime) {
     has_two_pairs(&rt, alloc, &tree);
     drop_does(&rt, &mut tree, Did::Done);
     drop_does(&rt, &mut tree, Did::NotNeeded);
-    has_pages(&rt, &tree, &[(0, 0, b"", None, 2, 0)]);
+    has_pages(&rt, &tree, ONE_LEAF);
     has_two_pairs(&rt, alloc, &tree);
     consolidate_does(&rt, &mut tree, 0, Did::Done);
     split_does(&rt, &mut tree, 0, 1, Did::Done);
-    has_pages(
-        &rt,
-        &tree,
-        &[(0, 0, b"", Some(b"c"), 1, 0), (1, 0, b"c", None, 1, 0)],
-    );
+    has_pages(&rt, &tree, ONE_EACH);
     has_two_pairs(&rt, alloc, &tree);
 }
 
@@ -67,11 +69,7 @@ fn new_pages_take_what_was_given_back(rt: HostRuntime) {
     has_two_pairs(&rt, alloc, &tree);
     consolidate_does(&rt, &mut tree, 0, Did::Done);
     split_does(&rt, &mut tree, 0, 1, Did::Done);
-    has_pages(
-        &rt,
-        &tree,
-        &[(0, 0, b"", Some(b"c"), 1, 0), (1, 0, b"c", None, 1, 0)],
-    );
+    has_pages(&rt, &tree, ONE_EACH);
     grow_does(&rt, &mut tree, Did::Done);
     assert_equal(&rt, tree.root(), PageId(2));
     has_two_pairs(&rt, alloc, &tree);
@@ -203,11 +201,7 @@ fn release_refused<R: Abort>(rt: &R, alloc: Alloc, growth: u64) -> bool {
     assert_that(rt, tree.is_free(PageId(2)));
     consolidate_does(rt, &mut tree, 0, Did::Done);
     split_does(rt, &mut tree, 0, 1, Did::Done);
-    has_pages(
-        rt,
-        &tree,
-        &[(0, 0, b"", Some(b"c"), 1, 0), (2, 0, b"c", None, 1, 0)],
-    );
+    has_pages(rt, &tree, ON_ANOTHER);
     refused
 }
 

@@ -80,14 +80,14 @@ fn routes_to<R: Abort>(rt: &R, alloc: Alloc, tree: &Tree, bytes: &[u8], wanted: 
 }
 
 // What five pairs become where their leaf is split, and a root comes over the halves.
-const HALVES: [Wanted; 3] = [
+const HALVES: &[Wanted] = &[
     (0, 0, b"", Some(b"c"), 2, 0),
     (1, 0, b"c", None, 3, 0),
     (2, 1, b"", None, 2, 0),
 ];
 
 // What those become where the right leaf is split, too.
-const THREE: [Wanted; 4] = [
+const THREE: &[Wanted] = &[
     (0, 0, b"", Some(b"c"), 2, 0),
     (1, 0, b"c", Some(b"d"), 1, 0),
     (3, 0, b"d", None, 2, 0),
@@ -108,7 +108,7 @@ fn a_leaf_parts_and_then_its_right_half(rt: HostRuntime) {
     finish_does(&rt, &mut tree, 0, Did::NotNeeded);
     routes_to(&rt, alloc, &tree, b"a", 0);
     routes_to(&rt, alloc, &tree, b"c", 1);
-    has_pages(&rt, &tree, &HALVES);
+    has_pages(&rt, &tree, HALVES);
     split_does(&rt, &mut tree, 1, 1, Did::Done);
     stands(&rt, alloc, &tree, 2, &[FLOOR, FLOOR + 1, 2, 3]);
     finish_does(&rt, &mut tree, 1, Did::Done);
@@ -120,7 +120,7 @@ fn a_leaf_parts_and_then_its_right_half(rt: HostRuntime) {
     consolidate_does(&rt, &mut tree, 2, Did::NotNeeded);
     routes_to(&rt, alloc, &tree, b"c", 1);
     routes_to(&rt, alloc, &tree, b"d", 3);
-    has_pages(&rt, &tree, &THREE);
+    has_pages(&rt, &tree, THREE);
     stands(&rt, alloc, &tree, 2, &[FLOOR, FLOOR + 1, 2, 3]);
 }
 

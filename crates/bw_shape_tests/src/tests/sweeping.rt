@@ -5,7 +5,7 @@ use super::making::{
     FLOOR, consolidate_does, five, grow_does, named_once, reads_all, split_does, stands, sweep_does,
 };
 use super::merging::{absorb_does, drop_does, forget_does, has_two_pairs, of_two_pairs};
-use super::releasing::{three_leaves, without_two_roots};
+use super::releasing::{ONE_EACH, three_leaves, without_two_roots};
 use super::shapes::has_pages;
 use crate::tests::assertions::{assert_equal, assert_that};
 use bw_fixtures::{heap, was_refused};
@@ -95,11 +95,7 @@ fn a_sweep_gives_back_what_nothing_leads_to(rt: HostRuntime) {
     are_free(&rt, &tree, &[false, true, true, true]);
     has_two_pairs(&rt, alloc, &tree);
     split_does(&rt, &mut tree, 0, 1, Did::Done);
-    has_pages(
-        &rt,
-        &tree,
-        &[(0, 0, b"", Some(b"c"), 1, 0), (1, 0, b"c", None, 1, 0)],
-    );
+    has_pages(&rt, &tree, ONE_EACH);
 }
 
 // Sweeps a tree of which two roots, an inner page and a leaf went where this growth is refused, and once more. Whether it

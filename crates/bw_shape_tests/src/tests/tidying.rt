@@ -34,14 +34,14 @@ const BEHIND_L: u16 = 109;
 pub const BEHIND_Q: u16 = 114;
 
 /// What five pairs become.
-pub const FIVE: [Wanted; 3] = [
+pub const FIVE: &[Wanted] = &[
     (0, 0, b"", Some(b"c"), 2, 0),
     (1, 0, b"c", None, 3, 0),
     (2, 1, b"", None, 2, 0),
 ];
 
 /// What the pairs of the 17 keys from `a` to `q` become.
-pub const SEVENTEEN: [Wanted; 8] = [
+pub const SEVENTEEN: &[Wanted] = &[
     (0, 0, b"", Some(b"e"), 4, 0),
     (3, 0, b"e", Some(b"i"), 4, 0),
     (1, 0, b"i", Some(b"m"), 4, 0),
@@ -126,10 +126,10 @@ fn a_leaf_of_five_pairs_is_split_once(rt: HostRuntime) {
     let alloc = heap(rt.alloc()).expect(&rt, "memory");
     let mut tree = five(&rt, alloc);
     tidy_does(&rt, alloc, &mut tree, &[PageId(0)], did(0, 1));
-    has_pages(&rt, &tree, &FIVE);
+    has_pages(&rt, &tree, FIVE);
     reads_all(&rt, alloc, &tree);
     tidy_does(&rt, alloc, &mut tree, &[PageId(0), PageId(1)], did(0, 0));
-    has_pages(&rt, &tree, &FIVE);
+    has_pages(&rt, &tree, FIVE);
     reads_all(&rt, alloc, &tree);
 }
 
@@ -138,9 +138,17 @@ fn a_leaf_of_seventeen_pairs_is_split_level_by_level(rt: HostRuntime) {
     let alloc = heap(rt.alloc()).expect(&rt, "memory");
     let mut tree = tree_of(&rt, alloc, A, &[BEHIND_Q]);
     tidy_does(&rt, alloc, &mut tree, &[PageId(0)], did(1, 5));
-    has_pages(&rt, &tree, &SEVENTEEN);
+    has_pages(&rt, &tree, SEVENTEEN);
     reads_numbers(&rt, alloc, &tree, A, BEHIND_Q);
 }
+
+const ONE_SPLIT: &[Wanted] = &[
+    (0, 0, b"", Some(b"c"), 2, 0),
+    (1, 0, b"c", Some(b"f"), 3, 0),
+    (4, 0, b"f", Some(b"i"), 3, 0),
+    (2, 0, b"i", None, 2, 0),
+    (3, 1, b"", None, 4, 0),
+];
 
 #[test]
 fn of_three_leaves_that_are_due_one_is_split(rt: HostRuntime) {
@@ -148,19 +156,20 @@ fn of_three_leaves_that_are_due_one_is_split(rt: HostRuntime) {
     let mut tree = tree_of(&rt, alloc, A, &[BEHIND_B, BEHIND_H, BEHIND_J]);
     let due = [PageId(0), PageId(1), PageId(2)];
     tidy_does(&rt, alloc, &mut tree, &due, did(0, 1));
-    has_pages(
-        &rt,
-        &tree,
-        &[
-            (0, 0, b"", Some(b"c"), 2, 0),
-            (1, 0, b"c", Some(b"f"), 3, 0),
-            (4, 0, b"f", Some(b"i"), 3, 0),
-            (2, 0, b"i", None, 2, 0),
-            (3, 1, b"", None, 4, 0),
-        ],
-    );
+    has_pages(&rt, &tree, ONE_SPLIT);
     reads_numbers(&rt, alloc, &tree, A, BEHIND_J);
 }
+
+const ROOT_SPLIT: &[Wanted] = &[
+    (0, 0, b"", Some(b"c"), 2, 0),
+    (1, 0, b"c", Some(b"f"), 3, 0),
+    (5, 0, b"f", Some(b"i"), 3, 0),
+    (2, 0, b"i", Some(b"k"), 2, 0),
+    (3, 0, b"k", None, 2, 0),
+    (4, 1, b"", Some(b"f"), 2, 0),
+    (6, 1, b"f", None, 3, 0),
+    (7, 2, b"", None, 2, 0),
+];
 
 #[test]
 fn a_root_with_a_fifth_child_is_split_too(rt: HostRuntime) {
@@ -168,29 +177,18 @@ fn a_root_with_a_fifth_child_is_split_too(rt: HostRuntime) {
     let mut tree = tree_of(&rt, alloc, A, &[BEHIND_B, BEHIND_H, BEHIND_J, BEHIND_L]);
     let due = [PageId(0), PageId(1), PageId(2), PageId(3)];
     tidy_does(&rt, alloc, &mut tree, &due, did(0, 2));
-    has_pages(
-        &rt,
-        &tree,
-        &[
-            (0, 0, b"", Some(b"c"), 2, 0),
-            (1, 0, b"c", Some(b"f"), 3, 0),
-            (5, 0, b"f", Some(b"i"), 3, 0),
-            (2, 0, b"i", Some(b"k"), 2, 0),
-            (3, 0, b"k", None, 2, 0),
-            (4, 1, b"", Some(b"f"), 2, 0),
-            (6, 1, b"f", None, 3, 0),
-            (7, 2, b"", None, 2, 0),
-        ],
-    );
+    has_pages(&rt, &tree, ROOT_SPLIT);
     reads_numbers(&rt, alloc, &tree, A, BEHIND_L);
 }
+
+const FOUR: &[Wanted] = &[(0, 0, b"", None, 4, 0)];
 
 #[test]
 fn a_leaf_of_four_pairs_stays(rt: HostRuntime) {
     let alloc = heap(rt.alloc()).expect(&rt, "memory");
     let mut tree = tree_of(&rt, alloc, A, &[BEHIND_D]);
     tidy_does(&rt, alloc, &mut tree, &[PageId(0), PageId(9)], did(0, 0));
-    has_pages(&rt, &tree, &[(0, 0, b"", None, 4, 0)]);
+    has_pages(&rt, &tree, FOUR);
     reads_numbers(&rt, alloc, &tree, A, BEHIND_D);
 }
 
@@ -236,7 +234,7 @@ fn tidy_refused<R: Abort>(
 fn five_refused<R: Abort>(rt: &R, alloc: Alloc, growth: u64) -> bool {
     let mut tree = tree_of(rt, alloc, A, &[BEHIND_E]);
     let refused = tidy_refused(rt, alloc, &mut tree, growth, BEHIND_E, did(0, 1));
-    has_pages(rt, &tree, &FIVE);
+    has_pages(rt, &tree, FIVE);
     reads_numbers(rt, alloc, &tree, A, BEHIND_E);
     refused
 }
@@ -257,7 +255,7 @@ fn each_growth_of_a_split_leaf_is_refused(rt: HostRuntime) {
 fn seventeen_refused<R: Abort>(rt: &R, alloc: Alloc, growth: u64) -> bool {
     let mut tree = tree_of(rt, alloc, A, &[BEHIND_Q]);
     let refused = tidy_refused(rt, alloc, &mut tree, growth, BEHIND_Q, did(1, 5));
-    has_pages(rt, &tree, &SEVENTEEN);
+    has_pages(rt, &tree, SEVENTEEN);
     reads_numbers(rt, alloc, &tree, A, BEHIND_Q);
     refused
 }
@@ -295,6 +293,8 @@ fn tidied_to_a_refusal<R: Abort>(
     (tidy, due)
 }
 
+const ROOTLESS: &[Wanted] = &[(0, 0, b"", Some(b"c"), 2, 0), (1, 0, b"c", None, 3, 0)];
+
 // Tidies a leaf of five pairs where this growth is refused. Where that leaves two leaves without a root over them, all pairs
 // are read, and tidying again puts it there. Whether it left them so.
 fn root_refused<R: Abort>(rt: &R, alloc: Alloc, growth: u64) -> bool {
@@ -305,14 +305,10 @@ fn root_refused<R: Abort>(rt: &R, alloc: Alloc, growth: u64) -> bool {
         return false;
     }
     assert_equal(rt, (stopped.consolidated, stopped.splits), (0, 1));
-    has_pages(
-        rt,
-        &tree,
-        &[(0, 0, b"", Some(b"c"), 2, 0), (1, 0, b"c", None, 3, 0)],
-    );
+    has_pages(rt, &tree, ROOTLESS);
     reads_all(rt, alloc, &tree);
     assert_equal(rt, tidy_due(&mut tree, &limits, &mut due), did(0, 0));
-    has_pages(rt, &tree, &FIVE);
+    has_pages(rt, &tree, FIVE);
     reads_all(rt, alloc, &tree);
     true
 }

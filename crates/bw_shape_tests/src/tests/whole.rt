@@ -14,7 +14,7 @@ use bw_shape::{Did, Limits, PageId, Tidy, Tree, tidy};
 use std::process::Abort;
 
 // What the pairs of the 17 keys from `a` to `q` become, where they were split into 8, 4 and 5 before.
-const PARTED: [Wanted; 8] = [
+const PARTED: &[Wanted] = &[
     (0, 0, b"", Some(b"e"), 4, 0),
     (4, 0, b"e", Some(b"i"), 4, 0),
     (1, 0, b"i", Some(b"m"), 4, 0),
@@ -26,7 +26,7 @@ const PARTED: [Wanted; 8] = [
 ];
 
 // Where the leaves of nine letters end.
-const NINE: [u16; 9] = [
+const NINE: &[u16] = &[
     A + 1,
     A + 2,
     A + 3,
@@ -39,7 +39,7 @@ const NINE: [u16; 9] = [
 ];
 
 // What nine leaves of one pair under one root become: the root parts into four and five, and the five into two and three.
-const UNDER_THREE: [Wanted; 13] = [
+const UNDER_THREE: &[Wanted] = &[
     (0, 0, b"", Some(b"b"), 1, 0),
     (1, 0, b"b", Some(b"c"), 1, 0),
     (2, 0, b"c", Some(b"d"), 1, 0),
@@ -56,7 +56,7 @@ const UNDER_THREE: [Wanted; 13] = [
 ];
 
 // What five pairs become where the first leaf and the page above it were split, and that page once more.
-const NAMED: [Wanted; 7] = [
+const NAMED: &[Wanted] = &[
     (0, 0, b"", Some(b"b"), 1, 0),
     (5, 0, b"b", Some(b"c"), 1, 0),
     (1, 0, b"c", None, 3, 0),
@@ -68,7 +68,7 @@ const NAMED: [Wanted; 7] = [
 
 // What those become where inner pages have two children at least: the second and the third one go into the first one, which
 // is the root then.
-const MERGED: [Wanted; 4] = [
+const MERGED: &[Wanted] = &[
     (0, 0, b"", Some(b"b"), 1, 0),
     (5, 0, b"b", Some(b"c"), 1, 0),
     (1, 0, b"c", None, 3, 0),
@@ -88,10 +88,10 @@ fn all_pages_are_tidied_and_then_nothing_is_left(rt: HostRuntime) {
     let alloc = heap(rt.alloc()).expect(&rt, "memory");
     let mut tree = five(&rt, alloc);
     tidy_does(&rt, &mut tree, did(0, 1));
-    has_pages(&rt, &tree, &FIVE);
+    has_pages(&rt, &tree, FIVE);
     reads_all(&rt, alloc, &tree);
     tidy_does(&rt, &mut tree, did(0, 0));
-    has_pages(&rt, &tree, &FIVE);
+    has_pages(&rt, &tree, FIVE);
 }
 
 #[test]
@@ -99,7 +99,7 @@ fn all_pages_are_tidied_level_by_level(rt: HostRuntime) {
     let alloc = heap(rt.alloc()).expect(&rt, "memory");
     let mut tree = tree_of(&rt, alloc, A, &[BEHIND_Q]);
     tidy_does(&rt, &mut tree, did(1, 5));
-    has_pages(&rt, &tree, &SEVENTEEN);
+    has_pages(&rt, &tree, SEVENTEEN);
     reads_numbers(&rt, alloc, &tree, A, BEHIND_Q);
 }
 
@@ -109,7 +109,7 @@ fn a_split_root_gets_a_root_above_it(rt: HostRuntime) {
     let mut tree = five(&rt, alloc);
     split_does(&rt, &mut tree, 0, 2, Did::Done);
     tidy_does(&rt, &mut tree, did(0, 0));
-    has_pages(&rt, &tree, &FIVE);
+    has_pages(&rt, &tree, FIVE);
     reads_all(&rt, alloc, &tree);
 }
 
@@ -120,16 +120,16 @@ fn each_split_that_was_left_is_finished(rt: HostRuntime) {
     split_does(&rt, &mut tree, 0, 8, Did::Done);
     split_does(&rt, &mut tree, 1, 4, Did::Done);
     tidy_does(&rt, &mut tree, did(1, 3));
-    has_pages(&rt, &tree, &PARTED);
+    has_pages(&rt, &tree, PARTED);
     reads_numbers(&rt, alloc, &tree, A, BEHIND_Q);
 }
 
 #[test]
 fn a_root_over_nine_leaves_parts(rt: HostRuntime) {
     let alloc = heap(rt.alloc()).expect(&rt, "memory");
-    let mut tree = tree_of(&rt, alloc, A, &NINE);
+    let mut tree = tree_of(&rt, alloc, A, NINE);
     tidy_does(&rt, &mut tree, did(0, 2));
-    has_pages(&rt, &tree, &UNDER_THREE);
+    has_pages(&rt, &tree, UNDER_THREE);
     reads_numbers(&rt, alloc, &tree, A, A + 9);
 }
 
@@ -159,7 +159,7 @@ fn a_split_inner_page_that_was_left_is_named(rt: HostRuntime) {
     tidy_does(&rt, &mut tree, did(0, 0));
     let behind = [FLOOR + 2, 1, FLOOR + 4, 3, FLOOR + 5, 5, 6];
     stands(&rt, alloc, &tree, 4, &behind);
-    has_pages(&rt, &tree, &NAMED);
+    has_pages(&rt, &tree, NAMED);
     finish_does(&rt, &mut tree, 2, Did::NotNeeded);
 }
 
@@ -174,12 +174,12 @@ fn inner_pages_of_one_child_are_merged_where_two_are_the_least(rt: HostRuntime) 
         ..did(0, 0)
     };
     assert_equal(&rt, tidy(&mut tree, &limits), wanted);
-    has_pages(&rt, &tree, &MERGED);
+    has_pages(&rt, &tree, MERGED);
     assert_equal(&rt, tree.root(), PageId(2));
     assert_equal(&rt, tree.heads().len(), 6);
     reads_all(&rt, alloc, &tree);
     assert_equal(&rt, tidy(&mut tree, &limits), did(0, 0));
-    has_pages(&rt, &tree, &MERGED);
+    has_pages(&rt, &tree, MERGED);
 }
 
 // Tidies a tree of 17 pairs where this growth is refused, and where it was, once more. The pages come out as they do without

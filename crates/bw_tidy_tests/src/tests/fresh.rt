@@ -40,10 +40,10 @@ fn gets<R: Abort>(rt: &R, make: &Maker<R>) -> Vec<Op, Alloc> {
 }
 
 // How many pages leaves of 64 make, from the leaves up.
-const OF_64: [usize; 3] = [1024, 16, 1];
+const OF_64: &[usize] = &[1024, 16, 1];
 
 // How many pages leaves of four make.
-const OF_FOUR: [usize; 8] = [16384, 4096, 1024, 256, 64, 16, 4, 1];
+const OF_FOUR: &[usize] = &[16384, 4096, 1024, 256, 64, 16, 4, 1];
 
 // How many splits make so many pages, from the leaves up: each page but the first of its level came of one.
 fn count_splits(levels: &[usize]) -> u64 {
@@ -174,18 +174,18 @@ fn compare<R: Abort + Threads + Sync>(rt: &R, make: &Maker<R>, page_max: u64, le
 #[test]
 fn new_keys_make_leaves_of_64(rt: HostRuntime) {
     let make = Maker::new(&rt, rt.alloc());
-    compare(&rt, &make, 64, &OF_64);
+    compare(&rt, &make, 64, OF_64);
 }
 
 #[test]
 fn new_keys_make_leaves_of_four(rt: HostRuntime) {
     let make = Maker::new(&rt, rt.alloc());
-    compare(&rt, &make, 4, &OF_FOUR);
+    compare(&rt, &make, 4, OF_FOUR);
 }
 
 #[test]
 fn new_keys_are_found_on_leaves_of_four(rt: HostRuntime) {
     let make = Maker::new(&rt, rt.alloc());
-    let mut index = full(&rt, &make, 4, &OF_FOUR);
+    let mut index = full(&rt, &make, 4, OF_FOUR);
     find_all(&rt, &mut index, &gets(&rt, &make));
 }

@@ -12,7 +12,7 @@ type Wanted = (u32, u32, usize);
 
 // What is there behind the sweep: the leaves 1 and 4 with five pairs have parted from left to right, and the page above them,
 // which had four children before, has parted behind them.
-const ALIKE: [Wanted; 9] = [
+const ALIKE: &[Wanted] = &[
     (0, 0, 3),
     (3, 0, 3),
     (1, 0, 2),
@@ -25,7 +25,7 @@ const ALIKE: [Wanted; 9] = [
 ];
 
 // The same for the leaves 3 and 1, which stand in this order: the new page of the left one, 3, has the lower identifier.
-const TURNED: [Wanted; 9] = [
+const TURNED: &[Wanted] = &[
     (0, 0, 3),
     (3, 0, 2),
     (5, 0, 3),
@@ -84,11 +84,11 @@ fn sweep<R: Abort + Threads + Sync>(rt: &R, make: &Maker<R>, more: &[u8], pages:
 #[test]
 fn leaves_are_looked_at_before_inner_pages(rt: HostRuntime) {
     let make = Maker::new(&rt, rt.alloc());
-    sweep(&rt, &make, &[71, 72, 101, 102], &ALIKE);
+    sweep(&rt, &make, &[71, 72, 101, 102], ALIKE);
 }
 
 #[test]
 fn leaves_are_looked_at_in_the_order_of_keys(rt: HostRuntime) {
     let make = Maker::new(&rt, rt.alloc());
-    sweep(&rt, &make, &[41, 42, 71, 72], &TURNED);
+    sweep(&rt, &make, &[41, 42, 71, 72], TURNED);
 }

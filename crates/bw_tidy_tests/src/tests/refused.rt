@@ -10,9 +10,12 @@ use bw_tree::PageShape;
 use std::process::Abort;
 use std::thread::Threads;
 
-// An empty index of small pages: one write in a chain, and four pairs.
-fn small_pages<R: Abort>(rt: &R, make: &Maker<R>) -> Index {
-    let options = Options::new(4, 1, 1, 4, 1, 65536, 1048576).expect(rt, "options");
+// Small pages: one write in a chain, and four pairs.
+fn small<R: Abort>(rt: &R) -> Options {
+    Options::new(4, 1, 1, 4, 1, 65536, 1048576).expect(rt, "options")
+}
+
+fn empty_index<R: Abort>(rt: &R, make: &Maker<R>, options: Options) -> Index {
     Index::new(make.alloc, options).expect(rt, "an index")
 }
 
@@ -113,7 +116,7 @@ fn is_refused<R: Abort + Threads + Sync>(
     did: Tidy,
     growth: u64,
 ) -> bool {
-    let mut index = small_pages(rt, make);
+    let mut index = empty_index(rt, make, small(rt));
     let inserted = insert_refused(rt, make, &mut index, row, growth);
     let behind = run(rt, &mut index, &row.reads);
     assert_equal(rt, both(inserted.tidy, behind), did);
@@ -134,10 +137,11 @@ fn has_written<R: Abort>(rt: &R, make: &Maker<R>, index: &Index, row: &Row) {
 fn is_refused_before_writes<R: Abort + Threads + Sync>(
     rt: &R,
     make: &Maker<R>,
+    options: Options,
     row: &Row,
     growth: u64,
 ) -> bool {
-    let mut index = small_pages(rt, make);
+    let mut index = empty_index(rt, make, options);
     let inserted = insert_refused(rt, make, &mut index, row, growth);
     run(rt, &mut index, &row.writes);
     has_written(rt, make, &index, row);
@@ -152,7 +156,7 @@ fn pages<R: Abort + Threads + Sync>(
     row: &Row,
     did: Tidy,
 ) -> Vec<PageShape, Alloc> {
-    let mut index = small_pages(rt, make);
+    let mut index = empty_index(rt, make, small(rt));
     let inserted = insert(rt, &mut index, row);
     assert_that(rt, !inserted.refused);
     assert_equal(rt, inserted.tidy, did);
@@ -168,7 +172,7 @@ fn refuse_in_turn<R: Abort + Threads + Sync>(rt: &R, make: &Maker<R>, last: u8, 
         let refused = is_refused(rt, make, &row, &wanted, did, growth);
         assert_equal(
             rt,
-            is_refused_before_writes(rt, make, &row, growth),
+            is_refused_before_writes(rt, make, small(rt), &row, growth),
             refused,
         );
         if !refused {
@@ -207,4 +211,24 @@ fn pages_of_five_letters_come_to_be_the_same(rt: HostRuntime) {
 fn pages_of_seventeen_letters_come_to_be_the_same(rt: HostRuntime) {
     let make = Maker::new(&rt, rt.alloc());
     refuse_in_turn(&rt, &make, b'q', SEVENTEEN);
+}
+
+// The same with leaves consolidated beside the posting, for which tidying has less to do.
+fn refuse_beside<R: Abort + Threads + Sync>(rt: &R, make: &Maker<R>, last: u8) {
+    let row = Row::new(rt, make, last);
+    let options = small(rt).with_beside(true);
+    for growth in 1..1000 {
+        if !is_refused_before_writes(rt, make, options, &row, growth) {
+            assert_that(rt, growth > 20);
+            return;
+        }
+    }
+    panic!(rt; "no batch met no refusal");
+}
+
+#[test]
+fn pages_of_letters_are_within_the_limits_beside_consolidations(rt: HostRuntime) {
+    let make = Maker::new(&rt, rt.alloc());
+    refuse_beside(&rt, &make, b'e');
+    refuse_beside(&rt, &make, b'q');
 }

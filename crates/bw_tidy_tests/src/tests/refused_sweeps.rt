@@ -106,9 +106,9 @@ fn is_refused<R: Abort + Threads + Sync>(
     rt: &R,
     make: &Maker<R>,
     alloc: Alloc,
+    options: Options,
     growth: u64,
 ) -> bool {
-    let options = Options::new(4, 1, 8, 64, 16, 3, 3).expect(rt, "options");
     let mut index = Index::new(alloc, options).expect(rt, "an index");
     let mut seen = 0u64;
     alloc.refuse(growth);
@@ -123,15 +123,37 @@ fn is_refused<R: Abort + Threads + Sync>(
     refused
 }
 
-#[test]
-fn batches_meet_each_refusal_and_so_do_their_sweeps(rt: HostRuntime) {
-    let make = Maker::new(&rt, rt.alloc());
-    let alloc = heap(rt.alloc()).expect(&rt, "a heap");
+// So many writes in a chain, and a sweep before each batch behind which there is a record.
+fn swept<R: Abort>(rt: &R, chain: u64) -> Options {
+    Options::new(4, 1, chain, 64, 16, 3, 3).expect(rt, "options")
+}
+
+// Refuses each growth in turn, on a heap of its own.
+fn refuse_in_turn<R: Abort + Threads + Sync>(
+    rt: &R,
+    make: &Maker<R>,
+    alloc: Alloc,
+    options: Options,
+) {
     for growth in 1..1000 {
-        if !is_refused(&rt, &make, alloc, growth) {
-            assert_that(&rt, growth > 20);
+        if !is_refused(rt, make, alloc, options, growth) {
+            assert_that(rt, growth > 20);
             return;
         }
     }
     panic!(rt; "no run met no refusal");
+}
+
+#[test]
+fn batches_meet_each_refusal_and_so_do_their_sweeps(rt: HostRuntime) {
+    let make = Maker::new(&rt, rt.alloc());
+    let alloc = heap(rt.alloc()).expect(&rt, "a heap");
+    refuse_in_turn(&rt, &make, alloc, swept(&rt, 8));
+}
+
+#[test]
+fn sweeps_before_consolidations_beside_posting_meet_each_refusal(rt: HostRuntime) {
+    let make = Maker::new(&rt, rt.alloc());
+    let alloc = heap(rt.alloc()).expect(&rt, "a heap");
+    refuse_in_turn(&rt, &make, alloc, swept(&rt, 2).with_beside(true));
 }

@@ -8,7 +8,7 @@ use bw_tree::{PageId, Staged, Tree};
 use std::process::Abort;
 
 // What the three leaves hold, and two keys that are in none.
-const AT_FIRST: [(&[u8], Option<&[u8]>); 6] = [
+const AT_FIRST: &[(&[u8], Option<&[u8]>)] = &[
     (b"a", Some(b"1")),
     (b"b", Some(b"2")),
     (b"c", Some(b"3")),
@@ -22,7 +22,7 @@ fn three_leaves_have_a_root_behind_them(rt: HostRuntime) {
     let alloc = heap(&rt, rt.alloc());
     let tree = Tree::from_level(alloc, leaves(&rt, alloc, b"3")).expect(&rt, "memory");
     stands(&rt, &tree, 3, &[0, 1, 2, 3], 0);
-    has(&rt, alloc, &tree, 0, &AT_FIRST);
+    has(&rt, alloc, &tree, 0, AT_FIRST);
 }
 
 const HOMES: &[(&[u8], u32)] = &[
@@ -92,14 +92,14 @@ fn a_staged_batch_is_undone(rt: HostRuntime) {
         },
     );
     stands(&rt, &tree, 3, &[0, 1, 2, 3], 2);
-    has(&rt, alloc, &tree, 2, &AT_FIRST);
+    has(&rt, alloc, &tree, 2, AT_FIRST);
 
     alloc.refuse(1);
     tree.undo();
     assert_equal(&rt, alloc.left(), 1);
     alloc.refuse(0);
     stands(&rt, &tree, 3, &[0, 1, 2, 3], 0);
-    has(&rt, alloc, &tree, 2, &AT_FIRST);
+    has(&rt, alloc, &tree, 2, AT_FIRST);
     assert_equal(&rt, tree.stage(&batch(&rt, alloc)), Ok(staged));
 }
 
@@ -169,5 +169,5 @@ fn undo_without_a_batch_changes_nothing(rt: HostRuntime) {
     let mut tree = three_leaves(&rt, alloc);
     tree.undo();
     stands(&rt, &tree, 3, &[0, 1, 2, 3], 0);
-    has(&rt, alloc, &tree, 0, &AT_FIRST);
+    has(&rt, alloc, &tree, 0, AT_FIRST);
 }

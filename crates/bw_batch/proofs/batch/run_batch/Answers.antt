@@ -1,8 +1,8 @@
 use Rattle.std.proofs.Common.{◌≡◌, ◌≤◌, ◌+◌, ℕ, List, length, sym, ap, take, subst, ◌∙◌}
-use Rattle.bw_core.specs.Keeping.{pairs_of}
 use Rattle.bw_model.specs.Model.{contents_after, replies_of}
 use Rattle.bw_model.specs.declared.operations.Op.{Op}
 use Rattle.bw_look.specs.View.{TreeView, contents_with, staged_writes}
+use Rattle.bw_batch.specs.Settings.{most_lost}
 use Rattle.bw_batch.proofs.BatchLemmas.{accepted_as, first_read, reads_on}
 use Rattle.bw_batch.proofs.DueLemmas.{within_batch}
 use Rattle.bw_batch.proofs.LeavesLemmas.{batch_leaves}
@@ -20,7 +20,7 @@ returns-in-Ok-clause-replies g c =
     ∙ ap (replies_of c.args.ops.now) (first_read c.args.tree.now c.stage.new.self c.args.ops.now c.in_ok-stage.ensures.ok c.in_ok-stage.ensures.reads)
 
 pub returns-in-Ok-clause-lost : goal.returns-in-Ok-clause-lost
-returns-in-Ok-clause-lost g c = subst (λ n. c.in-Ok.answered.lost ≤ pairs_of n) (ap (λ (t : TreeView). length (staged_writes t.staged)) c.in_ok-stage.ensures.ok) c.in-Ok.ensures.lost
+returns-in-Ok-clause-lost g c = subst (λ n. c.in-Ok.answered.lost ≤ most_lost c.args.options.now n) (ap (λ (t : TreeView). length (staged_writes t.staged)) c.in_ok-stage.ensures.ok) c.in-Ok.ensures.lost
 
 pub returns-in-Ok-clause-contents : goal.returns-in-Ok-clause-contents
 returns-in-Ok-clause-contents g c =

@@ -1,5 +1,5 @@
-use Rattle.std.proofs.Common.{arith, sym, subst, refl, add-one, ◌∙◌, ◌+◌}
-use Rattle.bw_batch.proofs.LenLemmas.{counted_all, counting_next, len_behind_most}
+use Rattle.std.proofs.Common.{arith}
+use Rattle.bw_batch.proofs.LenLemmas.{counting_next, len_behind_most}
 use Rattle.bw_batch.proofs.key_counts.len_after.Goals as goal
 
 pub loop-place-preserved : goal.loop-place-preserved

@@ -14,5 +14,6 @@ returns c =
     ∙ ap (on_top (λ s. record s { has_version = true })) (ap app_of_fields c.after_help.ensures ∙ ap app_of_fields c.about.ensures ∙ c.new.ensures.app)) in
     let one = c.in_ok-arg.ensures.shape c.job_argument.ensures.local ∙ ap₂ with_rule start_is c.job_argument.ensures.rule.1 in
     let two = c.in_ok-arg-2.ensures.shape c.file_argument.ensures.local ∙ ap₂ with_rule one c.file_argument.ensures.rule in
-    let three = c.in_ok-command.ensures.shape c.flag.ensures.local ∙ ap₂ with_rule two c.flag.ensures.rule in
-    IfOk-weaker c.with_limits.result _ _ (λ command is. (c.job_argument.ensures.rule.0, is ∙ ap (λ (a : App). fold with_rule a number_rules) three)) c.with_limits.ensures
+    let three = c.in_ok-arg-3.ensures.shape c.flag.ensures.local ∙ ap₂ with_rule two c.flag.ensures.rule in
+    let four = c.in_ok-command.ensures.shape c.flag-2.ensures.local ∙ ap₂ with_rule three c.flag-2.ensures.rule in
+    IfOk-weaker c.with_limits.result _ _ (λ command is. (c.job_argument.ensures.rule.0, is ∙ ap (λ (a : App). fold with_rule a number_rules) four)) c.with_limits.ensures

@@ -12,5 +12,5 @@ invariant-loop-ops g l = record {
   room : length l.batches ≤ vec_capacity l.outcomes;
   count : vec_len l.outcomes ≡ l.ops-index;
   changes : ChangesInTurn l.fn.self l.self (batches_of (take l.ops-index l.batches)) l.outcomes.items;
-  besides : AreCounted (batches_of (take l.ops-index l.batches)) l.outcomes.items;
+  besides : AreCounted (settings_of l.fn.self) (batches_of (take l.ops-index l.batches)) l.outcomes.items;
 }
