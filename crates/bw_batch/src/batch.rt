@@ -22,7 +22,7 @@ use bw_shape::{Due, PageId};
 use bw_tree::Tree;
 use std::thread::Threads;
 
-/// The replies to a batch, how many exchanges its posting lost, and how many leaves took the places of their chains beside it.
+/// The replies to a batch, how many exchanges its posting lost, and how many leaves were replaced beside it.
 #[derive(Drop)]
 pub(crate) struct Answered {
     pub(crate) replies: Replies,
@@ -31,7 +31,8 @@ pub(crate) struct Answered {
 }
 
 /// Runs a batch on a tree, whose replies are those of one thread that runs its operations in order on an ordered map. The
-/// pages that it changes are due then, behind those that are due already. After `Memory` all is as before.
+/// pages to which it posts are due then, behind those that are due already: all its pages, where leaves could be consolidated
+/// beside that. After `Memory` all is as before.
 pub(crate) fn run_batch<R: Threads + Sync, G: Gate>(
     rt: &R,
     alloc: Alloc,
@@ -114,11 +115,11 @@ fn answer_staged<R: Threads + Sync, G: Gate>(
         folded,
     } = post(rt, alloc, tree, batch, options, gate)?;
     let replaced = folded.len() as u64;
-    let changed = Vec::from_slice(alloc, &pages)?;
+    let posted = Vec::from_slice(alloc, &pages)?;
     tree.adopt_folded(pages, closed, folded);
     let base = tree.next_stamp();
     let replies = replies(rt, alloc, tree, base, batch, &homes, workers)?;
-    add_changed(due, tree, changed)?;
+    add_posted(due, tree, posted)?;
     Ok(Answered {
         replies,
         lost,
@@ -151,8 +152,9 @@ fn post<R: Threads + Sync, G: Gate>(
     post_all(rt, alloc, tree, batch, piece, workers, gate)
 }
 
-// These pages are due too. A batch of reads changed none, unless leaves were consolidated beside it, and takes no memory then.
-fn add_changed(due: &mut Due, tree: &Tree, pages: Vec<PageId, Alloc>) -> Result<(), Memory>
+// These pages are due too, to which records were posted or could have been. A batch of reads has none, and takes no memory
+// then, unless leaves could be consolidated beside it.
+fn add_posted(due: &mut Due, tree: &Tree, pages: Vec<PageId, Alloc>) -> Result<(), Memory>
     ensures ok { OnOk result (HasBoth pages.entry.items due.old.pages due.new.pages) }
     ensures err { OnErr result (due.new ≡ due.old) }
 {

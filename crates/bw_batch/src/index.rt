@@ -29,7 +29,7 @@ pub struct Done {
     pub replies: Replies,
     /// What tidying behind the batch did.
     pub tidy: Tidy,
-    /// How many exchanges the workers lost to one another while they posted.
+    /// How many exchanges the workers lost while they posted, to one another's records or to leaves that were replaced.
     pub lost: u64,
     /// How many leaves were consolidated beside the posting, and took the places of their chains.
     pub replaced: u64,
@@ -159,9 +159,10 @@ impl Index {
     /// the batch it consolidates every page that has records, and starts records and stamps over.
     ///
     /// The writes are posted by up to `workers` threads side by side, which `rt` starts, and `gate` is called round the
-    /// posting of each. They are numbered in the order of the batch, from 0. The replies are made in up to `workers` parts
-    /// side by side. Then the pages that the batch wrote to are tidied, and those that an earlier stop left: where no memory
-    /// is left for it, the rest of them stay due.
+    /// posting of each. They are numbered in the order of the batch, from 0. Where the options ask for it
+    /// (`Options::with_beside`), leaves of the batch are consolidated beside that. The replies are made in up to `workers`
+    /// parts side by side. Then the pages that the batch wrote to are tidied, or with consolidation beside the posting all
+    /// its pages, and those that an earlier stop left: where no memory is left for it, the rest of them stay due.
     pub fn run<R: Threads + Sync, G: Gate>(
         &mut self,
         rt: &R,

@@ -5,9 +5,10 @@
 //! is printed. `run` times batches of one kind, as its options say; `time` those of all kinds over 10,000 keys and
 //! 1,000,000, `small` batches of 1, 8, 64 and 1,024 operations, `insert` an empty index and an empty map that get
 //! 1,048,576 keys, rising ones and scattered ones, and `drain` both as they lose as many. `beside` times an index by
-//! itself, with and without leaves that are consolidated beside the posting. What is printed is nanoseconds an operation, of the batch whose time is in the middle and of all batches together, index / map, and the
-//! ratio. `bytes` prints how many bytes a key the index and the map have in use. `picture` writes what `run` times as
-//! an SVG text, over several numbers of workers, operations of a batch or keys.
+//! itself, with and without leaves that are consolidated beside the posting. What is printed is nanoseconds an
+//! operation, of the batch whose time is in the middle and of all batches together, index / map, and the ratio. `bytes`
+//! prints how many bytes a key the index and the map have in use. `picture` writes what `run` times as an SVG text,
+//! over several numbers of workers, operations of a batch or keys.
 #![tactic(auto)]
 
 ghost use Rattle.std.specs.Prelude.{◌≡◌, ◌<◌, IfOk};
@@ -333,6 +334,9 @@ fn print_run<R: Threads + Clock + Sync + Print>(
         "{keys} keys, {draw}, {workers} workers, {batches} batches of {batch} {words}, seed {seed}:"
     )?;
     print_times(rt, &mut runs, batch)?;
+    if request.beside {
+        println!(rt; "    {} leaves replaced", runs.replaced)?;
+    }
     print_rate(rt, &runs, batch)
 }
 

@@ -204,7 +204,7 @@ fn program<'a>(global: Global) -> Result<Command<'a>, AllocError>
 {
     let stats = "Tell on standard error how much was run, and how fast";
     let beside =
-        "Let the workers consolidate leaves before they post: for many workers, and keys that come back";
+        "Let workers consolidate leaves before they post: pays a little where writes spread over many leaves";
     let command = Command::new(global, "bw_run")
         .about(ABOUT)
         .after_help(AFTER)

@@ -69,9 +69,9 @@ leaf_with_writes tree p lawful stand some = by (slot_at tree.slots p) refl some
     by (Gone l) is writes = absurd (empty 0 writes)
     by Free is writes = absurd (empty 0 writes)
 
-pub pages_spared : (tree : TreeView) (homes pages : List ℕ) (given : List (Option ℕ)) (chain_max : ℕ) → ArePages tree homes → pages ≡ homes → given ≡ map (spare_of tree chain_max) pages → AreLevels tree.slots tree.root tree.levels → AllStand tree.slots tree.levels →
+pages_listed : (tree : TreeView) (homes pages : List ℕ) (given : List (Option ℕ)) (chain_max : ℕ) → ArePages tree homes → pages ≡ homes → given ≡ map (spare_of tree chain_max) pages → AreLevels tree.slots tree.root tree.levels → AllStand tree.slots tree.levels →
     ((p : ℕ) → slice_index tree.heads p < 2 ^ 32 → writes_over (slot_at tree.slots p) ≡ []) → length tree.heads ≤ 2 ^ 32 → ArePostedPages tree homes pages given
-pages_spared tree homes pages given chain_max are same made lawful stand bare few = record {
+pages_listed tree homes pages given chain_max are same made lawful stand bare few = record {
   are = subst (ArePages tree) (sym same) are;
   written = λ some. same;
   spare = λ number spare e. (
@@ -87,3 +87,12 @@ pages_spared tree homes pages given chain_max are same made lawful stand bare fe
     high : (p : ℕ) → 0 < length (writes_over (slot_at tree.slots p)) → (slice_index tree.heads p < 4294967296) ⊎ (4294967296 ≤ slice_index tree.heads p) → 2 ^ 32 ≤ slice_index tree.heads p
     high p some (inl lt) = absurd (omega (arith, some, ap (λ (l : List WriteView). length l) (bare p (omega (arith, lt)))))
     high p some (inr ge) = omega (arith, ge)
+
+pub pages_spared : (tree : TreeView) (homes pages : List ℕ) (given : List (Option ℕ)) (chain_max : ℕ) → ArePages tree homes → pages ≡ homes → (given ≡ []) ⊎ (given ≡ map (spare_of tree chain_max) pages) → AreLevels tree.slots tree.root tree.levels → AllStand tree.slots tree.levels →
+    ((p : ℕ) → slice_index tree.heads p < 2 ^ 32 → writes_over (slot_at tree.slots p) ≡ []) → length tree.heads ≤ 2 ^ 32 → ArePostedPages tree homes pages given
+pages_spared tree homes pages given chain_max are same (inl none) lawful stand bare few = record {
+  are = subst (ArePages tree) (sym same) are;
+  written = λ some. same;
+  spare = λ number spare e. absurd (no_number (sym (ap (λ (l : List (Option ℕ)). slice_index_or l number None) none) ∙ e));
+}
+pages_spared tree homes pages given chain_max are same (inr made) lawful stand bare few = pages_listed tree homes pages given chain_max are same made lawful stand bare few

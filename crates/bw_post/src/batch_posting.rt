@@ -1,7 +1,8 @@
 // Posting the records of a staged batch to the pages of their keys.
-ghost use Rattle.std.specs.Prelude.{◌≡◌, ◌+◌, ◌<◌, ◌≤◌, [], length, IfOk};
+ghost use Rattle.std.specs.Prelude.{◌≡◌, ◌⊎◌, ◌+◌, ◌<◌, ◌≤◌, [], length, map, IfOk};
 ghost use Rattle.std.specs.List.{AllByRecursion};
 ghost use Rattle.bw_core.specs.Keeping.{pairs_of};
+ghost use Rattle.bw_look.specs.Folding.{spare_of};
 ghost use Rattle.bw_look.specs.View.{staged_writes};
 ghost use Rattle.bw_tree.specs.Words.{ArePages, IsPostedStageOn, words_of};
 ghost use Rattle.bw_group.specs.Homes.{AreHomes};
@@ -22,11 +23,12 @@ use std::thread::Threads;
 pub struct Posting {
     /// The pages of the batch's keys.
     pub homes: Homes,
-    /// Those over whose words the records were posted: all of them, or none where the batch has no write.
+    /// Those over whose words the records were posted: all of them. Of a batch without writes there are none, unless it was
+    /// posted by `post_beside`.
     pub pages: Vec<PageId, Alloc>,
     /// Their words, in their order, and the links of the records.
     pub closed: Closed,
-    /// How many exchanges the workers lost to one another.
+    /// How many exchanges the workers lost, to one another's records or to leaves that took the places of chains.
     pub lost: u64,
     /// The leaves that the workers put in the places of their pages' chains.
     pub folded: Vec<Folded, Alloc>,
@@ -68,11 +70,13 @@ pub fn post_all<R: Threads + Sync, G: Gate>(
     post_over(rt, alloc, tree, homes, pages, &[], piece, workers, gate)
 }
 
-/// The same, where each worker first consolidates leaves of the batch's pages whose chains have at least half as many writes as
-/// `chain_max`, and offers them in the places of these chains: the worker with number i of n those of the pages i, i + n and so
-/// on. A leaf that finds no memory is left out, and so is one to whose page another worker posted before.
+/// The same, over a board of all pages of the batch, where leaves of these pages whose chains have at least half as many writes
+/// as `chain_max` are consolidated. Before it claims, the worker with number i of n takes those among the pages i, i + n and so
+/// on, and offers each in the place of its chain. There are no more workers than there are pieces, or such leaves. A leaf that
+/// finds no memory is left out, and so is one to whose page another worker posted before.
 ///
 /// It costs what `post_all` does, a walk along the chain of each page of the batch, and for each such leaf a copy of its pairs.
+/// `Memory` is answered, too, where the lists of the pages, of their spares or of all leaves find none.
 pub fn post_beside<R: Threads + Sync, G: Gate>(
     rt: &R,
     alloc: Alloc,
@@ -96,7 +100,7 @@ pub fn post_beside<R: Threads + Sync, G: Gate>(
     tree.know_records();
     let homes = find_homes(alloc, tree, batch)?;
     let pages = Vec::from_slice(alloc, homes.pages())?;
-    let spares = tree.spare_on(&pages, chain_max)?;
+    let spares = ripe_spares(tree, &pages, chain_max)?;
     post_over(rt, alloc, tree, homes, pages, &spares, piece, workers, gate)
 }
 
@@ -130,7 +134,8 @@ fn post_over<R: Threads + Sync, G: Gate>(
     let staged = tree.staged().unwrap();
     let heads = heads_of(alloc, tree, &pages)?;
     let (board, seat) = Board::open(alloc, &heads, staged.floor, staged.records, piece, spares)?;
-    let tasks = staged.records.div_ceil(piece).max(spares.len() as u64);
+    let ripe = spares.iter().filter(|spare| spare.is_some()).count() as u64;
+    let tasks = staged.records.div_ceil(piece).max(ripe);
     let mut crew = seat_workers(alloc, &board, seat, workers.min(tasks) as usize)?;
     post_side_by_side(rt, tree, &homes, &board, spares, gate, &mut crew);
     let Worker { seat, lost, folded } = join_workers(tree, &homes, &board, crew)?;
@@ -142,6 +147,23 @@ fn post_over<R: Threads + Sync, G: Gate>(
         lost,
         folded,
     })
+}
+
+// The spares of these pages, or none at all where no leaf among them has one.
+fn ripe_spares(
+    tree: &Tree,
+    pages: &[PageId],
+    chain_max: u64,
+) -> Result<Vec<Option<u64>, Alloc>, Memory>
+    requires { AllByRecursion (λ p. p < length tree.now.heads) pages.now }
+    ensures { IfOk result (λ spares. (spares.items ≡ [])
+        ⊎ (spares.items ≡ map (spare_of tree.now chain_max) pages.now)) }
+{
+    let mut spares = tree.spare_on(pages, chain_max)?;
+    if spares.iter().all(|spare| spare.is_none()) {
+        spares.clear();
+    }
+    Ok(spares)
 }
 
 // The pages to which so many records are posted: a batch of reads posts to none.

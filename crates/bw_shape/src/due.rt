@@ -14,7 +14,7 @@ use bw_steps::{finish_absorb, grow_root, name_rights, release_run};
 use bw_tree::Tree;
 use std::marker::Model;
 
-/// The pages that are due: those that a batch has written, and those that tidying didn't come to.
+/// The pages that are due: those of a batch, and those that tidying didn't come to.
 #[derive(Drop)]
 pub struct Due {
     // the next one last, so that what a split adds is looked at next

@@ -1,11 +1,11 @@
 // Leaves that workers consolidate beside the posting of a batch.
-use super::running::{Row, answers, ops_of, run};
+use super::running::{Row, WORKERS, answers, have_replies, holds, ops_of, run, working_beside};
 use super::trees::{Listed, has_pages, insert};
-use crate::tests::assertions::assert_equal;
-use bw_batch::{Index, OpenGate, Options};
+use crate::tests::assertions::{assert_equal, assert_that};
+use bw_batch::{Done, Index, Op, OpenGate, Options, Refusal};
 use bw_fixtures::TextOp::{Get, Upsert};
 use bw_fixtures::TextReply::{Absent, Found, New, Was};
-use bw_fixtures::heap;
+use bw_fixtures::{heap, was_refused};
 use bw_memory::Alloc;
 use std::process::Abort;
 use std::thread::Threads;
@@ -89,4 +89,92 @@ fn a_leaf_that_has_no_key_of_the_batch_stays(rt: HostRuntime) {
     insert(&rt, alloc, &mut index, 5);
     run_beside(&rt, alloc, &mut index, ENDS, 0, BOTH_WRITTEN);
     run_beside(&rt, alloc, &mut index, LEFT_READ, 1, LEFT_REPLACED);
+}
+
+// A write to each of the five leaves of seventeen letters, and a read of each.
+const WRITES: &[Row] = &[
+    (Upsert("a", "1"), Was("a")),
+    (Upsert("e", "2"), Was("e")),
+    (Upsert("i", "3"), Was("i")),
+    (Upsert("m", "4"), Was("m")),
+    (Upsert("o", "5"), Was("o")),
+];
+
+const FIVE_READS: &[Row] = &[
+    (Get("a"), Found("1")),
+    (Get("e"), Found("2")),
+    (Get("i"), Found("3")),
+    (Get("m"), Found("4")),
+    (Get("o"), Found("5")),
+];
+
+// Runs the reads of five leaves with a write each by so many workers: no post comes before, so that all five are replaced.
+fn replaces_five<R: Abort + Threads + Sync>(rt: &R, alloc: Alloc, workers: u64) {
+    let options = Options::new(workers, 1, 2, 4, 1, 65536, 1048576)
+        .expect(rt, "options")
+        .with_beside(true);
+    let mut index = Index::new(alloc, options).expect(rt, "an index");
+    insert(rt, alloc, &mut index, 17);
+    run(rt, alloc, &mut index, WRITES);
+    let reads = ops_of(rt, alloc, FIVE_READS);
+    let done = index.run(rt, &reads, &OpenGate).expect(rt, "memory");
+    answers(rt, &done, FIVE_READS);
+    assert_equal(rt, done.replaced, 5);
+}
+
+#[test]
+fn each_number_of_workers_replaces_all_leaves(rt: HostRuntime) {
+    let alloc = heap(rt.alloc()).expect(&rt, "a heap");
+    for &workers in WORKERS {
+        replaces_five(&rt, alloc, workers);
+    }
+}
+
+// Runs a batch, and again where it was refused.
+fn run_again<R: Abort + Threads + Sync>(rt: &R, index: &mut Index, ops: &[Op]) -> Done {
+    match index.run(rt, ops, &OpenGate) {
+        Ok(done) => done,
+        Err(refusal) => {
+            assert_equal(rt, refusal, Refusal::Memory);
+            index.run(rt, ops, &OpenGate).expect(rt, "memory")
+        }
+    }
+}
+
+// Runs both batches where this growth is refused. Whether it was, and whether the leaf was left out then.
+fn run_refused<R: Abort + Threads + Sync>(
+    rt: &R,
+    alloc: Alloc,
+    first: &[Op],
+    second: &[Op],
+    growth: u64,
+) -> (bool, bool) {
+    let mut index = Index::new(alloc, working_beside(rt, 1, 64)).expect(rt, "an index");
+    alloc.refuse(growth);
+    run_again(rt, &mut index, first);
+    let done = run_again(rt, &mut index, second);
+    let refused = was_refused(alloc, growth);
+    have_replies(rt, done.replies.as_slice(), SECOND);
+    holds(rt, &index, &[("a", "2")]);
+    assert_that(rt, refused || done.replaced == 1);
+    (refused, done.replaced == 0)
+}
+
+// A fold that finds no memory refuses no batch: some growth is refused, and both batches go on without the leaf.
+#[test]
+fn a_leaf_that_finds_no_memory_is_left_out(rt: HostRuntime) {
+    let alloc = heap(rt.alloc()).expect(&rt, "a heap");
+    let other = heap(rt.alloc()).expect(&rt, "a heap");
+    let first = ops_of(&rt, other, FIRST);
+    let second = ops_of(&rt, other, SECOND);
+    let mut left_out = 0u64;
+    for growth in 1..1000 {
+        let (refused, is_left_out) = run_refused(&rt, alloc, &first, &second, growth);
+        if !refused {
+            assert_that(&rt, growth > 20 && left_out > 1);
+            return;
+        }
+        left_out = left_out.saturating_add(is_left_out as u64);
+    }
+    panic!(rt; "no run met no refusal");
 }

@@ -132,6 +132,7 @@ fn each_number_of_workers_merges_leaves(rt: HostRuntime) {
         come_and_go(&rt, alloc, small(&rt, workers, 1));
         come_and_go(&rt, alloc, small(&rt, workers, 4096));
         come_and_go(&rt, alloc, small(&rt, workers, 1).with_beside(true));
+        come_and_go(&rt, alloc, small(&rt, workers, 4096).with_beside(true));
     }
 }
 

@@ -20,9 +20,11 @@ pub fn working<R: Abort>(rt: &R, workers: u64, piece: u64) -> Options {
     Options::new(workers, piece, 8, 64, 16, 65536, 1048576).expect(rt, "options")
 }
 
-/// The same, with leaves consolidated beside the posting.
+/// The same, with leaves consolidated beside the posting: a chain of one write is long enough.
 pub fn working_beside<R: Abort>(rt: &R, workers: u64, piece: u64) -> Options {
-    working(rt, workers, piece).with_beside(true)
+    Options::new(workers, piece, 2, 64, 16, 65536, 1048576)
+        .expect(rt, "options")
+        .with_beside(true)
 }
 
 /// Options with this `batch_max`.
@@ -45,8 +47,8 @@ pub fn ops_of<R: Abort>(rt: &R, alloc: Alloc, batch: &[Row]) -> Vec<Op, Alloc> {
     ops
 }
 
-// Compares the replies to a batch.
-fn have_replies<R: Abort>(rt: &R, replies: &[Reply], batch: &[Row]) {
+/// Compares the replies to a batch.
+pub fn have_replies<R: Abort>(rt: &R, replies: &[Reply], batch: &[Row]) {
     assert_equal(rt, replies.len(), batch.len());
     for (reply, (_, text)) in replies.iter().zip(batch) {
         assert_that(rt, is_reply(reply, *text));

@@ -41,12 +41,12 @@ fn is_was<R: Abort>(rt: &R, alloc: Alloc, reply: &Reply, number: u64) -> bool {
     }
 }
 
-// The first write finds nothing, and each other one what the one before it put.
-fn find_one_another<R: Abort>(rt: &R, alloc: Alloc, replies: &[Reply]) {
+// The first write is answered so, and each other one finds what the one before it put.
+fn find_one_another<R: Abort>(rt: &R, alloc: Alloc, replies: &[Reply], first: &Reply) {
     assert_equal(rt, replies.len(), WRITES as usize);
     for (number, reply) in replies.iter().enumerate() {
         match number as u64 {
-            0 => assert_equal(rt, reply, &Reply::New),
+            0 => assert_equal(rt, reply, &*first),
             number => assert_that(rt, is_was(rt, alloc, reply, number - 1)),
         }
     }
@@ -63,7 +63,7 @@ fn storm<R: Abort + Threads + Sync>(rt: &R, alloc: Alloc, ops: &[Op], options: O
     let done = index.run(rt, ops, &OpenGate).expect(rt, "memory");
     assert_that(rt, options.workers() > 1 || done.lost == 0);
     assert_equal(rt, done.replaced, 0);
-    find_one_another(rt, alloc, done.replies.as_slice());
+    find_one_another(rt, alloc, done.replies.as_slice(), &Reply::New);
     holds(rt, &index, &[("a", "1999")]);
 }
 
@@ -77,8 +77,8 @@ fn writes_of_one_key_are_answered_in_their_order(rt: HostRuntime) {
     }
 }
 
-// Behind a write of 7, which is in the chain when the batch comes, one worker may put a leaf in its place while others post.
-// Each reply is that without it.
+// Behind a write of 7, which is in the chain when the batch comes, one worker may put a leaf in its place while others post. The
+// replies are those without it.
 fn storm_beside<R: Abort + Threads + Sync>(rt: &R, alloc: Alloc, ops: &[Op], options: Options) {
     let mut index = Index::new(alloc, options.with_beside(true)).expect(rt, "an index");
     let seven = upsert(rt, alloc, 7);
@@ -89,12 +89,8 @@ fn storm_beside<R: Abort + Threads + Sync>(rt: &R, alloc: Alloc, ops: &[Op], opt
         rt,
         options.workers() > 1 || done.replaced == 1 && done.lost == 0,
     );
-    let replies = done.replies.as_slice();
-    assert_equal(rt, replies.len(), WRITES as usize);
-    assert_that(
-        rt,
-        is_was(rt, alloc, replies.first().expect(rt, "a reply"), 7),
-    );
+    let seven = Reply::Was(value_of(rt, alloc, 7));
+    find_one_another(rt, alloc, done.replies.as_slice(), &seven);
     holds(rt, &index, &[("a", "1999")]);
 }
 

@@ -74,8 +74,8 @@ pub fn compare_with<R: Abort + Threads + Sync>(
     run_at_once(rt, alloc, options, batches, after);
 }
 
-/// Runs the batches with each number of workers, in the smallest pieces and in the greatest, and with leaves consolidated
-/// beside the posting. Compares the replies, and the pairs in the end.
+/// Runs the batches with each number of workers, in the smallest pieces and in the greatest, without and with leaves that are
+/// consolidated beside the posting. Compares the replies, and the pairs in the end.
 pub fn compare<R: Abort + Threads + Sync>(
     rt: &R,
     global: Global,
@@ -87,5 +87,6 @@ pub fn compare<R: Abort + Threads + Sync>(
         compare_with(rt, alloc, working(rt, workers, 1), batches, after);
         compare_with(rt, alloc, working(rt, workers, 4096), batches, after);
         compare_with(rt, alloc, working_beside(rt, workers, 1), batches, after);
+        compare_with(rt, alloc, working_beside(rt, workers, 4096), batches, after);
     }
 }

@@ -22,6 +22,11 @@ const SCANS: &str = "scan % * 9\nupsert b 2\nscan % * 9\n";
 
 const SCANS_TEXT: &str = "scan 0\nnew\nscan 1\nb 2\n";
 
+// A chain of one write, beside whose second one its leaf may be consolidated.
+const TWICE: &str = "upsert a 1\ngo\nupsert a 2\nget a\n";
+
+const TWICE_TEXT: &str = "new\nwas 1\nis 2\n";
+
 // Deletes of five letters, behind their batch.
 const GONE: &str = "go\ndelete a\ndelete b\ndelete c\ndelete d\ndelete e\n";
 
@@ -43,11 +48,27 @@ impl<R: Abort + Files + AllocGlobal + Threads + Clock + Sync> Runner<'_, R> {
         self.expect_words(&words, text, output, "", 0);
     }
 
+    // The same in pieces of one record, with leaves consolidated beside the posting.
+    fn expect_beside(&self, workers: &'static str, text: &str, output: &str) {
+        let words = [
+            "run",
+            "--workers",
+            workers,
+            "--piece",
+            "1",
+            "--chain",
+            "2",
+            "--beside",
+        ];
+        self.expect_words(&words, text, output, "", 0);
+    }
+
     // The same by each number of workers.
     fn expect_by_each(&self, text: &str, output: &str) {
         for &workers in WORKERS {
             self.expect_by(workers, "1", text, output);
             self.expect_by(workers, "4096", text, output);
+            self.expect_beside(workers, text, output);
         }
     }
 
@@ -92,6 +113,7 @@ fn replies_are_the_same_by_each_number_of_workers(rt: HostRuntime) {
     runner.expect_by_each(WRITES, WRITES_TEXT);
     runner.expect_by_each(GETS, GETS_TEXT);
     runner.expect_by_each(SCANS, SCANS_TEXT);
+    runner.expect_by_each(TWICE, TWICE_TEXT);
 }
 
 #[test]

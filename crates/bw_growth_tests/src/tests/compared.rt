@@ -1,14 +1,15 @@
 // An index beside the plain program.
-use crate::tests::assertions::assert_equal;
-use bw_batch::{Done, Index, Op, OpenGate, Pairs, Refusal, Reply};
+use crate::tests::assertions::{assert_equal, assert_that};
+use bw_batch::{Done, Index, Op, OpenGate, Options, Pairs, Refusal, Reply};
 use bw_model::ReferenceMap;
 use std::process::Abort;
 use std::thread::Threads;
 
-/// An index, and the plain program's map of the same pairs.
+/// An index, the plain program's map of the same pairs, and how many leaves were replaced beside the posting of batches.
 pub struct Compared {
     pub index: Index,
     pub map: ReferenceMap,
+    pub replaced: u64,
 }
 
 // Not derived: whoever drops one calls this, and its proof is spared the parts.
@@ -17,6 +18,7 @@ impl Drop for Compared {
         let Compared {
             index: _index,
             map: _map,
+            replaced: _replaced,
         } = self;
     }
 }
@@ -65,6 +67,23 @@ fn are_same<R: Abort>(rt: &R, both: &Compared) {
     assert_equal(rt, both.index.len(), pairs.len() as u64);
 }
 
+// How many leaves were replaced beside a batch.
+fn replaced(outcome: &Result<Done, Refusal>) -> u64 {
+    match outcome {
+        Ok(done) => done.replaced,
+        Err(_) => 0,
+    }
+}
+
+/// With one worker some leaf was replaced, where these options ask for that, and else none was.
+pub fn has_replaced<R: Abort>(rt: &R, both: &Compared, options: &Options) {
+    if !options.beside() {
+        assert_equal(rt, both.replaced, 0);
+    } else if options.workers() == 1 {
+        assert_that(rt, both.replaced > 0);
+    }
+}
+
 /// Runs a batch by both, and compares the replies and the pairs after it. Why it was refused, if it was: then the plain
 /// program doesn't run it.
 pub fn run_both<R: Abort + Threads + Sync>(
@@ -74,6 +93,7 @@ pub fn run_both<R: Abort + Threads + Sync>(
 ) -> Option<Refusal> {
     let outcome = both.index.run(rt, ops, &OpenGate);
     let followed = follow(rt, &mut both.map, ops, &outcome);
+    both.replaced = both.replaced.saturating_add(replaced(&outcome));
     are_same(rt, both);
     followed.err()
 }

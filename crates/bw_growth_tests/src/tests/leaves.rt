@@ -1,7 +1,7 @@
 // Batches over many leaves, compared with the plain program.
 ghost use Rattle.std.specs.Prelude.{◌<◌};
 
-use super::compared::{Compared, run_both};
+use super::compared::{Compared, has_replaced, run_both};
 use super::trees::{LONG, map_of, tree_of, working};
 use crate::tests::assertions::assert_that;
 use bw_batch::{Index, Key, Op, Options, Value};
@@ -20,6 +20,7 @@ fn over_leaves<R: Abort>(rt: &R, alloc: Alloc, count: u32, step: u32, options: O
     Compared {
         index: Index::from_tree(alloc, options, tree).expect(rt, "an index"),
         map: map_of(rt, alloc, count, step),
+        replaced: 0,
     }
 }
 
@@ -151,6 +152,7 @@ fn compare_long<R: Abort + Threads + Sync>(rt: &R, alloc: Alloc, options: Option
     let mut both = over_leaves(rt, alloc, 64, 4, options);
     let seed = options.workers().wrapping_add(options.piece());
     compare(rt, alloc, seed, &mut both, (batches, 1000));
+    has_replaced(rt, &both, &options);
 }
 
 #[test]

@@ -1,5 +1,5 @@
 // Some thousand operations drawn from a seed, compared with the plain program.
-use super::compared::{Compared, run_both};
+use super::compared::{Compared, has_replaced, run_both};
 use super::trees::LONG;
 use crate::tests::assertions::assert_equal;
 use bw_batch::{Index, Op, Options, Refusal};
@@ -83,10 +83,12 @@ fn compare<R: Abort + Threads + Sync>(rt: &R, alloc: Alloc, seed: u64, options: 
     let mut both = Compared {
         index: Index::new(alloc, options).expect(rt, "an index"),
         map: ReferenceMap::new(alloc),
+        replaced: 0,
     };
     for _ in 0..150u64 {
         run_drawn(rt, alloc, &mut random, &mut both);
     }
+    has_replaced(rt, &both, &options);
 }
 
 #[test]

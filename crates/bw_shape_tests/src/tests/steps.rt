@@ -7,7 +7,7 @@ use crate::tests::assertions::{assert_equal, assert_that};
 use bw_fixtures::{are, heap, key};
 use bw_memory::Alloc;
 use bw_page::Page;
-use bw_shape::{Did, PageId, Tree};
+use bw_shape::{Did, PageId, Tree, fold_beside};
 use std::process::Abort;
 
 #[test]
@@ -122,6 +122,35 @@ fn a_leaf_parts_and_then_its_right_half(rt: HostRuntime) {
     routes_to(&rt, alloc, &tree, b"d", 3);
     has_pages(&rt, &tree, THREE);
     stands(&rt, alloc, &tree, 2, &[FLOOR, FLOOR + 1, 2, 3]);
+}
+
+// Compares the pairs and the right neighbour that the chain of a key's leaf makes of it.
+fn folds_to<R: Abort>(
+    rt: &R,
+    alloc: Alloc,
+    tree: &Tree,
+    bytes: &[u8],
+    pairs: &[(&'static [u8], &'static [u8])],
+    side: Option<u32>,
+) {
+    let page = tree.route(&key(alloc, bytes).expect(rt, "a key"));
+    let leaf = fold_beside(tree, page, 0).expect(rt, "memory");
+    assert_that(rt, are(leaf.pairs(), pairs));
+    assert_equal(rt, leaf.side().map(|page| page.0), side);
+}
+
+const FIRST_TWO: &[(&[u8], &[u8])] = &[(b"a", b"1"), (b"b", b"2")];
+
+const LAST_THREE: &[(&[u8], &[u8])] = &[(b"c", b"3"), (b"d", b"4"), (b"e", b"5")];
+
+#[test]
+fn a_leaf_that_was_split_is_made_without_its_chain(rt: HostRuntime) {
+    let alloc = heap(rt.alloc()).expect(&rt, "memory");
+    let mut tree = five(&rt, alloc);
+    split_does(&rt, &mut tree, 0, 2, Did::Done);
+    folds_to(&rt, alloc, &tree, b"a", FIRST_TWO, Some(1));
+    folds_to(&rt, alloc, &tree, b"c", LAST_THREE, None);
+    stands(&rt, alloc, &tree, 0, &[FLOOR, 1]);
 }
 
 #[test]

@@ -123,9 +123,9 @@ fn is_refused<R: Abort + Threads + Sync>(
     refused
 }
 
-// So many writes in a chain, and a sweep before each batch behind which there is a record.
-fn swept<R: Abort>(rt: &R, chain: u64) -> Options {
-    Options::new(4, 1, chain, 64, 16, 3, 3).expect(rt, "options")
+// So many writes in a chain, and so many records.
+fn swept<R: Abort>(rt: &R, chain: u64, record_max: u64) -> Options {
+    Options::new(4, 1, chain, 64, 16, 3, record_max).expect(rt, "options")
 }
 
 // Refuses each growth in turn, on a heap of its own.
@@ -148,12 +148,13 @@ fn refuse_in_turn<R: Abort + Threads + Sync>(
 fn batches_meet_each_refusal_and_so_do_their_sweeps(rt: HostRuntime) {
     let make = Maker::new(&rt, rt.alloc());
     let alloc = heap(rt.alloc()).expect(&rt, "a heap");
-    refuse_in_turn(&rt, &make, alloc, swept(&rt, 8));
+    refuse_in_turn(&rt, &make, alloc, swept(&rt, 8, 3));
 }
 
+// The three writes of the first batch are consolidated beside the second one, and a sweep comes before the third.
 #[test]
-fn sweeps_before_consolidations_beside_posting_meet_each_refusal(rt: HostRuntime) {
+fn batches_meet_each_refusal_beside_a_consolidation_and_before_a_sweep(rt: HostRuntime) {
     let make = Maker::new(&rt, rt.alloc());
     let alloc = heap(rt.alloc()).expect(&rt, "a heap");
-    refuse_in_turn(&rt, &make, alloc, swept(&rt, 2).with_beside(true));
+    refuse_in_turn(&rt, &make, alloc, swept(&rt, 6, 6).with_beside(true));
 }
