@@ -115,10 +115,15 @@ fn answer_staged<R: Threads + Sync, G: Gate>(
         folded,
     } = post(rt, alloc, tree, batch, options, gate)?;
     let replaced = folded.len() as u64;
+    let leaves = folded
+        .iter()
+        .map(|leaf| leaf.page)
+        .collect::<Vec<PageId, Alloc>>(alloc)?;
     let posted = Vec::from_slice(alloc, &pages)?;
     tree.adopt_folded(pages, closed, folded);
     let base = tree.next_stamp();
     let replies = replies(rt, alloc, tree, base, batch, &homes, workers)?;
+    due.mark(&leaves)?;
     add_posted(due, tree, posted)?;
     Ok(Answered {
         replies,

@@ -23,7 +23,7 @@ use Rattle.bw_shape.specs.Limits.{LimitsView, AreWithinBut, IsWithin}
 use Rattle.bw_steps.specs.Naming.{AreFinished}
 use Rattle.bw_steps.specs.Releasing.{AreFreed}
 use Rattle.bw_shape.specs.Sweeps.{HoldsSame}
-use Rattle.bw_shape.specs.Tidying.{HoldsAll, KeepsWithin}
+use Rattle.bw_shape.specs.Tidying.{HasBoth, HoldsAll, KeepsWithin}
 use Rattle.bw_shape.specs.Visits.{IsBare, IsNext, IsSplitNext}
 use Rattle.bw_steps.specs.Steps.{HasLostChain, IsFinishStep, IsFinished, IsRootStep, IsSameOver}
 use Rattle.bw_tree.specs.Consolidation.{IsRebased}
@@ -32,6 +32,16 @@ use Rattle.bw_steps.specs.declared.steps.Did.TheVariants.{Done, NotNeeded}
 use Rattle.bw_shape.proofs.LeafLemmas.{freed_leaves, grown_leaves, same_leaves, same_row}
 use Rattle.bw_shape.proofs.SweepLemmas.{chain_plain, free_within, still_plain}
 use Rattle.bw_steps.proofs.TakenLemmas.{cases_free}
+
+-- where the same pages are to be looked at, or more
+pub kept_alike : (tree : TreeView) (due due' : List ℕ) → due' ≡ due → KeepsWithin tree tree due due'
+kept_alike tree due due' same limits but = subst (AreWithinBut limits tree) (sym same) but
+
+pub kept_both : (tree : TreeView) (more due due' : List ℕ) → HasBoth more due due' → KeepsWithin tree tree due due'
+kept_both tree more due due' both limits but = λ p leaf. elim (but p leaf) [
+  | inl has ↦ inl (both.right p has)
+  | inr within ↦ inr within
+]
 
 -- what the tree holds
 pub holds_itself : (tree : TreeView) → tree.staged ≡ None → HoldsAll tree tree

@@ -26,6 +26,11 @@ pub struct Due {
     // leaves that were consolidated where tidying stopped before they were split or merged, if need be: they are due still,
     // and the first one in the order of keys stands last, since no leaf is looked at before those that are left of it
     begun: Vec<PageId, Alloc>,
+    // leaves that are due the next time if they may be merged: the first ones under pages that were merged, which have another
+    // left neighbour then, and those that were consolidated beside the posting of a batch
+    marked: Vec<PageId, Alloc>,
+    // the first leaf under a page that is to be merged
+    moving: Option<PageId>,
     // where tidying stopped: the page whose new right neighbours may not be named yet, or the removed one that may be named
     // still, or whose identifier may not be given back yet
     unfinished: Option<PageId>,
@@ -49,6 +54,8 @@ impl Due {
             above: Vec::new(alloc),
             later: Vec::new(alloc),
             begun: Vec::new(alloc),
+            marked: Vec::new(alloc),
+            moving: None,
             unfinished: None,
         }
     }
@@ -135,16 +142,54 @@ impl Due {
         Ok(Some(next))
     }
 
-    /// The inner pages that were left for the next time are looked at this time, with those that a stop left, each once. It
-    /// costs the sorting of these pages.
+    /// The pages that were left for the next time are looked at this time, with those that a stop left, each once. It costs the
+    /// sorting of these pages.
+    #[tactic(auto, using(crate::proofs::TidyLemmas::kept_alike))]
     pub(crate) fn begin(&mut self, tree: &Tree) -> Result<(), Memory>
-        ensures pages { self.new.pages ≡ self.old.pages }
+        ensures within { KeepsWithin tree.now tree.now self.old.pages self.new.pages }
         ensures unfinished { self.new.unfinished ≡ self.old.unfinished }
     {
         self.above.extend_from_slice(&self.later)?;
         self.later.clear();
         sort_by_low_key(tree, &mut self.above);
         self.above.dedup();
+        if self.marked.is_empty() {
+            return Ok(());
+        }
+        self.begin_marked(tree)
+    }
+
+    // Leaves that were marked are due, if they have few pairs, as those are that were consolidated before a stop.
+    #[tactic(auto, using(crate::proofs::TidyLemmas::kept_alike, crate::proofs::TidyLemmas::kept_both))]
+    fn begin_marked(&mut self, tree: &Tree) -> Result<(), Memory>
+        ensures within { KeepsWithin tree.now tree.now self.old.pages self.new.pages }
+        ensures unfinished { self.new.unfinished ≡ self.old.unfinished }
+    {
+        let mut leaves = Vec::from_slice(self.alloc(), &self.marked)?;
+        sort_by_low_key(tree, &mut leaves);
+        let mut begun = Vec::from_slice(self.alloc(), &self.marked)?;
+        begun.extend_from_slice(&self.begun)?;
+        sort_by_low_key(tree, &mut begun);
+        begun.dedup();
+        begun.reverse();
+        self.add(tree, leaves)?;
+        self.begun = begun;
+        self.marked.clear();
+        Ok(())
+    }
+
+    /// These leaves were consolidated beside the posting of a batch: where they have few pairs, and a left neighbour under the
+    /// same page, the next tidying merges them. It costs the sorting of those that were marked since the last one. After
+    /// `Memory` none was.
+    pub fn mark(&mut self, leaves: &[PageId]) -> Result<(), Memory>
+        ensures { self.new ≡ self.old }
+    {
+        if leaves.is_empty() {
+            return Ok(());
+        }
+        self.marked.extend_from_slice(leaves)?;
+        self.marked.sort_unstable();
+        self.marked.dedup();
         Ok(())
     }
 
@@ -160,19 +205,25 @@ impl Due {
         Ok(())
     }
 
-    /// A page is to be merged into its left neighbour. Where it is above level 1, its first child gets a left neighbour under
-    /// the same page, and is looked at the next time. It costs a search.
+    /// A page is to be merged into its left neighbour. Its first child gets a left neighbour under the same page then, and is
+    /// looked at the next time. It costs a search.
     pub(crate) fn mark_later(&mut self, tree: &Tree, page: PageId, level: u32) -> Result<(), Memory>
         ensures pages { self.new.pages ≡ self.old.pages }
         ensures above { self.new.above ≡ self.old.above }
         ensures unfinished { self.new.unfinished ≡ self.old.unfinished }
     {
-        if level < 2 {
+        self.moving = None;
+        if level == 0 {
             return Ok(());
         }
-        if let Some(child) = first_below(tree, page, level) {
-            self.later.push(child)?;
+        let Some(child) = first_below(tree, page, level) else {
+            return Ok(());
+        };
+        if level > 1 {
+            return Ok(self.later.push(child)?);
         }
+        self.marked.reserve(1)?;
+        self.moving = Some(child);
         Ok(())
     }
 
@@ -181,7 +232,9 @@ impl Due {
         ensures pages { (p : ℕ) → IsNext self.old.pages p → self.old.pages ≡ self.new.pages ++ p ∷ [] }
         ensures unfinished { self.new.unfinished ≡ self.old.unfinished }
     {
-        self.pages.pop();
+        if let Some(page) = self.pages.pop() {
+            self.end_leaf(page);
+        }
     }
 
     /// How many pages are due before those above.
@@ -275,6 +328,10 @@ impl Due {
     {
         self.pages.pop();
         self.end_leaf(page);
+        if let Some(leaf) = self.moving.take() {
+            // There is room for it.
+            let _ = self.marked.push(leaf);
+        }
         self.unfinished = Some(page);
     }
 

@@ -9,7 +9,7 @@ ghost use Rattle.bw_shape.specs.Limits.{AreWithinBut, IsWithin};
 ghost use Rattle.bw_shape.specs.Tidying.{HoldsAll};
 ghost use Rattle.bw_shape.specs.Visits.{HasShortChain, IsNext, IsOver, IsSmall};
 
-use crate::absorbing::merge;
+use crate::absorbing::{has_sibling, merge};
 use crate::due::Due;
 use crate::halving::{bare, part_all};
 use crate::limits::Limits;
@@ -92,13 +92,20 @@ fn visit_due(
     Ok(())
 }
 
-// Whether a leaf is over a limit, or was consolidated before tidying stopped.
+// Whether a leaf is over a limit, or may be merged and was consolidated before tidying stopped, or was marked.
 fn is_due(tree: &Tree, limits: &Limits, page: PageId, begun: bool) -> bool
     ensures yes { result ≡ true → IsOver limits.now (slot_at tree.now.slots page) ⊎ (begun ≡ true) }
     ensures no { result ≡ false → Contains (row tree.now.levels 0) page →
         IsWithin limits.now (slot_at tree.now.slots page) }
 {
-    begun || is_over(tree, limits, page)
+    is_over(tree, limits, page) || begun && may_merge(tree, limits, page)
+}
+
+// Whether a page has too few entries, and a left neighbour under the same page above. It costs some searches where it has.
+fn may_merge(tree: &Tree, limits: &Limits, page: PageId) -> bool {
+    (page.0 as usize) < tree.heads().len()
+        && (tree.entries(page) as u64) < limits.page_min()
+        && has_sibling(tree, page)
 }
 
 // Looks at the next page, by how many entries it has: with too few it's merged into its left neighbour, and with too many

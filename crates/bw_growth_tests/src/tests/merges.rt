@@ -167,27 +167,17 @@ fn has_pages<R: Abort>(rt: &R, index: &Index, place: usize) {
     }
 }
 
-// Compares what is left behind the batch at a place. A leaf that was consolidated beside the posting, and is over no limit
-// then, may stay with too few pairs.
-fn is_left<R: Abort>(rt: &R, index: &Index, place: usize, beside: bool) {
-    if beside {
-        assert_equal(rt, index.is_empty(), place % 2 == 1);
-    } else {
-        has_pages(rt, index, place);
-    }
-}
-
 // Runs the batches from one place up to another.
 fn run_each<R: Abort + Threads + Sync>(
     rt: &R,
     index: &mut Index,
     turns: &[Turn],
-    (from, to): (usize, usize),
-    beside: bool,
+    from: usize,
+    to: usize,
 ) {
     for place in from..to.min(turns.len()) {
         run(rt, index, &turns[place]);
-        is_left(rt, index, place, beside);
+        has_pages(rt, index, place);
     }
 }
 
@@ -197,7 +187,7 @@ fn letters_with_the_longest_values_come_and_go_twice(rt: HostRuntime) {
     let turns = turns(&rt, alloc, LONGEST);
     for workers in [1, 2, 16, 64] {
         let mut index = empty_index(&rt, alloc, small(&rt, workers));
-        run_each(&rt, &mut index, &turns, (0, 4), false);
+        run_each(&rt, &mut index, &turns, 0, 4);
     }
 }
 
@@ -322,8 +312,7 @@ fn is_refused<R: Abort + Threads + Sync>(
     growth: u64,
 ) -> bool {
     let mut index = empty_index(rt, alloc, story.options);
-    let beside = story.options.beside();
-    run_each(rt, &mut index, &story.turns, (0, place), beside);
+    run_each(rt, &mut index, &story.turns, 0, place);
     let turn = story.turns.get(place).expect(rt, "a batch");
     let refused = run_refused(rt, alloc, &mut index, turn, growth);
     run(
@@ -332,9 +321,8 @@ fn is_refused<R: Abort + Threads + Sync>(
         story.reads.get(place).expect(rt, "what is read"),
     );
     run(rt, &mut index, &no_operation(alloc));
-    is_left(rt, &index, place, beside);
-    let behind = (place.saturating_add(1), 4);
-    run_each(rt, &mut index, &story.turns, behind, beside);
+    has_pages(rt, &index, place);
+    run_each(rt, &mut index, &story.turns, place.saturating_add(1), 4);
     refused
 }
 

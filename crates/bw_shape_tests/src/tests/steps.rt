@@ -3,6 +3,7 @@ use super::making::{
     FLOOR, consolidate_does, finds, finish_does, five, grow_does, named_once, split_does, stands,
 };
 use super::shapes::{Wanted, has_pages};
+use super::tidying::ROOTLESS;
 use crate::tests::assertions::{assert_equal, assert_that};
 use bw_fixtures::{are, heap, key};
 use bw_memory::Alloc;
@@ -16,6 +17,8 @@ fn a_leaf_of_five_pairs_parts_and_the_root_grows(rt: HostRuntime) {
     let mut tree = five(&rt, alloc);
     split_does(&rt, &mut tree, 0, 2, Did::Done);
     stands(&rt, alloc, &tree, 0, &[FLOOR, 1]);
+    has_pages(&rt, &tree, ROOTLESS);
+    routes_to(&rt, alloc, &tree, b"c", 1);
     finds(&rt, alloc, &tree, 0, b"b", Some(0));
     finds(&rt, alloc, &tree, 0, b"c", Some(1));
     finds(&rt, alloc, &tree, 1, b"c", None);

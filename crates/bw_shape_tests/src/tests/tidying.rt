@@ -293,7 +293,8 @@ fn tidied_to_a_refusal<R: Abort>(
     (tidy, due)
 }
 
-const ROOTLESS: &[Wanted] = &[(0, 0, b"", Some(b"c"), 2, 0), (1, 0, b"c", None, 3, 0)];
+/// Five pairs on two leaves without a root over them.
+pub const ROOTLESS: &[Wanted] = &[(0, 0, b"", Some(b"c"), 2, 0), (1, 0, b"c", None, 3, 0)];
 
 // Tidies a leaf of five pairs where this growth is refused. Where that leaves two leaves without a root over them, all pairs
 // are read, and tidying again puts it there. Whether it left them so.

@@ -20,6 +20,8 @@ pub struct PlainPage {
     base: usize,
     // whether a split or a merge stands in its chain
     is_changed: bool,
+    // whether the page above a leaf was merged, under which it was the first one
+    is_marked: bool,
 }
 
 // One leaf without pairs.
@@ -31,6 +33,7 @@ const EMPTY: PlainPage = PlainPage {
     writes: 0,
     base: 0,
     is_changed: false,
+    is_marked: false,
 };
 
 // Tidying takes fewer looks at pages.
@@ -234,7 +237,7 @@ impl PlainTree {
                 self.forget();
                 return self.counts;
             };
-            if !self.look(rt, place, &page) {
+            if !self.look_once(rt, place, &page) {
                 place = place.saturating_add(1);
             }
         }
@@ -283,10 +286,24 @@ impl PlainTree {
         }
     }
 
+    // Looks at the page at a place, which is not marked any more then.
+    fn look_once<R: Abort>(&mut self, rt: &R, place: usize, page: &PlainPage) -> bool {
+        if !page.is_marked {
+            return self.look(rt, place, page, false);
+        }
+        let page = PlainPage {
+            is_marked: false,
+            ..*page
+        };
+        assert!(rt; place < self.pages.len());
+        self.pages[place] = page;
+        self.look(rt, place, &page, true)
+    }
+
     // Looks at the page at a place. Whether another page stands there now, which is to be looked at.
-    fn look<R: Abort>(&mut self, rt: &R, place: usize, page: &PlainPage) -> bool {
+    fn look<R: Abort>(&mut self, rt: &R, place: usize, page: &PlainPage, is_marked: bool) -> bool {
         let entries = self.entries(rt, page);
-        if !self.is_due(page) {
+        if !self.is_due(page) && !(is_marked && self.may_merge(place, page)) {
             return false;
         }
         self.count_consolidated(page);
@@ -313,6 +330,11 @@ impl PlainTree {
             0 => page.writes > self.chain_max || page.base > self.page_max,
             _ => true,
         }
+    }
+
+    // Whether the page at a place has few pairs, and a left neighbour under the same page.
+    fn may_merge(&self, place: usize, page: &PlainPage) -> bool {
+        page.base < self.page_min && self.sibling(place, page).is_some()
     }
 
     // The page left of a place that one page of the level above names together with the page there.
@@ -353,10 +375,22 @@ impl PlainTree {
             ..left
         };
         self.join(rt, place, joined);
+        if page.level == 1 {
+            self.mark_first(page.low);
+        }
         self.free(rt, page.page);
         self.counts.merges = self.counts.merges.saturating_add(1);
         self.records = self.records.saturating_add(3);
         true
+    }
+
+    // The leaf of a key was the first one under a page that was merged.
+    fn mark_first(&mut self, key: u8) {
+        for page in &mut self.pages {
+            if page.level == 0 && is_in(page, key) {
+                page.is_marked = true;
+            }
+        }
     }
 
     // Puts a page in the place of two, the second of which stood at this place.

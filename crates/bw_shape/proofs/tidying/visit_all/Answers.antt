@@ -7,11 +7,11 @@ returns-in_err-go_on-clause-within c = c.in_err-go_on.ensures.within c.args.limi
 
 pub returns-in_err-begin-clause-within : goal.returns-in_err-begin-clause-within
 returns-in_err-begin-clause-within c =
-    subst (AreWithinBut c.args.limits.now c.go_on.new.tree) (sym c.in_err-begin.ensures.pages) (c.in_ok-go_on.ensures.within c.args.limits.now c.requires.within)
+    c.in_err-begin.ensures.within c.args.limits.now (c.in_ok-go_on.ensures.within c.args.limits.now c.requires.within)
 
 pub visit_levels-requires-clause-within : goal.visit_levels-requires-clause-within
 visit_levels-requires-clause-within c =
-    subst (AreWithinBut c.args.limits.now c.go_on.new.tree) (sym c.in_ok-begin.ensures.pages) (c.in_ok-go_on.ensures.within c.args.limits.now c.requires.within)
+    c.in_ok-begin.ensures.within c.args.limits.now (c.in_ok-go_on.ensures.within c.args.limits.now c.requires.within)
 
 pub returns-clause-within : goal.returns-clause-within
 returns-clause-within c =
