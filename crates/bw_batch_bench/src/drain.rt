@@ -7,7 +7,7 @@ use crate::{
     print_longest, run_batch,
 };
 use anyhow::Result;
-use bw_batch::{Index, Options};
+use bw_batch::{Index, OpenGate, Options};
 use bw_memory::Alloc;
 use std::alloc::Global;
 use std::collections::BTreeMap;
@@ -66,6 +66,14 @@ fn drained<R: Threads + Clock + Sync>(
     Ok(runs)
 }
 
+// Runs two batches of no operation, behind which leaves without pairs are merged that had no left neighbour under their page.
+fn run_empty<R: Threads + Sync>(rt: &R, index: &mut Index) -> Result<()> {
+    for _ in 0..2u64 {
+        index.run(rt, &[], &OpenGate)?;
+    }
+    Ok(())
+}
+
 /// Deletes all keys of an index and a map, and prints what came of it.
 pub fn print_drain<R: Threads + Clock + Sync + Print>(
     rt: &R,
@@ -89,8 +97,10 @@ pub fn print_drain<R: Threads + Clock + Sync + Print>(
     let mut both = grown(rt, one_heap(alloc), options, keys)?;
     let mut runs = drained(rt, one_heap(alloc), &mut both, drain)?;
     let pages = both.index.shape()?.len();
+    run_empty(rt, &mut both.index)?;
+    let behind = both.index.shape()?.len();
     println!(rt;
-        "  {} of {keys} replies are the map's; pages left: {pages}",
+        "  {} of {keys} replies are the map's; pages left: {pages}, behind two more batches {behind}",
         runs.same
     )?;
     if is_timed {
@@ -147,6 +157,7 @@ pub fn print_left<R: Threads + Clock + Sync + Print>(
         heaps.map.used()
     )?;
     sweep(rt, heaps, &mut both)?;
+    run_empty(rt, &mut both.index)?;
     println!(rt; "    behind a sweep: index {}", heaps.index.used())?;
     Ok(())
 }

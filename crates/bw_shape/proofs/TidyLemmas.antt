@@ -3,7 +3,7 @@ use Rattle.std.proofs.Common.{inl, inr, ◌⊎◌, ◌≡◌, ℕ, zero, suc, �
 use Rattle.std.proofs.lemmas.Bool.{cases_eq, cases_lt}
 use Rattle.std.proofs.lemmas.List.{get_or-set_same, get_or-set_other, length-append}
 use Rattle.std.proofs.lemmas.List.Elements.{Contains-append_left, Contains-append_right, Contains-push, Contains-push_cases}
-use Rattle.std.specs.List.{Contains}
+use Rattle.std.specs.List.{Contains, insert}
 use Rattle.std.specs.Prelude.{slice_index}
 use Rattle.bw_key.specs.Order.{KeyBytes}
 use Rattle.bw_level.specs.Children.{state_with_child}
@@ -23,7 +23,7 @@ use Rattle.bw_shape.specs.Limits.{LimitsView, AreWithinBut, IsWithin}
 use Rattle.bw_steps.specs.Naming.{AreFinished}
 use Rattle.bw_steps.specs.Releasing.{AreFreed}
 use Rattle.bw_shape.specs.Sweeps.{HoldsSame}
-use Rattle.bw_shape.specs.Tidying.{HasBoth, HoldsAll, KeepsWithin}
+use Rattle.bw_shape.specs.Tidying.{HoldsAll, KeepsWithin}
 use Rattle.bw_shape.specs.Visits.{IsBare, IsNext, IsSplitNext}
 use Rattle.bw_steps.specs.Steps.{HasLostChain, IsFinishStep, IsFinished, IsRootStep, IsSameOver}
 use Rattle.bw_tree.specs.Consolidation.{IsRebased}
@@ -37,11 +37,20 @@ use Rattle.bw_steps.proofs.TakenLemmas.{cases_free}
 pub kept_alike : (tree : TreeView) (due due' : List ℕ) → due' ≡ due → KeepsWithin tree tree due due'
 kept_alike tree due due' same limits but = subst (AreWithinBut limits tree) (sym same) but
 
-pub kept_both : (tree : TreeView) (more due due' : List ℕ) → HasBoth more due due' → KeepsWithin tree tree due due'
-kept_both tree more due due' both limits but = λ p leaf. elim (but p leaf) [
-  | inl has ↦ inl (both.right p has)
+pub kept_more : (tree : TreeView) (due due' : List ℕ) → ((p : ℕ) → Contains due p → Contains due' p) → KeepsWithin tree tree due due'
+kept_more tree due due' more limits but = λ p leaf. elim (but p leaf) [
+  | inl has ↦ inl (more p has)
   | inr within ↦ inr within
 ]
+
+-- what is put into a list takes nothing out
+pub kept_insert : (ps : List ℕ) (i x p : ℕ) → Contains ps p → Contains (insert ps i x) p
+kept_insert [] i x p has = absurd (omega (arith, has.1))
+kept_insert (q ∷ ps) zero x p has = (suc has.0, omega (arith, has.1), has.2)
+kept_insert (q ∷ ps) (suc i) x p (zero, lt, e) = (0, omega arith, e)
+kept_insert (q ∷ ps) (suc i) x p (suc n, lt, e) =
+    let rest = kept_insert ps i x p (n, omega (arith, lt), e) in
+    (suc rest.0, omega (arith, rest.1), rest.2)
 
 -- what the tree holds
 pub holds_itself : (tree : TreeView) → tree.staged ≡ None → HoldsAll tree tree

@@ -6,7 +6,9 @@ ghost use Rattle.bw_steps.specs.Releasing.{AreFreed, IsLeftOut, IsLeftToFree};
 ghost use Rattle.bw_shape.specs.Tidying.{HasBoth, HasFinished, HasNoPage, HoldsAll, KeepsWithin};
 ghost use Rattle.bw_shape.specs.Visits.{IsNext, IsNextBefore, IsSplitNext};
 
-use crate::page_lists::{first_below, least_level, mark, pages_on, pages_over, sort_by_low_key};
+use crate::page_lists::{
+    by_low_key, first_below, least_level, mark, pages_on, pages_over, sort_by_low_key,
+};
 use bw_key::Memory;
 use bw_memory::Alloc;
 use bw_page::PageId;
@@ -160,21 +162,36 @@ impl Due {
     }
 
     // Leaves that were marked are due, if they have few pairs, as those are that were consolidated before a stop.
-    #[tactic(auto, using(crate::proofs::TidyLemmas::kept_alike, crate::proofs::TidyLemmas::kept_both))]
+    #[tactic(auto, using(crate::proofs::TidyLemmas::kept_more))]
     fn begin_marked(&mut self, tree: &Tree) -> Result<(), Memory>
         ensures within { KeepsWithin tree.now tree.now self.old.pages self.new.pages }
         ensures unfinished { self.new.unfinished ≡ self.old.unfinished }
     {
-        let mut leaves = Vec::from_slice(self.alloc(), &self.marked)?;
-        sort_by_low_key(tree, &mut leaves);
         let mut begun = Vec::from_slice(self.alloc(), &self.marked)?;
         begun.extend_from_slice(&self.begun)?;
         sort_by_low_key(tree, &mut begun);
         begun.dedup();
         begun.reverse();
-        self.add(tree, leaves)?;
+        for leaf in &begun {
+            self.put_among(tree, *leaf)?;
+        }
         self.begun = begun;
         self.marked.clear();
+        Ok(())
+    }
+
+    // Puts a leaf among the pages that are due, in the order of keys, unless it is there. To sort all of them would walk the chain
+    // of each page for each comparison.
+    fn put_among(&mut self, tree: &Tree, leaf: PageId) -> Result<(), Memory>
+        ensures kept { (p : ℕ) → Contains self.old.pages p → Contains self.new.pages p }
+        ensures unfinished { self.new.unfinished ≡ self.old.unfinished }
+    {
+        let found = self
+            .pages
+            .binary_search_by(|page| by_low_key(tree, leaf, *page));
+        if let Err(place) = found {
+            self.pages.insert(place, leaf)?;
+        }
         Ok(())
     }
 

@@ -65,8 +65,8 @@ pub(crate) fn sort_by_low_key(tree: &Tree, pages: &mut Vec<PageId, Alloc>)
     pages.sort_unstable_by(|a, b| by_low_key(tree, *a, *b));
 }
 
-// How two pages stand by the keys at which they begin, and where these are equal by their identifiers.
-fn by_low_key(tree: &Tree, a: PageId, b: PageId) -> Ordering {
+/// How two pages stand by the keys at which they begin, and where these are equal by their identifiers.
+pub(crate) fn by_low_key(tree: &Tree, a: PageId, b: PageId) -> Ordering {
     let order = tree.low_key(a).cmp(&tree.low_key(b));
     order.then(a.0.cmp(&b.0))
 }
