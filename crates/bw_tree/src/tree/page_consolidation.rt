@@ -65,8 +65,9 @@ impl Tree {
         Ok(true)
     }
 
-    // Puts a consolidated leaf in the place of its chain.
-    fn put_leaf(&mut self, page: PageId, leaf: Leaf)
+    /// Puts a leaf that was consolidated as of the next stamp in the place of its chain. No batch is staged. It costs a walk
+    /// along the chain, and takes no memory.
+    pub fn put_leaf(&mut self, page: PageId, leaf: Leaf)
         requires none { self.old.staged ≡ None }
         requires leaf { Contains (row self.old.levels 0) page }
         requires consolidated { leaf ≡ leaf_as_of self.old page self.old.next }
