@@ -6,10 +6,10 @@ ghost use Rattle.bw_tree.specs.Stages.{is_adopted, undone_tree};
 ghost use Rattle.bw_look.specs.View.{contents_at, contents_with, staged_writes};
 ghost use Rattle.bw_group.specs.Homes.{AreHomes};
 ghost use Rattle.bw_post.specs.Posting.{IsPostedBeside, IsWaiting};
-ghost use Rattle.bw_shape.specs.Leaves.{leaf_ranges};
+ghost use Rattle.bw_shape.specs.LeafRanges.{leaf_ranges};
 ghost use Rattle.bw_shape.specs.Tidying.{KeepsWithin};
 ghost use Rattle.bw_batch.specs.Settings.{most_lost};
-ghost use Rattle.bw_batch.specs.Stages.{operations_staged};
+ghost use Rattle.bw_batch.specs.IndexStages.{operations_staged};
 
 use crate::options::Options;
 use bw_answer::replies;

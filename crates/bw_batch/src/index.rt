@@ -94,10 +94,10 @@ impl Index {
     ghost use Rattle.bw_batch.specs.Lens.{key_count};
     ghost use Rattle.bw_batch.specs.Settings.{limits_of, most_lost};
     ghost use Rattle.bw_batch.specs.View.{contents_of, settings_of, next_stamp_of};
-    ghost use Rattle.bw_batch.specs.Leaves.{leaves_of};
-    ghost use Rattle.bw_batch.specs.Sweeps.{base_of, is_sweep_due, records_before};
+    ghost use Rattle.bw_batch.specs.IndexLeaves.{leaves_of};
+    ghost use Rattle.bw_batch.specs.DueSweeps.{base_of, is_sweep_due, records_before};
     ghost use Rattle.bw_batch.specs.Outcomes.{batches_of, outcomes_of, AreCounted, ChangesInTurn};
-    ghost use Rattle.bw_batch.specs.Trees.{IsShapeOf, IsTreeOf};
+    ghost use Rattle.bw_batch.specs.IndexTrees.{IsShapeOf, IsTreeOf};
     ghost use Rattle.bw_model.specs.Model.{replies_of, contents_after};
     ghost use Rattle.bw_model.specs.Runs.{AnswersInTurn, left_in_turn};
 

@@ -7,7 +7,7 @@ use Rattle.bw_look.specs.Unnamed.{HasNoUnnamed}
 use Rattle.bw_steps.specs.Naming.{AreFinished}
 use Rattle.bw_steps.specs.Steps.{IsRootStep}
 use Rattle.bw_steps.specs.declared.steps.Did.{Did}
-use Rattle.bw_shape.specs.Leaves.{leaf_ranges}
+use Rattle.bw_shape.specs.LeafRanges.{leaf_ranges}
 use Rattle.bw_shape.specs.Limits.{LimitsView, AreWithinBut}
 
 -- The pages that are to be looked at, the next one last; the inner pages to look at behind those, the first one first;

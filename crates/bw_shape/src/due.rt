@@ -1,7 +1,7 @@
 // The pages that tidying is to look at.
 ghost use Rattle.std.specs.Prelude.{◌≡◌, ℕ, ◌+◌, ◌<◌, ◌≤◌, ◌^◌, true, false, [], ◌∷◌, ◌++◌, None, Some, length, reverse, slice_index, MatchOption, IfOk, OnOk, OnErr};
 ghost use Rattle.std.specs.List.{Contains};
-ghost use Rattle.bw_tree.specs.Splits.{IsSplittable};
+ghost use Rattle.bw_tree.specs.TreeSplits.{IsSplittable};
 ghost use Rattle.bw_steps.specs.Releasing.{AreFreed, IsLeftOut, IsLeftToFree};
 ghost use Rattle.bw_shape.specs.Tidying.{HasBoth, HasFinished, HasNoPage, HoldsAll, KeepsWithin};
 ghost use Rattle.bw_shape.specs.Visits.{IsNext, IsNextBefore, IsSplitNext};

@@ -12,7 +12,7 @@ use Rattle.bw_level.specs.Scans.{high_of}
 use Rattle.bw_level.specs.Slots.{side_of_slot, slot_at}
 use Rattle.bw_tree.specs.Consolidation.{IsConsolidated}
 use Rattle.bw_tree.specs.Making.{leaf_slot}
-use Rattle.bw_look.specs.Pages.{leaf_as_of}
+use Rattle.bw_look.specs.PageStates.{leaf_as_of}
 use Rattle.bw_look.specs.View.{TreeView, contents_at}
 use Rattle.bw_shape.specs.Limits.{AreWithinBut, IsWithin, LimitsView}
 use Rattle.bw_shape.specs.Sweeps.{HoldsSame}

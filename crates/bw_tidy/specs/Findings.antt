@@ -6,7 +6,7 @@ use Rattle.bw_page.specs.Leaves.{LeafView}
 use Rattle.bw_level.specs.Levels.{row}
 use Rattle.bw_level.specs.Slots.{slot_at}
 use Rattle.bw_tree.specs.Making.{leaf_slot}
-use Rattle.bw_look.specs.Pages.{leaf_as_of}
+use Rattle.bw_look.specs.PageStates.{leaf_as_of}
 use Rattle.bw_look.specs.Routing.{IsInLevel}
 use Rattle.bw_look.specs.View.{TreeView}
 use Rattle.bw_shape.specs.Limits.{LimitsView, IsWithin}

@@ -14,7 +14,7 @@ impl Tree {
     ghost use Rattle.bw_level.specs.Searches.{IsInLevels};
     ghost use Rattle.bw_level.specs.Slots.{slot_at};
     ghost use Rattle.bw_tree.specs.Consolidation.{IsConsolidated, IsRebased};
-    ghost use Rattle.bw_look.specs.Pages.{leaf_as_of};
+    ghost use Rattle.bw_look.specs.PageStates.{leaf_as_of};
     ghost use Rattle.bw_look.specs.Routing.{IsInnerPage};
 
     /// Consolidates a leaf: what its writes make of its base page, as of the next stamp, takes the place of that page (ICDE

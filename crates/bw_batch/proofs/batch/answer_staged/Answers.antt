@@ -1,12 +1,12 @@
 use Rattle.std.proofs.Common.{ℕ, List, length, ap, subst, ◌∙◌}
-use Rattle.bw_tree.proofs.WordLemmas.{length_put}
+use Rattle.bw_tree.proofs.SwappedWords.{length_put}
 use Rattle.bw_model.specs.Model.{replies_of}
 use Rattle.bw_look.specs.View.{contents_at}
 use Rattle.bw_shape.specs.Tidying.{HasBoth}
 use Rattle.bw_batch.proofs.BatchLemmas.{start_adopted}
 use Rattle.bw_batch.proofs.DueLemmas.{within_posted}
 use Rattle.bw_batch.proofs.LeavesLemmas.{wide_leaves}
-use Rattle.bw_batch.proofs.RangeLemmas.{adopted_wide, homes_stay}
+use Rattle.bw_batch.proofs.KeptHomes.{adopted_wide, homes_stay}
 use Rattle.bw_batch.proofs.batch.answer_staged.Goals as goal
 
 pub replies-requires-clause-homes : goal.replies-requires-clause-homes
