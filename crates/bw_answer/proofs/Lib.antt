@@ -1,7 +1,7 @@
 mod ListLemmas
 mod WriteGroups
 pub mod ReplyLemmas
-mod PartPlaces
+mod PartLemmas
 mod Gathered
 mod Placed
 mod Replied

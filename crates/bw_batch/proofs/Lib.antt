@@ -1,8 +1,8 @@
 pub mod OutcomesLemmas
 pub mod BatchLemmas
-pub mod IndexContents
+pub mod ContentsLemmas
 pub mod ChangesLemmas
-pub mod KeptHomes
+pub mod RangeLemmas
 pub mod DueLemmas
 pub mod LenLemmas
 pub mod LeafPairsLemmas

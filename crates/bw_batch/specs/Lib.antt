@@ -1,10 +1,10 @@
 pub mod Settings
 pub mod SettingFaults
 pub mod Codes
-pub mod IndexStages
+pub mod Stages
 pub mod View
-pub mod IndexLeaves
-pub mod DueSweeps
+pub mod Leaves
+pub mod Sweeps
 pub mod Outcomes
-pub mod IndexTrees
+pub mod Trees
 pub mod Lens

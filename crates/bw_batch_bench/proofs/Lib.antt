@@ -1,1 +1,1 @@
-mod LeavesSideBySide
+mod LeafLemmas

@@ -7,10 +7,10 @@ pub mod LeafChainLemmas
 pub mod SupportLemmas
 pub mod PlacingLemmas
 pub mod BaseLemmas
-pub mod RemovedBases
+pub mod RemovedLemmas
 pub mod AdditionLemmas
 pub mod InPlaceLemmas
 pub mod VacancyLemmas
 pub mod BareLemmas
-pub mod BaseTrims
+pub mod TrimLemmas
 pub mod BaseReadLemmas

@@ -16,7 +16,7 @@ mod leaf_chain;
 mod leaf_ends;
 mod leaf_reads;
 mod levels;
-mod merge_records;
+mod merges;
 mod neighbours;
 mod records;
 mod splits;

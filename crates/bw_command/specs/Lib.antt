@@ -1,4 +1,4 @@
-pub mod LimitSettings
+pub mod Limits
 pub mod Jobs
 pub mod CommandLine
 pub mod Commands

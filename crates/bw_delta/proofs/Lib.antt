@@ -3,7 +3,7 @@ pub mod Histories
 pub mod Orders
 pub mod Batches
 pub mod Filters
-pub mod PairMaps
+pub mod Maps
 pub mod Foldings
 pub mod ContentsAsOf
 pub mod Readings

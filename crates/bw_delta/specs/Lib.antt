@@ -7,6 +7,6 @@ pub mod Present
 pub mod Replays
 pub mod Batches
 pub mod ContentsAsOf
-pub mod PagePairs
+pub mod Pairs
 pub mod Merging
 pub mod SortedWrites

@@ -1,1 +1,1 @@
-pub mod SampleLeaves
+pub mod Leaves

@@ -1,10 +1,10 @@
-pub mod ListParts
-pub mod PointGroups
+pub mod Lists
+pub mod Entries
 pub mod Groups
 pub mod Wholes
-pub mod HomeRuns
+pub mod RunLemmas
 pub mod PassedPages
-mod FoundHomes
+mod HomeLemmas
 pub mod HomeReads
 mod NumberLemmas
 pub mod SortedPoints

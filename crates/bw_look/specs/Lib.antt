@@ -2,10 +2,10 @@ pub mod View
 pub mod Trees
 pub mod Folding
 pub mod Words
-pub mod StagedBatches
+pub mod Stages
 pub mod Replaying
 pub mod Routing
-pub mod PageStates
+pub mod Pages
 pub mod Shapes
 pub mod Unnamed
 pub mod RemovedPages

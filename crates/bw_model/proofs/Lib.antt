@@ -1,4 +1,4 @@
-pub mod SortedPairs
+pub mod PairsLemmas
 pub mod Maps
 pub mod Picks
 pub mod RunsLemmas

@@ -1,4 +1,4 @@
-pub mod KeptLeaves
+pub mod LeafLemmas
 pub mod SweepLemmas
 pub mod PartLemmas
 pub mod TidyLemmas

@@ -1,6 +1,6 @@
 pub mod FinishLemmas
 pub mod TakenLemmas
 pub mod FreedLemmas
-pub mod NamedNeighbours
+pub mod NamingLemmas
 pub mod PlainLemmas
-pub mod MergeStepLemmas
+pub mod MergeLemmas

@@ -1,4 +1,4 @@
 pub mod Steps
 pub mod Naming
-pub mod MergeSteps
+pub mod Merges
 pub mod Releasing

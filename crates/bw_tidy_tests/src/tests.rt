@@ -19,4 +19,3 @@ mod stopping;
 mod stops;
 mod sweeps;
 mod tidying;
-mod workers;
