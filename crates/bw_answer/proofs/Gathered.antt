@@ -11,7 +11,7 @@ use Rattle.bw_answer.specs.declared.parts.Part.{Part}
 use Rattle.bw_answer.specs.declared.parts.Span.{Span}
 use Rattle.bw_group.specs.declared.points.Point.{Point}
 use Rattle.bw_answer.specs.declared.batch_reader.Answer.{Answer}
-use Rattle.bw_group.proofs.Lists.{seen_rest}
+use Rattle.bw_group.proofs.ListParts.{seen_rest}
 
 -- a span of a list whose elements are seen through a function
 spanned_seen : {X Y : Type 0} (f : X → Y) (span : Span) (xs : List X) → map f (elements_in span xs) ≡ elements_in span (map f xs)

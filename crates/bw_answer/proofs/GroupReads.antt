@@ -19,9 +19,9 @@ use Rattle.bw_look.specs.View.{TreeView, contents_at}
 use Rattle.bw_group.specs.Homes.{HasPageAt}
 use Rattle.bw_group.specs.Points.{Entry, HasKey, IsEntryOf, IsPointOf, entries_of}
 use Rattle.bw_group.specs.declared.points.Point.{Point}
-use Rattle.bw_group.proofs.Entries.{part_holds, part_rises, part_sorted}
-use Rattle.bw_group.proofs.Lists.{all_part}
-use Rattle.bw_group.proofs.RunLemmas.{all_both}
+use Rattle.bw_group.proofs.PointGroups.{part_holds, part_rises, part_sorted}
+use Rattle.bw_group.proofs.ListParts.{all_part}
+use Rattle.bw_group.proofs.HomeRuns.{all_both}
 use Rattle.bw_group.proofs.HomeReads.{pages_listed}
 use Rattle.bw_answer.specs.Replies.{ArePointsOf, IsReadBy, IsReadInTurn, ReaderView}
 

@@ -1,7 +1,7 @@
 mod ListLemmas
 mod WriteGroups
 pub mod ReplyLemmas
-mod PartLemmas
+mod PartPlaces
 mod Gathered
 mod Placed
 mod Replied

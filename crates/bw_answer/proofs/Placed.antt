@@ -10,7 +10,7 @@ use Rattle.bw_answer.specs.declared.batch_reader.Answer.{Answer}
 use Rattle.bw_group.specs.Points.{Entry, entries_of, places_of}
 use Rattle.bw_group.specs.declared.points.Point.{Point}
 use Rattle.bw_answer.specs.Replies.{ReaderView, answer_to, answers_to, contents_before, point_places, replies_to, with_answers}
-use Rattle.bw_group.proofs.Lists.{get_other, get_set}
+use Rattle.bw_group.proofs.ListParts.{get_other, get_set}
 use Rattle.bw_answer.proofs.ListLemmas.{all_back, all_front, same_list}
 use Rattle.bw_answer.proofs.ReplyLemmas.{replies_length}
 

@@ -12,9 +12,9 @@ use Rattle.bw_group.specs.Points.{Entry, entries_at, entries_from, entries_of, p
 use Rattle.bw_group.specs.declared.points.Point.{Point}
 use Rattle.bw_answer.specs.Replies.{ArePointsOf, ReaderView, contents_before, replies_to, answers_to, point_places, with_answers}
 use Rattle.bw_answer.specs.declared.parts.Part.{Part}
-use Rattle.bw_group.proofs.Entries.{entries_rise, places_length, places_within, rising_at, scan_within}
-use Rattle.bw_group.proofs.Lists.{all_same}
-use Rattle.bw_answer.proofs.PartLemmas.{in_parts, points_of_parts, scans_of_parts}
+use Rattle.bw_group.proofs.PointGroups.{entries_rise, places_length, places_within, rising_at, scan_within}
+use Rattle.bw_group.proofs.ListParts.{all_same}
+use Rattle.bw_answer.proofs.PartPlaces.{in_parts, points_of_parts, scans_of_parts}
 use Rattle.bw_answer.proofs.Placed.{all_placed, all_replied, both_placed, placed_length, IsAnswered}
 use Rattle.bw_answer.proofs.ReplyLemmas.{replies_length}
 use Rattle.bw_group.proofs.Wholes.{at_each_place, batch_entries, batch_scans}

@@ -23,7 +23,7 @@ use Rattle.bw_group.specs.declared.points.Point.{Point}
 use Rattle.bw_answer.specs.declared.batch_reader.Answer.{Answer}
 use Rattle.bw_answer.specs.Replies.{ReaderView, IsReadInTurn, contents_before, replies_to, answer_to, answers_to, IsReadBy}
 use Rattle.bw_model.specs.Model.{IsReplyAt}
-use Rattle.bw_group.proofs.Lists.{take_to}
+use Rattle.bw_group.proofs.ListParts.{take_to}
 use Rattle.bw_answer.proofs.ListLemmas.{drop_next}
 
 no_get : false ≡ true → ⊥

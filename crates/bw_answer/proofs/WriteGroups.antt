@@ -15,7 +15,7 @@ use Rattle.bw_delta.specs.History.{pointed_to}
 use Rattle.bw_delta.specs.Batches.{writes_to}
 use Rattle.bw_answer.specs.WriteGroups.{IsFirstOf}
 use Rattle.bw_group.proofs.Groups.{filter_seen, ranks, ties_are}
-use Rattle.bw_group.proofs.Lists.{in_rest, seen_rest}
+use Rattle.bw_group.proofs.ListParts.{in_rest, seen_rest}
 
 module _ {X : Type 0} (p : X → Bool) where
   -- where the first pass and the others don't

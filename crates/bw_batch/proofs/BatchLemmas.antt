@@ -7,9 +7,9 @@ use Rattle.bw_delta.specs.Batches.{writes_of}
 use Rattle.bw_tree.specs.Stages.{accepted_tree, adopted_stage, is_adopted, staged_on, undone_tree}
 use Rattle.bw_look.specs.View.{TreeView, StageView, contents_at, contents_with}
 use Rattle.bw_look.specs.declared.folded.Folded.{Folded}
-use Rattle.bw_tree.specs.Words.{IsPostedStageOn}
+use Rattle.bw_tree.specs.PageWords.{IsPostedStageOn}
 use Rattle.bw_post.specs.Posting.{IsPostedBeside, IsWaiting}
-use Rattle.bw_batch.specs.Stages.{operations_staged}
+use Rattle.bw_batch.specs.IndexStages.{operations_staged}
 
 -- a batch that was staged waits to be posted
 pub staged_waits : (before tree : TreeView) (ops : List Op) → tree ≡ staged_on before ops → IsWaiting tree tree.staged ops

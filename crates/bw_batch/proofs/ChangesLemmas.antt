@@ -5,9 +5,9 @@ use Rattle.bw_delta.specs.Batches.{writes_of}
 use Rattle.bw_model.specs.Model.{contents_after}
 use Rattle.bw_model.specs.declared.operations.Op.{Op}
 use Rattle.bw_model.specs.declared.outcomes.Refusal.{Refusal}
-use Rattle.bw_batch.specs.Leaves.{leaves_of}
+use Rattle.bw_batch.specs.IndexLeaves.{leaves_of}
 use Rattle.bw_batch.specs.Outcomes.{Changes, ChangesInTurn, batches_of}
-use Rattle.bw_batch.specs.Sweeps.{base_of, is_sweep_due, records_before}
+use Rattle.bw_batch.specs.DueSweeps.{base_of, is_sweep_due, records_before}
 use Rattle.bw_batch.specs.View.{IndexView, contents_of, next_stamp_of, settings_of}
 use Rattle.bw_batch.specs.declared.index.Done.{Done}
 use Rattle.bw_batch.proofs.OutcomesLemmas.{batches_more}

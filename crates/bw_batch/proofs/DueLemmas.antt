@@ -16,13 +16,13 @@ use Rattle.bw_level.specs.Turns.{slot_without_writes}
 use Rattle.bw_model.specs.declared.operations.Op.{Op}
 use Rattle.bw_tree.specs.Stages.{LeavesHaveAll, accepted_tree, staged_on}
 use Rattle.bw_look.specs.View.{StageView, TreeView, staged_writes}
-use Rattle.bw_tree.specs.Words.{IsPostedStageOn}
+use Rattle.bw_tree.specs.PageWords.{IsPostedStageOn}
 use Rattle.bw_tree.specs.Beside.{folded_tree, with_own_words}
 use Rattle.bw_tree.specs.Making.{leaf_slot}
 use Rattle.bw_look.specs.Folding.{put_each}
 use Rattle.bw_look.specs.declared.folded.Folded.{Folded}
 use Rattle.bw_post.specs.Posting.{IsPostedBeside}
-use Rattle.bw_batch.proofs.RangeLemmas.{put_at}
+use Rattle.bw_batch.proofs.KeptHomes.{put_at}
 use Rattle.bw_shape.specs.Limits.{LimitsView, AreWithinBut, IsWithin}
 use Rattle.bw_shape.specs.Tidying.{DueView, HasBoth, KeepsWithin}
 

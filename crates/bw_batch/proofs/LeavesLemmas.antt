@@ -10,10 +10,10 @@ use Rattle.bw_tree.specs.Stages.{accepted_tree, staged_on}
 use Rattle.bw_look.specs.View.{StageView, TreeView}
 use Rattle.bw_look.specs.declared.look.shape.PageShape.{PageShape}
 use Rattle.bw_model.specs.declared.operations.Op.{Op}
-use Rattle.bw_shape.specs.Leaves.{LeafRange, leaf_range, leaf_ranges}
-use Rattle.bw_shape.proofs.LeafLemmas.{same_leaves, same_row}
-use Rattle.bw_batch.specs.Leaves.{leaves_of, range_of}
-use Rattle.bw_batch.proofs.RangeLemmas.{IsAsWide}
+use Rattle.bw_shape.specs.LeafRanges.{LeafRange, leaf_range, leaf_ranges}
+use Rattle.bw_shape.proofs.KeptLeaves.{same_leaves, same_row}
+use Rattle.bw_batch.specs.IndexLeaves.{leaves_of, range_of}
+use Rattle.bw_batch.proofs.KeptHomes.{IsAsWide}
 
 both : (xs ys : List PageShape) → leaves_of (xs ++ ys) ≡ leaves_of xs ++ leaves_of ys
 both [] ys = refl

@@ -1,8 +1,8 @@
 pub mod OutcomesLemmas
 pub mod BatchLemmas
-pub mod ContentsLemmas
+pub mod IndexContents
 pub mod ChangesLemmas
-pub mod RangeLemmas
+pub mod KeptHomes
 pub mod DueLemmas
 pub mod LenLemmas
 pub mod LeafPairsLemmas

@@ -1,10 +1,10 @@
 pub mod Settings
 pub mod SettingFaults
 pub mod Codes
-pub mod Stages
+pub mod IndexStages
 pub mod View
-pub mod Leaves
-pub mod Sweeps
+pub mod IndexLeaves
+pub mod DueSweeps
 pub mod Outcomes
-pub mod Trees
+pub mod IndexTrees
 pub mod Lens

@@ -6,10 +6,10 @@ ghost use Rattle.bw_tree.specs.Stages.{is_adopted, undone_tree};
 ghost use Rattle.bw_look.specs.View.{contents_at, contents_with, staged_writes};
 ghost use Rattle.bw_group.specs.Homes.{AreHomes};
 ghost use Rattle.bw_post.specs.Posting.{IsPostedBeside, IsWaiting};
-ghost use Rattle.bw_shape.specs.Leaves.{leaf_ranges};
-ghost use Rattle.bw_shape.specs.Tidying.{HasBoth, KeepsWithin};
+ghost use Rattle.bw_shape.specs.LeafRanges.{leaf_ranges};
+ghost use Rattle.bw_shape.specs.Tidying.{KeepsWithin};
 ghost use Rattle.bw_batch.specs.Settings.{most_lost};
-ghost use Rattle.bw_batch.specs.Stages.{operations_staged};
+ghost use Rattle.bw_batch.specs.IndexStages.{operations_staged};
 
 use crate::options::Options;
 use bw_answer::replies;
@@ -124,8 +124,7 @@ fn answer_staged<R: Threads + Sync, G: Gate>(
     tree.adopt_folded(pages, closed, folded);
     let base = tree.next_stamp();
     let replies = replies(rt, alloc, tree, base, batch, &homes, workers)?;
-    due.mark(&leaves)?;
-    add_posted(due, tree, posted)?;
+    due.add_posted(tree, posted, &leaves)?;
     Ok(Answered {
         replies,
         lost,
@@ -156,13 +155,4 @@ fn post<R: Threads + Sync, G: Gate>(
         return post_beside(rt, alloc, tree, batch, piece, workers, gate, chain_max);
     }
     post_all(rt, alloc, tree, batch, piece, workers, gate)
-}
-
-// These pages are due too, to which records were posted or could have been. A batch of reads has none, and takes no memory
-// then, unless leaves could be consolidated beside it.
-fn add_posted(due: &mut Due, tree: &Tree, pages: Vec<PageId, Alloc>) -> Result<(), Memory>
-    ensures ok { OnOk result (HasBoth pages.entry.items due.old.pages due.new.pages) }
-    ensures err { OnErr result (due.new ≡ due.old) }
-{
-    due.add(tree, pages)
 }

@@ -14,7 +14,8 @@ use bw_key::{Key, Memory};
 use bw_memory::Alloc;
 use bw_model::{Op, Pairs, Refusal, Replies};
 use bw_post::Gate;
-use bw_shape::{Due, Tidy, all_pages, sweep_due, tidy_due};
+use bw_shape::{Due, Tidy, all_pages, sweep_due};
+use bw_tidy::tidy_by;
 use bw_tree::{Leaf, PageShape, Tree};
 use std::marker::Model;
 use std::thread::Threads;
@@ -93,10 +94,10 @@ impl Index {
     ghost use Rattle.bw_batch.specs.Lens.{key_count};
     ghost use Rattle.bw_batch.specs.Settings.{limits_of, most_lost};
     ghost use Rattle.bw_batch.specs.View.{contents_of, settings_of, next_stamp_of};
-    ghost use Rattle.bw_batch.specs.Leaves.{leaves_of};
-    ghost use Rattle.bw_batch.specs.Sweeps.{base_of, is_sweep_due, records_before};
+    ghost use Rattle.bw_batch.specs.IndexLeaves.{leaves_of};
+    ghost use Rattle.bw_batch.specs.DueSweeps.{base_of, is_sweep_due, records_before};
     ghost use Rattle.bw_batch.specs.Outcomes.{batches_of, outcomes_of, AreCounted, ChangesInTurn};
-    ghost use Rattle.bw_batch.specs.Trees.{IsShapeOf, IsTreeOf};
+    ghost use Rattle.bw_batch.specs.IndexTrees.{IsShapeOf, IsTreeOf};
     ghost use Rattle.bw_model.specs.Model.{replies_of, contents_after};
     ghost use Rattle.bw_model.specs.Runs.{AnswersInTurn, left_in_turn};
 
@@ -213,7 +214,7 @@ impl Index {
             lost,
             replaced,
         } = self.answer(rt, ops, gate)?;
-        let tidy = self.tidy();
+        let tidy = self.tidy(rt);
         Ok(Done {
             replies,
             tidy,
@@ -286,7 +287,7 @@ impl Index {
     }
 
     // Looks at the pages that are due.
-    fn tidy(&mut self) -> Tidy
+    fn tidy<R: Threads + Sync>(&mut self, rt: &R) -> Tidy
         ensures contents { contents_of self.new ≡ contents_of self.old }
         ensures settings { settings_of self.new ≡ settings_of self.old }
         ensures stamp { next_stamp_of self.new ≡ next_stamp_of self.old }
@@ -294,8 +295,8 @@ impl Index {
         ensures leaves { self.new.records ≡ self.old.records → leaves_of self.new.pages ≡ leaves_of self.old.pages }
         ensures tidied { result.stopped ≡ false → self.new.due ≡ [] }
     {
-        let limits = self.options.limits();
-        tidy_due(&mut self.tree, &limits, &mut self.due)
+        let (limits, workers) = (self.options.limits(), self.options.workers());
+        tidy_by(rt, &mut self.tree, &limits, &mut self.due, workers)
     }
 
     /// Runs batches in turn, and answers one outcome for each. `Memory` means that there was no room for the list

@@ -1,1 +1,1 @@
-mod LeafLemmas
+mod LeavesSideBySide

@@ -20,7 +20,7 @@ use Rattle.bw_core.specs.declared.Played.{Played}
 use Rattle.bw_core.specs.declared.Played.TheVariants.{Done, Lost}
 use Rattle.bw_core.specs.Events.{Resumes, book_after_look, book_after_swap, book_after_late_swap, book_after_join, book_after_claim, book_without_pieces, under, book_after_win, book_after_loss}
 use Rattle.bw_core.specs.Keeping.{SeesBoth}
-use Rattle.bw_core.specs.Steps.{Applies}
+use Rattle.bw_core.specs.Transitions.{Applies}
 use Rattle.bw_core.proofs.Claims.{no_wrap}
 use Rattle.bw_core.proofs.Losses.{losses_bound}
 use Rattle.bw_core.proofs.Runs.{event_keeps}

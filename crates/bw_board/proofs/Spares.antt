@@ -4,7 +4,7 @@ use lib.ListN.{replicate, length-replicate}
 use Rattle.bw_core.specs.declared.Under.{Under}
 use Rattle.bw_core.specs.declared.BookView.{BookView}
 use Rattle.bw_core.specs.World.{World, Armed, LawfulUnder, LawfulBook, Lawful}
-use Rattle.bw_core.specs.Steps.{CanStart, start_world}
+use Rattle.bw_core.specs.Transitions.{CanStart, start_world}
 use Rattle.bw_core.proofs.Runs.{start_is_lawful}
 use Rattle.bw_core.proofs.Without.{one_last}
 

@@ -10,7 +10,7 @@ use Rattle.bw_core.specs.declared.Played.{Played}
 use Rattle.bw_core.specs.declared.Played.TheVariants.{Done, Lost}
 use Rattle.bw_core.specs.World.{World, times, owns, posts_in, tries_in, seen_at, end_at, top}
 use Rattle.bw_core.specs.Events.{under, Resumes}
-use Rattle.bw_core.specs.Steps.{Applies}
+use Rattle.bw_core.specs.Transitions.{Applies}
 use Rattle.bw_board.specs.declared.table.Sight.{Sight}
 use Rattle.bw_board.specs.Rule.{book_of, world, HasLawfulWorld}
 use Rattle.bw_board.specs.Plays.{Seated, IsTop, LookTells, LinkTells, TryTells, FollowTells, ClaimTells, ReplaceTells, left_of, right_of, both_of, spent_sight}

@@ -6,7 +6,7 @@ use Rattle.atomic_table.specs.Table.{State}
 use Rattle.bw_core.specs.declared.Under.{Under}
 use Rattle.bw_core.specs.declared.BookView.{BookView}
 use Rattle.bw_core.specs.World.{World, Lawful}
-use Rattle.bw_core.specs.Steps.{first_book}
+use Rattle.bw_core.specs.Transitions.{first_book}
 use Rattle.bw_core.specs.Keeping.{SeesBoth}
 use Rattle.bw_board.specs.declared.table.Pair.{Pair}
 use Rattle.bw_board.specs.declared.table.Sight.{Sight}

@@ -3,7 +3,7 @@ ghost use Rattle.std.specs.Prelude.{◌≡◌, ℕ, ◌+◌, ◌^◌, ◌<◌, �
 ghost use Rattle.std.specs.Prelude.{replicate, EachIndex, IsOk, IsNone, IfOk, IfErr, OnOk, OnErr, IfSome, IfNone, min, true};
 ghost use Rattle.bw_core.specs.World.{tries_in, IsEnd, seen_at, end_at, owns, posts_in, posts_at, times, top};
 ghost use Rattle.bw_core.specs.Events.{book_after_look, book_after_late_swap, left_book, right_book, book_after_join, book_without_pieces};
-ghost use Rattle.bw_core.specs.Steps.{first_book};
+ghost use Rattle.bw_core.specs.Transitions.{first_book};
 ghost use Rattle.bw_board.specs.declared.board.Replaced.TheVariants.{Won, Late};
 ghost use Rattle.bw_board.specs.Public.{BoardView, SeatView, board_view, seat_view, IsBoard, IsIdleSeat, Sees, Posts};
 ghost use Rattle.bw_board.specs.Public.{Replaces, seat_after_claim, AllClaimed, OwnsAlone, IsClosed, HasEach, IsSound};

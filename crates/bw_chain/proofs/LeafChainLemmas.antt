@@ -6,7 +6,7 @@ use Rattle.bw_model.specs.Contents.{is_below_end}
 use Rattle.bw_model.specs.Values.{ValueBytes}
 use Rattle.bw_delta.specs.Writes.{WriteView}
 use Rattle.bw_delta.specs.History.{pointed_to}
-use Rattle.bw_delta.specs.Pairs.{ArePairsAsOf, value_in_parts}
+use Rattle.bw_delta.specs.PagePairs.{ArePairsAsOf, value_in_parts}
 use Rattle.bw_delta.specs.Replays.{ReplayView, IsReplayOf}
 use Rattle.bw_chain.specs.declared.leaf_chain.LeafChain.{LeafChain}
 use Rattle.bw_level.specs.Slots.{Slot, Free, Gone, Live, side_of_slot}

@@ -7,10 +7,10 @@ pub mod LeafChainLemmas
 pub mod SupportLemmas
 pub mod PlacingLemmas
 pub mod BaseLemmas
-pub mod RemovedLemmas
+pub mod RemovedBases
 pub mod AdditionLemmas
 pub mod InPlaceLemmas
 pub mod VacancyLemmas
 pub mod BareLemmas
-pub mod TrimLemmas
+pub mod BaseTrims
 pub mod BaseReadLemmas

@@ -14,7 +14,7 @@ use Rattle.bw_page.proofs.Truths.{holds}
 use Rattle.bw_delta.specs.Writes.{WriteView}
 use Rattle.bw_delta.specs.Batches.{writes_to}
 use Rattle.bw_delta.specs.History.{history, action_at, pointed_to}
-use Rattle.bw_delta.specs.Pairs.{ArePairsAsOf, value_in_parts}
+use Rattle.bw_delta.specs.PagePairs.{ArePairsAsOf, value_in_parts}
 use Rattle.bw_delta.specs.Replays.{ReplayView, IsReplayOf}
 use Rattle.bw_delta.specs.declared.deltas.Delta.{Delta}
 use Rattle.bw_delta.specs.declared.deltas.Delta.TheVariants.{Put}

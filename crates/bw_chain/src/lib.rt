@@ -16,7 +16,7 @@ mod leaf_chain;
 mod leaf_ends;
 mod leaf_reads;
 mod levels;
-mod merges;
+mod merge_records;
 mod neighbours;
 mod records;
 mod splits;

@@ -7,7 +7,7 @@ use Rattle.bw_command.proofs.JobsLemmas.{nothing_done}
 use Rattle.bw_command.specs.Commands.{IsCommandOutcome}
 use Rattle.bw_command.specs.CommandLine.{Asks, JobWords, faults_in, file_of, job_of, limits_of, status_for, values_in}
 use Rattle.bw_command.specs.Jobs.{IsCut, IsJobStatus, IsOutOfMemory, IsJobOutcome}
-use Rattle.bw_command.specs.Limits.{settings_of}
+use Rattle.bw_command.specs.LimitSettings.{settings_of}
 use Rattle.bw_command.specs.declared.request.Request.{Request}
 use Rattle.bw_trace.specs.declared.jobs.Job.{Job}
 use Rattle.clap.specs.Words.{HasKind, IsAmong, Kinds, Text, kind_of}

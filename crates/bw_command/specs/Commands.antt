@@ -3,7 +3,7 @@ use Rattle.std.specs.Prelude.{◌≡◌, ◌≢◌, ◌⊎◌, ℕ, List, [], Op
 use Rattle.bw_batch.specs.SettingFaults.{first_fault}
 use Rattle.bw_command.specs.CommandLine.{JobWords, faults_in, file_of, job_of, limits_of, status_for, values_in}
 use Rattle.bw_command.specs.Jobs.{IsJobStatus, IsJobOutcome}
-use Rattle.bw_command.specs.Limits.{settings_of}
+use Rattle.bw_command.specs.LimitSettings.{settings_of}
 use Rattle.clap.specs.Words.{IsAmong, Text}
 use Rattle.clap.specs.declared.error.kind.ErrorKind.{ErrorKind}
 

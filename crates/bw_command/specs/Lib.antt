@@ -1,4 +1,4 @@
-pub mod Limits
+pub mod LimitSettings
 pub mod Jobs
 pub mod CommandLine
 pub mod Commands

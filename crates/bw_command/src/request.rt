@@ -26,7 +26,7 @@ pub struct Limits {
 impl Limits {
     ghost use Rattle.std.specs.Prelude.{◌≡◌, MatchResult, None, Some};
     ghost use Rattle.bw_batch.specs.SettingFaults.{first_fault};
-    ghost use Rattle.bw_command.specs.Limits.{settings_of};
+    ghost use Rattle.bw_command.specs.LimitSettings.{settings_of};
 
     /// The options with these values, or the first that is out of its range.
     pub fn options(&self) -> Result<Options, OptionFault>

@@ -7,7 +7,7 @@ use Rattle.bw_core.specs.declared.BookView.{BookView}
 use Rattle.std.specs.List.{AllByRecursion}
 use Rattle.bw_core.specs.World.{World, LawfulUnder, owns, posts_in, times, seen_at, end_at, late}
 use Rattle.bw_core.specs.Events.{under, Resumes}
-use Rattle.bw_core.specs.Steps.{IsWorld, IsSeat, MayLink, MayTry, MayFollow, MayJoin}
+use Rattle.bw_core.specs.Transitions.{IsWorld, IsSeat, MayLink, MayTry, MayFollow, MayJoin}
 use Rattle.bw_core.proofs.Lists.{at_index, inside_at, meets_low, one_other, AllByRecursion-like, few, end-length, total_two}
 use Rattle.bw_core.proofs.Events.{is_record}
 use Rattle.bw_core.proofs.Claims.{no_wrap}

@@ -11,7 +11,7 @@ use Rattle.bw_core.specs.declared.Post.{Post}
 use Rattle.bw_core.specs.declared.BookView.{BookView}
 use Rattle.bw_core.specs.World.{World, Lawful, LawfulBook, Keeps, IsEnd, one_if, total, times, posts_in, posts_at, seen_at, end_at, late}
 use Rattle.bw_core.specs.Events.{world_with, under, book_after_look, book_after_loss, book_after_late_swap, Resumes}
-use Rattle.bw_core.specs.Steps.{IsFresh, Looks, Links, Tries, Follows, Claims, Splits, Joins, Replaces, Applies, Runs, CanStart, start_world, first_book, IsWorld}
+use Rattle.bw_core.specs.Transitions.{IsFresh, Looks, Links, Tries, Follows, Claims, Splits, Joins, Replaces, Applies, Runs, CanStart, start_world, first_book, IsWorld}
 use Rattle.bw_core.specs.Keeping.{FreshIsRead, StartIsLawful, FollowKeeps, EventKeeps, RunKeeps}
 use Rattle.bw_core.proofs.Lists.{meets_same, end_self, end_trans, end-times, late_first, total-le, total_at, some_member, AllByRecursion-at}
 use Rattle.bw_core.proofs.Events.{build, last_low, or_then, posts_at-le, and_here, look_keeps, link_keeps, lose_keeps, win_keeps, claim_keeps_piece, claim_keeps_told, replace_keeps_won, replace_keeps_late}

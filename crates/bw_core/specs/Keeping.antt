@@ -10,7 +10,7 @@ use Rattle.bw_core.specs.declared.Played.TheVariants.{Done}
 use Rattle.std.specs.List.{AllByRecursion}
 use Rattle.bw_core.specs.World.{World, Lawful, Keeps, Armed, Meets, IsEnd, one_if, total, beneath, wins_in, owns, posts_in, posts_at, seen_at, end_at, spare_at, late, top, spent}
 use Rattle.bw_core.specs.Events.{world_with, under, book_after_look, book_after_link, book_after_win, book_after_loss, book_after_claim, book_without_pieces, left_book, right_book, book_after_join, book_after_swap, book_after_late_swap}
-use Rattle.bw_core.specs.Steps.{IsFresh, IsSeat, Claims, Applies, Runs, CanStart, start_world, world_after_claim}
+use Rattle.bw_core.specs.Transitions.{IsFresh, IsSeat, Claims, Applies, Runs, CanStart, start_world, world_after_claim}
 
 -- the chain that the law speaks of is the one that the heads and links give
 abbrev pub FreshIsRead : Type 0

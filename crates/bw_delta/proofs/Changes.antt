@@ -16,7 +16,7 @@ use Rattle.bw_page.proofs.Search.{same_keys}
 use Rattle.bw_page.proofs.Truths.{both_of, holds, left_of, right_of, true_holds}
 use Rattle.bw_delta.specs.Merging.{with_value, AreBelow, AreCutAt}
 use Rattle.bw_delta.specs.Present.{changed_pairs, with_change, Change}
-use Rattle.bw_delta.proofs.Maps.{find_in_range, sorted_in_range}
+use Rattle.bw_delta.proofs.PairMaps.{find_in_range, sorted_in_range}
 use Rattle.bw_delta.proofs.Merges.{below_with, find_parted, sorted_rest, value_then}
 
 -- the value at a key under changes: that of the change there, or else the one below

@@ -3,7 +3,7 @@ pub mod Histories
 pub mod Orders
 pub mod Batches
 pub mod Filters
-pub mod Maps
+pub mod PairMaps
 pub mod Foldings
 pub mod ContentsAsOf
 pub mod Readings

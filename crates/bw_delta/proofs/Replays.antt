@@ -21,7 +21,7 @@ use Rattle.bw_delta.specs.Replays.{ReplayView, IsReplayOf, replayed_value}
 use Rattle.bw_delta.specs.Rising.{HasRisingStamps}
 use Rattle.bw_delta.proofs.Batches.{rising_filter}
 use Rattle.bw_delta.proofs.Histories.{none_below, quiet}
-use Rattle.bw_delta.proofs.Maps.{find_in_range, only_inside}
+use Rattle.bw_delta.proofs.PairMaps.{find_in_range, only_inside}
 use Rattle.bw_delta.proofs.Readings.{left_rises, resumed}
 
 -- two tests in either order

@@ -7,6 +7,6 @@ pub mod Present
 pub mod Replays
 pub mod Batches
 pub mod ContentsAsOf
-pub mod Pairs
+pub mod PagePairs
 pub mod Merging
 pub mod SortedWrites

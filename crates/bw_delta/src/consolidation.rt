@@ -10,7 +10,7 @@ ghost use Rattle.bw_model.specs.Values.{Pair, ValueBytes};
 ghost use Rattle.bw_delta.specs.Batches.{writes_to};
 ghost use Rattle.bw_delta.specs.History.{history, action_at, pointed_to, HasDistinctStamps};
 ghost use Rattle.bw_delta.specs.Merging.{after_writes, is_due, AreFrom};
-ghost use Rattle.bw_delta.specs.Pairs.{ArePairsAsOf, parts_of, value_in_parts};
+ghost use Rattle.bw_delta.specs.PagePairs.{ArePairsAsOf, parts_of, value_in_parts};
 
 use crate::merging::merged;
 use crate::sorted_writes::{KeyedWrite, in_key_order, keyed_write};

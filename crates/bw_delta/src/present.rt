@@ -7,7 +7,7 @@ ghost use Rattle.bw_model.specs.Actions.{effect};
 ghost use Rattle.bw_model.specs.Contents.{is_below_end, is_pair_in_range};
 ghost use Rattle.bw_delta.specs.Batches.{writes_to};
 ghost use Rattle.bw_delta.specs.History.{history, action_at, pointed_to};
-ghost use Rattle.bw_delta.specs.Pairs.{parts_of, value_in_parts};
+ghost use Rattle.bw_delta.specs.PagePairs.{parts_of, value_in_parts};
 ghost use Rattle.bw_delta.specs.Present.{base_pairs, present_pairs};
 ghost use Rattle.bw_delta.specs.Readings.{from_stamp};
 ghost use Rattle.bw_delta.specs.Rising.{HasRisingStamps};

@@ -6,7 +6,7 @@ ghost use Rattle.bw_key.specs.Order.{KeyBytes, key_cmp};
 ghost use Rattle.bw_model.specs.Contents.{is_pair_in_range};
 ghost use Rattle.bw_model.specs.Values.{ValueBytes};
 ghost use Rattle.bw_delta.specs.History.{pointed_to, HasDistinctStamps};
-ghost use Rattle.bw_delta.specs.Pairs.{parts_of, value_in_parts};
+ghost use Rattle.bw_delta.specs.PagePairs.{parts_of, value_in_parts};
 ghost use Rattle.bw_delta.specs.Replays.{IsReplayOf};
 ghost use Rattle.bw_delta.specs.Writes.{WriteView};
 

@@ -1,6 +1,6 @@
 // Heaps that refuse growths on demand.
 ghost use Rattle.std.specs.Prelude.{◌≡◌, IfOk, None, true};
-ghost use Rattle.bw_memory.specs.Limits.{is_counted, limit_of};
+ghost use Rattle.bw_memory.specs.HeapLimits.{is_counted, limit_of};
 
 use bw_key::Memory;
 use bw_memory::{Alloc, Heap};

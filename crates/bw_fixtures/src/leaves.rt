@@ -1,8 +1,8 @@
 // Leaves of a pair or two.
 ghost use Rattle.std.specs.Prelude.{◌≡◌, [], ◌∷◌, IfOk};
-ghost use Rattle.bw_fixtures.specs.Leaves.{leaf_from_c, leaf_from_e, leaf_up_to_c, whole_leaf};
+ghost use Rattle.bw_fixtures.specs.SampleLeaves.{leaf_from_c, leaf_from_e, leaf_up_to_c, whole_leaf};
 
-use crate::pairs::{key, one, pair, two};
+use crate::sample_pairs::{key, one, pair, two};
 use bw_key::Memory;
 use bw_memory::Alloc;
 use bw_page::{Leaf, PageId};

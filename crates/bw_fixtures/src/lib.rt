@@ -7,13 +7,13 @@
 mod heaps;
 mod leaves;
 mod numbers;
-mod operations;
-mod pairs;
+mod sample_pairs;
+mod text_operations;
 
 pub use heaps::{heap, was_refused};
 pub use leaves::{from_c, from_e, leaf_of, three_leaves, up_to_c};
 pub use numbers::Random;
-pub use operations::{
+pub use sample_pairs::{LONG, are, is_run_of, key, one, pair, pairs_of, two, value};
+pub use text_operations::{
     TextOp, TextPair, TextReply, are_replies, end, have_texts, is_reply, op, ops, text_pairs,
 };
-pub use pairs::{LONG, are, is_run_of, key, one, pair, pairs_of, two, value};

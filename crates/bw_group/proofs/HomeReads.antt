@@ -7,8 +7,8 @@ use Rattle.bw_tree.specs.Levels.{IsOneHome}
 use Rattle.bw_look.specs.View.{TreeView}
 use Rattle.bw_group.specs.Homes.{AreHomes, HasPageAt, HomesView, IsPageAt}
 use Rattle.bw_group.specs.Points.{Entry, IsEntryOf}
-use Rattle.bw_group.proofs.Lists.{all_same}
-use Rattle.bw_group.proofs.RunLemmas.{all_both}
+use Rattle.bw_group.proofs.ListParts.{all_same}
+use Rattle.bw_group.proofs.HomeRuns.{all_both}
 
 same_value : {m n : ℕ} → Some m ≡ Some n → m ≡ n
 same_value e = cc

@@ -1,10 +1,10 @@
-pub mod Lists
-pub mod Entries
+pub mod ListParts
+pub mod PointGroups
 pub mod Groups
 pub mod Wholes
-pub mod RunLemmas
+pub mod HomeRuns
 pub mod PassedPages
-mod HomeLemmas
+mod FoundHomes
 pub mod HomeReads
 mod NumberLemmas
 pub mod SortedPoints

@@ -7,9 +7,9 @@ use Rattle.std.proofs.lemmas.Option.{get_or_from_slice_get, slice_get_within}
 use Rattle.bw_group.specs.Homes.{HasPageAt, HomesView, IsPageAt, number_of}
 use Rattle.bw_group.specs.Points.{Entry, entries_of, place_at}
 use Rattle.bw_group.specs.declared.points.Point.{Point}
-use Rattle.bw_group.proofs.Entries.{entry_holds}
-use Rattle.bw_group.proofs.Lists.{all_same}
-use Rattle.bw_group.proofs.RunLemmas.{all_both}
+use Rattle.bw_group.proofs.PointGroups.{entry_holds}
+use Rattle.bw_group.proofs.ListParts.{all_same}
+use Rattle.bw_group.proofs.HomeRuns.{all_both}
 
 -- a place within a list has its element
 some_at : (xs : List ℕ) (i x : ℕ) → i < length xs → slice_index xs i ≡ x → slice_get xs i ≡ Some x

@@ -15,9 +15,9 @@ use Rattle.bw_tree.specs.Levels.{IsHome, IsOneHome}
 use Rattle.bw_tree.specs.Scans.{high_of}
 use Rattle.bw_tree.specs.Slots.{slot_at}
 use Rattle.bw_look.specs.View.{TreeView}
-use Rattle.bw_tree.specs.Words.{ArePages}
+use Rattle.bw_tree.specs.PageWords.{ArePages}
 use Rattle.bw_group.specs.Homes.{AreInKeyOrder, BeginsBelow, IsTouched}
-use Rattle.bw_group.proofs.Lists.{all_append, all_same}
+use Rattle.bw_group.proofs.ListParts.{all_append, all_same}
 
 -- the page has a key of the batch that isn't above this one, and ends before it
 pub record IsPassed (tree : TreeView) (ops : List Op) (key : KeyBytes) (page : ℕ) : Type 0 where

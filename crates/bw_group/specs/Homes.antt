@@ -8,7 +8,7 @@ use Rattle.bw_tree.specs.Before.{low_of}
 use Rattle.bw_tree.specs.Levels.{IsOneHome}
 use Rattle.bw_tree.specs.Slots.{Slot, slot_at}
 use Rattle.bw_look.specs.View.{TreeView}
-use Rattle.bw_tree.specs.Words.{ArePages}
+use Rattle.bw_tree.specs.PageWords.{ArePages}
 use Rattle.bw_group.specs.Points.{Entry, IsEntryOf}
 
 -- pages, and for each operation of a batch the number of its page among them

@@ -17,10 +17,10 @@ use std::marker::Model;
 use thiserror::Error;
 
 mod prefixes;
-mod spelling;
+mod spelled_bytes;
 
 pub use prefixes::compare_prefixed;
-pub use spelling::Spelled;
+pub use spelled_bytes::Spelled;
 
 /// Out of memory, the same in every crate of the workspace: the allocator refused a growth, since the system has no
 /// more or the heap has reached its limit. Each call says what stands after it.

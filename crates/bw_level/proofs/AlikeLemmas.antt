@@ -10,7 +10,7 @@ use Rattle.bw_level.specs.Slots.{Slot, PageState, Free, Gone, Live, slot_at, lef
 use Rattle.bw_level.specs.Levels.{Stands, AreLevels, StartsWith, LeadsBelow, row}
 use Rattle.bw_level.specs.Entries.{AreExact}
 use Rattle.bw_level.specs.Laws.{LevelsAreAlike}
-use Rattle.bw_level.specs.Steps.{AreAlike, IsAlike, IsTerm}
+use Rattle.bw_level.specs.KeptLevels.{AreAlike, IsAlike, IsTerm}
 use Rattle.bw_level.proofs.RowLemmas.{row_on}
 use Rattle.bw_level.proofs.WalkLemmas.{way_on}
 

@@ -15,7 +15,7 @@ use Rattle.bw_level.specs.Levels.{AreLevels, BeginsWith, LeadsBelow, SideBySide,
 use Rattle.bw_level.specs.Reading.{contents_in, pairs_under, row_pairs, row_writes, writes_over}
 use Rattle.bw_level.specs.Searches.{AllStand, IsInLevels}
 use Rattle.bw_level.specs.Slots.{Slot, PageState, Live, left_of, slot_at}
-use Rattle.bw_level.specs.Steps.{IsTerm, KeepsLevels}
+use Rattle.bw_level.specs.KeptLevels.{IsTerm, KeepsLevels}
 use Rattle.bw_level.specs.Walk.{Leads}
 use Rattle.bw_level.proofs.StepLemmas.{levels_kept}
 

@@ -7,7 +7,7 @@ use Rattle.std.specs.FinMap.{is_sorted, put}
 use Rattle.std.specs.FinMap.Entries.{below_all}
 use Rattle.bw_key.specs.Order.{KeyBytes, key_cmp, key_eq}
 use Rattle.bw_model.specs.Sorted.{place_of}
-use Rattle.bw_model.proofs.PairsLemmas.{put_found_at, put_absent_at}
+use Rattle.bw_model.proofs.SortedPairs.{put_found_at, put_absent_at}
 use Rattle.bw_page.proofs.KeyLemmas.{below_back, upto_below}
 use Rattle.bw_page.proofs.Truths.{holds, left_of, right_of}
 use Rattle.bw_page.specs.Pages.{below}

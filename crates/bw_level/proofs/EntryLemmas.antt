@@ -25,7 +25,7 @@ use Rattle.bw_level.specs.Levels.{AreLevels, FirstChild, LeadsBelow, Stands, Sta
 use Rattle.bw_level.specs.Reading.{body_pairs, body_writes, contents_in, pairs_under, row_pairs, row_writes, writes_over}
 use Rattle.bw_level.specs.Searches.{AllStand, IsInLevels}
 use Rattle.bw_level.specs.Slots.{Slot, PageState, Body, Pairs, Children, Gone, Live, IsSoundBody, IsSoundPage, children_of, left_of, left_of_slot, level_of, slot_at}
-use Rattle.bw_level.specs.Steps.{IsTerm, KeepsLevels, WasTerm}
+use Rattle.bw_level.specs.KeptLevels.{IsTerm, KeepsLevels, WasTerm}
 use Rattle.bw_level.proofs.ChildLemmas.{put_was}
 use Rattle.bw_level.proofs.RowLemmas.{InRow, in_row, row_on, same_each}
 use Rattle.bw_level.proofs.StepLemmas.{levels_kept}

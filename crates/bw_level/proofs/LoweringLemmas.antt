@@ -17,7 +17,7 @@ use Rattle.bw_level.specs.Reading.{contents_in, row_pairs, row_writes}
 use Rattle.bw_level.specs.Roots.{HasOneChild, IsRootRemoved, levels_lowered}
 use Rattle.bw_level.specs.Searches.{AllStand, IsInLevels}
 use Rattle.bw_level.specs.Slots.{Slot, PageState, Body, Pairs, Children, Gone, Live, IsSoundBody, IsSoundPage, children_of, left_of, left_of_slot, level_of, slot_at, slot_level}
-use Rattle.bw_level.specs.Steps.{IsTerm}
+use Rattle.bw_level.specs.KeptLevels.{IsTerm}
 use Rattle.bw_level.specs.Walk.{Leads}
 use Rattle.bw_level.proofs.AboveLemmas.{own_level, own_page}
 use Rattle.bw_level.proofs.AsideLemmas.{KeepsWays, has_first, kept_aside, still_aside}

@@ -24,7 +24,7 @@ use Rattle.bw_level.specs.Merges.{IsNoFirstChild, IsMerged, bodies_joined, level
 use Rattle.bw_level.specs.Reading.{body_pairs, body_writes, contents_in, row_writes, value_in, writes_over}
 use Rattle.bw_level.specs.Searches.{AllStand, IsInLevels}
 use Rattle.bw_level.specs.Slots.{Slot, PageState, Body, Pairs, Children, Gone, Live, IsSoundBody, IsSoundPage, children_of, left_of, left_of_slot, level_of, slot_at}
-use Rattle.bw_level.specs.Steps.{IsTerm, KeepsLevels}
+use Rattle.bw_level.specs.KeptLevels.{IsTerm, KeepsLevels}
 use Rattle.bw_level.specs.Walk.{Leads}
 use Rattle.bw_level.proofs.HomeLemmas.{one_home}
 use Rattle.bw_level.proofs.LeafRowLemmas.{find_both, low_below, none_outside, or_none, row_above, wide_of}

@@ -21,7 +21,7 @@ use Rattle.bw_level.specs.Searches.{AllStand, IsInLevels}
 use Rattle.bw_level.specs.Slots.{Slot, PageState, Free, Gone, Live, children_of, left_of, left_of_slot, level_of, slot_at}
 use Rattle.bw_level.proofs.LeafRowLemmas.{low_below}
 use Rattle.bw_level.proofs.RouteLemmas.{row_first}
-use Rattle.bw_level.specs.Steps.{IsTerm}
+use Rattle.bw_level.specs.KeptLevels.{IsTerm}
 use Rattle.bw_level.proofs.RowLemmas.{first_stands, in_row, row_on}
 use Rattle.bw_level.proofs.StepLemmas.{child_there}
 use Rattle.bw_level.proofs.WalkLemmas.{way_on}

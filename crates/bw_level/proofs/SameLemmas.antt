@@ -3,7 +3,7 @@ use Rattle.std.proofs.Common.{◌≡◌, ℕ, List, refl, sym, subst}
 use Rattle.bw_level.specs.Laws.{KeepsAll}
 use Rattle.bw_level.specs.Levels.{AreLevels}
 use Rattle.bw_level.specs.Slots.{Slot, Free, Gone, Live, slot_at}
-use Rattle.bw_level.specs.Steps.{AreAlike}
+use Rattle.bw_level.specs.KeptLevels.{AreAlike}
 use Rattle.bw_level.proofs.AlikeLemmas.{exact_alike, levels_alike, stand_alike}
 use Rattle.bw_level.proofs.AsideLemmas.{contents_of_same, writes_of_same}
 

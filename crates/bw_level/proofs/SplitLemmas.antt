@@ -29,7 +29,7 @@ use Rattle.bw_level.specs.Reading.{body_pairs, body_writes, contents_in, row_wri
 use Rattle.bw_level.specs.Searches.{AllStand, IsInLevels}
 use Rattle.bw_level.specs.Slots.{Slot, PageState, Body, Pairs, Children, Free, Gone, Live, IsSoundBody, IsSoundPage, children_of, left_of, left_of_slot, level_of, slot_at}
 use Rattle.bw_level.specs.Splits.{HasNoRemovedAt, IsParted, entry_count, first_entries, left_part, level_parted, other_entries, put_behind, right_part, separator, slot_child}
-use Rattle.bw_level.specs.Steps.{IsTerm, KeepsLevels}
+use Rattle.bw_level.specs.KeptLevels.{IsTerm, KeepsLevels}
 use Rattle.bw_level.proofs.CutLemmas.{below_cut, find_first, find_other, lower_inner, lower_page}
 use Rattle.bw_level.proofs.HomeLemmas.{one_home}
 use Rattle.bw_level.proofs.IndexLemmas.{behind_first}

@@ -8,7 +8,7 @@ use Rattle.bw_page.proofs.Truths.{true_holds, not_holds}
 use Rattle.bw_delta.proofs.ContentsAsOf.{same_contents}
 use Rattle.bw_level.specs.Slots.{Slot, PageState, Free, Live, left_of, left_of_slot, slot_at}
 use Rattle.bw_level.specs.Levels.{AreLevels, BeginsWith, LeadsBelow, SideBySide, row}
-use Rattle.bw_level.specs.Steps.{IsTerm, WasTerm}
+use Rattle.bw_level.specs.KeptLevels.{IsTerm, WasTerm}
 use Rattle.bw_level.specs.Walk.{Leads}
 use Rattle.bw_level.specs.Laws.{ContentsAreKept, HomeIsThere, LevelsAreKept}
 use Rattle.bw_level.proofs.HomeLemmas.{home_value}

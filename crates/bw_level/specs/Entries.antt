@@ -4,7 +4,7 @@ use Rattle.std.specs.Ordering.{is_lt}
 use Rattle.bw_key.specs.Order.{KeyBytes, key_cmp}
 use Rattle.bw_page.specs.declared.pages.RemovedPage.{RemovedPage}
 use Rattle.bw_level.specs.Slots.{Slot, PageState, Gone, Live, slot_at}
-use Rattle.bw_level.specs.Steps.{IsTerm}
+use Rattle.bw_level.specs.KeptLevels.{IsTerm}
 
 -- A child begins at its separator, or did so until it was removed, on the level below. No child has two separators, and no
 -- page begins with a removed child: its separator lies above the key where the page begins.

@@ -3,7 +3,7 @@ use Rattle.std.specs.Prelude.{◌≡◌, ℕ, suc, ◌<◌, List, Some, length}
 use Rattle.bw_key.specs.Order.{KeyBytes}
 use Rattle.bw_level.specs.Searches.{IsInLevels}
 use Rattle.bw_level.specs.Slots.{Slot, Free, left_of, slot_at}
-use Rattle.bw_level.specs.Steps.{IsTerm}
+use Rattle.bw_level.specs.KeptLevels.{IsTerm}
 
 -- The page stands on no level, and no page of a level has an index entry for it.
 pub record IsAside (slots : List Slot) (levels : List (List ℕ)) (p : ℕ) : Type 0 where

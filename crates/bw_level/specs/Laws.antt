@@ -14,7 +14,7 @@ use Rattle.bw_level.specs.Merges.{IsMerged, IsNoFirstChild, level_merged}
 use Rattle.bw_level.specs.Roots.{IsGrown, IsRootRemoved, levels_grown, levels_lowered}
 use Rattle.bw_level.specs.Searches.{AllStand}
 use Rattle.bw_level.specs.Splits.{HasNoRemovedAt, IsParted, level_parted}
-use Rattle.bw_level.specs.Steps.{AreAlike, KeepsLevels}
+use Rattle.bw_level.specs.KeptLevels.{AreAlike, KeepsLevels}
 
 -- a way along a step is one only
 abbrev pub WayIsOne : Type 0

@@ -9,7 +9,7 @@ pub mod Scans
 pub mod Before
 pub mod Searches
 pub mod LeafEnds
-pub mod Steps
+pub mod KeptLevels
 pub mod Entries
 pub mod Children
 pub mod Laws

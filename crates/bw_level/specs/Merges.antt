@@ -5,7 +5,7 @@ use Rattle.bw_key.specs.Order.{KeyBytes, key_cmp}
 use Rattle.bw_level.specs.Levels.{row}
 use Rattle.bw_level.specs.Reading.{body_writes}
 use Rattle.bw_level.specs.Slots.{Slot, PageState, Body, Pairs, Children, Free, Gone, Live, body_is_leaf, level_of, slot_at}
-use Rattle.bw_level.specs.Steps.{IsTerm}
+use Rattle.bw_level.specs.KeptLevels.{IsTerm}
 
 -- the entries of two pages of one kind
 abbrev pub bodies_joined : Body → Body → Body

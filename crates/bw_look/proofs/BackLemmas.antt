@@ -11,7 +11,7 @@ use Rattle.bw_model.specs.Contents.{Contents, is_below_end, is_in_range, pairs_o
 use Rattle.bw_model.specs.Values.{ValueBytes}
 use Rattle.bw_page.proofs.Truths.{holds, true_holds, holds_not, left_of, right_of}
 use Rattle.bw_page.proofs.KeyLemmas.{below_back, below_self, upto_trans}
-use Rattle.bw_delta.proofs.Maps.{sorted_in_range}
+use Rattle.bw_delta.proofs.PairMaps.{sorted_in_range}
 use Rattle.bw_level.specs.Slots.{Slot, PageState, Free, Gone, Live, slot_at, has_key}
 use Rattle.bw_level.specs.Levels.{row}
 use Rattle.bw_level.specs.Scans.{Reaches}

@@ -16,7 +16,7 @@ use Rattle.bw_delta.specs.Batches.{writes_to}
 use Rattle.bw_delta.specs.History.{action_at, history, HasDistinctStamps}
 use Rattle.bw_delta.specs.Writes.{WriteView}
 use Rattle.bw_delta.proofs.Histories.{quiet}
-use Rattle.bw_delta.proofs.Maps.{find_in_range, sorted_in_range}
+use Rattle.bw_delta.proofs.PairMaps.{find_in_range, sorted_in_range}
 use Rattle.bw_level.specs.Before.{low_of}
 use Rattle.bw_level.specs.Levels.{AreLevels, IsHome, row}
 use Rattle.bw_level.specs.Reading.{pairs_under, row_writes, value_in, writes_over}

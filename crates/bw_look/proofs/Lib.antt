@@ -7,7 +7,7 @@ pub mod ReplayLemmas
 pub mod WordLemmas
 pub mod PutLemmas
 pub mod StagedLemmas
-pub mod LeafLemmas
+pub mod ConsolidatedLeaves
 pub mod RoutingLemmas
 pub mod UnnamedLemmas
 pub mod ShapeLemmas

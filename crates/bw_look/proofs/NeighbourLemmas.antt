@@ -11,7 +11,7 @@ use Rattle.bw_level.specs.Slots.{Slot, PageState, Live, side_of_slot, slot_at}
 use Rattle.bw_level.proofs.AboveLemmas.{one_above, own_level}
 use Rattle.bw_level.proofs.LeafRowLemmas.{low_below}
 use Rattle.bw_level.proofs.RowLemmas.{InRow, in_row}
-use Rattle.bw_look.specs.Pages.{IsLeft}
+use Rattle.bw_look.specs.PageStates.{IsLeft}
 use Rattle.bw_look.specs.View.{TreeView}
 
 one_state : {s t : PageState} → Live s ≡ Live t → s ≡ t

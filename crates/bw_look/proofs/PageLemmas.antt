@@ -16,7 +16,7 @@ use Rattle.bw_level.specs.Levels.{AreLevels, IsHomeAt, LeadsBelow, Stands, row}
 use Rattle.bw_level.specs.Merges.{IsNoFirstChild}
 use Rattle.bw_level.specs.Searches.{IsInLevels}
 use Rattle.bw_level.specs.Slots.{Slot, PageState, Body, Pairs, Children, Free, Gone, Live, IsSoundBody, IsSoundPage, body_is_leaf, children_of, is_leaf, level_of, side_of, slot_at}
-use Rattle.bw_level.specs.Steps.{IsTerm}
+use Rattle.bw_level.specs.KeptLevels.{IsTerm}
 use Rattle.bw_level.specs.Targets.{StandsFor, StandsOn, lies_from, lies_past}
 use Rattle.bw_level.specs.Turns.{StartsUpto}
 use Rattle.bw_level.specs.declared.target.Target.{Target}
@@ -27,10 +27,10 @@ use Rattle.bw_level.proofs.MarkLemmas.{key_stands, mark, mark_from, mark_stands}
 use Rattle.bw_level.proofs.RouteLemmas.{least, live_way}
 use Rattle.bw_level.proofs.RowLemmas.{InRow, in_row}
 use Rattle.bw_level.proofs.StepLemmas.{child_there}
-use Rattle.bw_look.specs.Pages.{HasNoLeft, HasNoNamer, IsAbove, IsLeft, IsNamer}
+use Rattle.bw_look.specs.PageStates.{HasNoLeft, HasNoNamer, IsAbove, IsLeft, IsNamer}
 use Rattle.bw_look.specs.Routing.{AreAtHomeOn, IsInLevel, IsInNoLevel}
 use Rattle.bw_look.specs.View.{TreeView}
-use Rattle.bw_look.proofs.LeafLemmas.{side_is}
+use Rattle.bw_look.proofs.ConsolidatedLeaves.{side_is}
 use Rattle.bw_look.proofs.NeighbourLemmas.{left_beside}
 
 one_state : {s t : PageState} → Live s ≡ Live t → s ≡ t

@@ -16,7 +16,7 @@ use Rattle.bw_page.specs.Inners.{IsUpto}
 use Rattle.bw_page.proofs.Truths.{left_of}
 use Rattle.bw_delta.specs.History.{HasDistinctStamps}
 use Rattle.bw_delta.specs.Replays.{ReplayView}
-use Rattle.bw_delta.proofs.Maps.{sorted_in_range}
+use Rattle.bw_delta.proofs.PairMaps.{sorted_in_range}
 use Rattle.bw_delta.proofs.Replays.{pairs_now}
 use Rattle.bw_level.specs.Walk.{walked}
 use Rattle.bw_level.specs.Slots.{Slot, slot_at, side_of, side_of_slot, has_key}

@@ -14,7 +14,7 @@ use Rattle.bw_delta.specs.Batches.{writes_to}
 use Rattle.bw_delta.specs.History.{history, action_at, HasDistinctStamps}
 use Rattle.bw_delta.specs.ContentsAsOf.{contents_as_of}
 use Rattle.bw_delta.proofs.ContentsAsOf.{only_equal_tie}
-use Rattle.bw_delta.proofs.Maps.{find_in_range, sorted_in_range}
+use Rattle.bw_delta.proofs.PairMaps.{find_in_range, sorted_in_range}
 use Rattle.bw_level.specs.Walk.{walked}
 use Rattle.bw_level.specs.Slots.{Slot, PageState, Live, slot_at, side_of, side_of_slot, has_key}
 use Rattle.bw_level.specs.Levels.{Stands, AreLevels, IsHome, row}

@@ -22,7 +22,7 @@ use Rattle.bw_look.specs.Routing.{IsInLevel, IsInnerPage}
 use Rattle.bw_look.specs.Shapes.{page_shape, pairs_on}
 use Rattle.bw_look.specs.View.{TreeView, contents_at}
 use Rattle.bw_look.specs.declared.look.shape.PageShape.{PageShape}
-use Rattle.bw_look.proofs.LeafLemmas.{first_home, pairs_here, high_is, row_ends, side_is}
+use Rattle.bw_look.proofs.ConsolidatedLeaves.{first_home, pairs_here, high_is, row_ends, side_is}
 use Rattle.bw_look.proofs.ScanLemmas.{leaf_in_row}
 
 -- a page of these parts

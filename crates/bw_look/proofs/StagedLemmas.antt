@@ -11,9 +11,9 @@ use Rattle.bw_level.specs.Changes.{Bases}
 use Rattle.bw_chain.specs.Chains.{Records, Ends, EndsAt, record_at}
 use Rattle.bw_look.specs.Trees.{IsTree, IsStaged, StageWords, stage_of, view_of}
 use Rattle.bw_look.specs.Words.{bases_before, words_before}
-use Rattle.bw_look.specs.declared.mapping_words.WordsBefore.{WordsBefore}
+use Rattle.bw_look.specs.declared.words_before.WordsBefore.{WordsBefore}
 use Rattle.bw_chain.specs.Records.{put_records, writes_in}
-use Rattle.bw_look.specs.Stages.{IsStagedAs}
+use Rattle.bw_look.specs.StagedBatches.{IsStagedAs}
 use Rattle.bw_look.specs.View.{TreeView, staged_writes}
 use Rattle.bw_look.specs.declared.staging.Staged.{Staged}
 use Rattle.bw_chain.proofs.ChainLemmas.{linked}

@@ -13,7 +13,7 @@ use Rattle.bw_level.specs.Levels.{AreLevels, IsHomeAt, row}
 use Rattle.bw_level.specs.Roots.{IsNeighbour}
 use Rattle.bw_level.specs.Scans.{high_of}
 use Rattle.bw_level.specs.Searches.{IsInLevels}
-use Rattle.bw_level.specs.Steps.{IsTerm}
+use Rattle.bw_level.specs.KeptLevels.{IsTerm}
 use Rattle.bw_level.specs.Slots.{Slot, PageState, Body, Pairs, Children, Live, IsSoundBody, IsSoundPage, children_of, level_of, slot_at, slot_level}
 use Rattle.bw_level.proofs.AboveLemmas.{one_above, own_level, root_level}
 use Rattle.bw_level.proofs.RowLemmas.{InRow, in_row}

@@ -12,7 +12,7 @@ use Rattle.bw_level.specs.Entries.{AreExact}
 use Rattle.bw_level.specs.Freeing.{IsUnreached}
 use Rattle.bw_level.specs.Levels.{AreLevels, LeadsBelow, row}
 use Rattle.bw_level.specs.Slots.{Slot, Free, Gone, Live, left_of, left_of_slot, slot_at}
-use Rattle.bw_level.specs.Steps.{IsTerm}
+use Rattle.bw_level.specs.KeptLevels.{IsTerm}
 use Rattle.bw_level.specs.Walk.{Leads}
 use Rattle.bw_level.proofs.StepLemmas.{child_there}
 use Rattle.bw_look.specs.RemovedPages.{HasNoNamerOfRemoved, IsNamerOfRemoved}

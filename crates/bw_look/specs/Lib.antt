@@ -2,10 +2,10 @@ pub mod View
 pub mod Trees
 pub mod Folding
 pub mod Words
-pub mod Stages
+pub mod StagedBatches
 pub mod Replaying
 pub mod Routing
-pub mod Pages
+pub mod PageStates
 pub mod Shapes
 pub mod Unnamed
 pub mod RemovedPages

@@ -15,7 +15,7 @@ use Rattle.bw_level.specs.Reading.{row_writes}
 use Rattle.bw_level.specs.Searches.{AllStand, IsInLevels}
 use Rattle.bw_chain.specs.Supports.{OwnBases}
 use Rattle.bw_look.specs.View.{TreeView, StageView}
-use Rattle.bw_look.specs.declared.mapping_words.WordsBefore.{WordsBefore}
+use Rattle.bw_look.specs.declared.words_before.WordsBefore.{WordsBefore}
 use Rattle.bw_look.specs.Words.{bases_before, words_before}
 
 -- the writes over all leaves of a tree

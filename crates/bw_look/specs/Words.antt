@@ -3,8 +3,8 @@ use Rattle.std.specs.Prelude.{ℕ, List, [], ◌∷◌, Option, Some, None}
 use Rattle.std.specs.List.{slice_set}
 use Rattle.bw_level.specs.Changes.{Bases}
 use Rattle.bw_look.specs.Folding.{put_leaves}
-use Rattle.bw_look.specs.declared.mapping_words.WordsBefore.{WordsBefore}
-use Rattle.bw_look.specs.declared.mapping_words.WordsBefore.TheVariants.{OfAll, OfPages, UnderLeaves}
+use Rattle.bw_look.specs.declared.words_before.WordsBefore.{WordsBefore}
+use Rattle.bw_look.specs.declared.words_before.WordsBefore.TheVariants.{OfAll, OfPages, UnderLeaves}
 
 -- the mapping words with these words in the places of these pages
 abbrev pub put_words : List ℕ → List ℕ → List ℕ → List ℕ

@@ -6,17 +6,17 @@
 
 mod folded;
 mod look;
-mod mapping_words;
 mod routes;
 mod scans;
 mod staging;
+mod words_before;
 
 pub use folded::Folded;
 pub use look::{Look, PageShape, Unnamed};
-pub use mapping_words::WordsBefore;
 pub use routes::Routes;
 pub use scans::Scans;
 pub use staging::{Stage, Staged};
+pub use words_before::WordsBefore;
 
 /// What is read of a leaf.
 pub use bw_chain::LeafChain;

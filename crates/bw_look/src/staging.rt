@@ -1,5 +1,5 @@
 // A staged batch.
-use crate::mapping_words::WordsBefore;
+use crate::words_before::WordsBefore;
 use std::marker::Model;
 
 /// A batch that was staged.

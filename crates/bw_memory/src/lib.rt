@@ -11,7 +11,7 @@
 #![tactic(auto)]
 
 ghost use Rattle.std.specs.Prelude.{◌≡◌, ◌<◌, ◌^◌, ℕ, None, Some, true, false, min, IfOk, IsTrue};
-ghost use Rattle.bw_memory.specs.Limits.{inner_of, limit_of, is_counted, gate_limit, gate_is_counted};
+ghost use Rattle.bw_memory.specs.HeapLimits.{inner_of, limit_of, is_counted, gate_limit, gate_is_counted};
 
 use std::alloc::{AllocError, Allocator, Global};
 use std::mem::size_of;

@@ -1,4 +1,4 @@
-pub mod PairsLemmas
+pub mod SortedPairs
 pub mod Maps
 pub mod Picks
 pub mod RunsLemmas

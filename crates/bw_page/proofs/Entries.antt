@@ -10,7 +10,7 @@ use Rattle.bw_key.specs.Order.{KeyBytes, key_cmp, key_eq, key_cmp_total}
 use Rattle.bw_model.specs.Contents.{is_below_end, is_in_range, is_pair_in_range}
 use Rattle.bw_page.specs.Pages.{BoundsView, IsPage, BeginsAt, first_key}
 use Rattle.bw_model.specs.Sorted.{place_of}
-use Rattle.bw_model.proofs.PairsLemmas.{put_absent_at, put_found_at}
+use Rattle.bw_model.proofs.SortedPairs.{put_absent_at, put_found_at}
 use Rattle.bw_page.specs.Inners.{InnerView, IsInner}
 use Rattle.bw_page.proofs.Truths.{holds, true_holds, holds_not, not_holds, left_of, right_of, both_of}
 use Rattle.bw_page.proofs.KeyLemmas.{below_back, below_trans, below_upto, below_self}

@@ -10,7 +10,7 @@ use Rattle.bw_key.specs.Order.{KeyBytes, key_cmp, key_cmp_total}
 use Rattle.bw_model.specs.Contents.{is_pair_in_range}
 use Rattle.bw_model.specs.Sorted.{place_of}
 use Rattle.bw_page.specs.Inners.{IsInner}
-use Rattle.bw_page.specs.Merging.{AreBefore, HasAdded, put_all}
+use Rattle.bw_page.specs.MergedEntries.{AreBefore, HasAdded, put_all}
 use Rattle.bw_page.proofs.Entries.{put_inner_page, sorted_drop}
 use Rattle.bw_page.proofs.KeyLemmas.{below_trans}
 use Rattle.bw_page.proofs.Search.{below_first}

@@ -4,7 +4,7 @@ use Rattle.std.specs.List.{Contains}
 use Rattle.std.specs.Ordering.{is_lt}
 use Rattle.std.specs.FinMap.{put}
 use Rattle.bw_key.specs.Order.{KeyBytes, key_cmp, key_eq}
-use Rattle.bw_page.specs.Merging.{put_all}
+use Rattle.bw_page.specs.MergedEntries.{put_all}
 use Rattle.bw_page.specs.Pages.{IsPage, BeginsAt, below, first_key}
 
 -- the level above the leaves, the bounds of a range of keys, the right neighbour, and the separators with their children

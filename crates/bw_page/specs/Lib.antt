@@ -1,5 +1,5 @@
 pub mod Pages
 pub mod Leaves
-pub mod Merging
+pub mod MergedEntries
 pub mod Inners
 pub mod Codes

@@ -4,7 +4,7 @@ ghost use Rattle.std.specs.FinMap.{is_sorted, put};
 ghost use Rattle.bw_key.specs.Order.{key_cmp, key_eq};
 ghost use Rattle.bw_model.specs.Sorted.{place_of};
 ghost use Rattle.bw_page.specs.Inners.{IsLastUpto, IsUpto};
-ghost use Rattle.bw_page.specs.Merging.{HasAdded, put_all};
+ghost use Rattle.bw_page.specs.MergedEntries.{HasAdded, put_all};
 ghost use Rattle.bw_page.specs.Pages.{below, first_key};
 
 use crate::pages::PageId;

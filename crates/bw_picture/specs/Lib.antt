@@ -1,4 +1,4 @@
 pub mod Keys
-pub mod Pages
+pub mod DrawnPages
 pub mod Layout
 pub mod Pictures

@@ -2,7 +2,7 @@
 use Rattle.std.specs.Prelude.{ℕ, List, [], ◌∷◌, ◌++◌, codes}
 use Rattle.std.specs.Fmt.{decimal}
 use Rattle.bw_look.specs.declared.look.shape.PageShape.{PageShape}
-use Rattle.bw_picture.specs.Pages.{body_text, bracket_text}
+use Rattle.bw_picture.specs.DrawnPages.{body_text, bracket_text}
 use Rattle.bw_picture.specs.Layout.{extent_behind, no_extent, frame_of, width_of, height_of, x_of, y_of, spot_of, first_spot, span_of}
 use Rattle.bw_picture.specs.declared.layout.Frame.{Frame}
 use Rattle.bw_picture.specs.declared.layout.Spot.{Spot}

@@ -1,7 +1,7 @@
 // How pages are written.
 ghost use Rattle.std.specs.Prelude.{◌≡◌, ◌++◌, OnOk};
 ghost use Rattle.std.specs.Fmt.{decimal};
-ghost use Rattle.bw_picture.specs.Pages.{kind_text, name_text, range_text, count_text, entries_text, writes_text, title_writes_text, title_text, accent_text, pale_text, box_text, lines_text, filled, bar_text, fill_text, hanging_text, chain_text, body_text, span_text, bracket_text};
+ghost use Rattle.bw_picture.specs.DrawnPages.{kind_text, name_text, range_text, count_text, entries_text, writes_text, title_writes_text, title_text, accent_text, pale_text, box_text, lines_text, filled, bar_text, fill_text, hanging_text, chain_text, body_text, span_text, bracket_text};
 
 use crate::keys::{push_end, push_key};
 use bw_key::Memory;

@@ -10,7 +10,7 @@ use Rattle.bw_core.specs.World.{IsLast, late, one_if, times, tries_in, wins_in}
 use Rattle.bw_core.specs.Events.{book_after_late_swap, swap}
 use Rattle.bw_core.proofs.Lists.{total-append}
 use Rattle.bw_look.specs.Folding.{pages_of, put_own_words}
-use Rattle.bw_look.specs.Pages.{leaf_as_of}
+use Rattle.bw_look.specs.PageStates.{leaf_as_of}
 use Rattle.bw_look.specs.View.{TreeView}
 use Rattle.bw_look.specs.declared.folded.Folded.{Folded}
 use Rattle.bw_tree.specs.Levels.{row}

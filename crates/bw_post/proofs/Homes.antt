@@ -13,14 +13,14 @@ use Rattle.bw_core.proofs.Lists.{total-append}
 use Rattle.bw_board.specs.Public.{BoardView, SeatView, IsClosed, IsClosedPage, Posts}
 use Rattle.bw_delta.specs.Writes.{WriteView}
 use Rattle.bw_tree.specs.Stages.{IsPostedTo}
-use Rattle.bw_look.specs.Stages.{IsStagedAs}
+use Rattle.bw_look.specs.StagedBatches.{IsStagedAs}
 use Rattle.bw_look.specs.View.{TreeView, StageView, staged_writes}
 use Rattle.bw_look.specs.declared.staging.Staged.{Staged}
 use Rattle.bw_look.specs.Folding.{pages_of, put_each, put_own_words}
 use Rattle.bw_look.specs.declared.folded.Folded.{Folded}
 use Rattle.bw_tree.specs.Beside.{with_own_words}
 use Rattle.bw_tree.specs.Levels.{IsHome}
-use Rattle.bw_tree.specs.Words.{ArePages, IsPostedOn, IsPostedStageOn, words_of}
+use Rattle.bw_tree.specs.PageWords.{ArePages, IsPostedOn, IsPostedStageOn, words_of}
 use Rattle.bw_group.specs.Homes.{IsHomeNumber}
 use Rattle.bw_post.specs.Posting.{ArePostedHome, ArePostedPages, HasFolded, IsBoardOf, IsHomeOfRecord, IsPostedBeside, IsSpared, IsUnadopted}
 use Rattle.bw_post.proofs.Folds.{few, first_stays, leaf_of, listed_times, no_number, none_or_some, one_number, one_place, other_word, own_word, swapped_is}

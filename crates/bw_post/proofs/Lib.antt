@@ -1,7 +1,7 @@
 pub mod OwnedCounts
 pub mod Folds
 pub mod Homes
-pub mod Spares
+pub mod PageSpares
 pub mod Staged
 pub mod Lost
 pub mod Joined

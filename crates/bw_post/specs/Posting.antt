@@ -17,7 +17,7 @@ use Rattle.bw_look.specs.declared.folded.Folded.{Folded}
 use Rattle.bw_tree.specs.Beside.{AreFolded, with_own_words}
 use Rattle.bw_tree.specs.Levels.{row}
 use Rattle.bw_look.specs.View.{TreeView, StageView, staged_writes}
-use Rattle.bw_tree.specs.Words.{ArePages, IsPostedStageOn, words_of}
+use Rattle.bw_tree.specs.PageWords.{ArePages, IsPostedStageOn, words_of}
 
 -- the writes of these operations are staged, and not adopted
 abbrev pub IsWaiting : TreeView → Option StageView → List Op → Type 0

@@ -4,7 +4,7 @@ ghost use Rattle.std.specs.List.{AllByRecursion};
 ghost use Rattle.bw_core.specs.Keeping.{pairs_of};
 ghost use Rattle.bw_look.specs.Folding.{spare_of};
 ghost use Rattle.bw_look.specs.View.{staged_writes};
-ghost use Rattle.bw_tree.specs.Words.{ArePages, IsPostedStageOn, words_of};
+ghost use Rattle.bw_tree.specs.PageWords.{ArePages, IsPostedStageOn, words_of};
 ghost use Rattle.bw_group.specs.Homes.{AreHomes};
 ghost use Rattle.bw_post.specs.Posting.{ArePostedPages, AreStagedHomes, IsPostedBeside, IsUnadopted, IsWaiting};
 

@@ -14,23 +14,23 @@ use Rattle.bw_level.specs.Slots.{Slot, Body, Pairs, Children, Free, Gone, Live, 
 use Rattle.bw_level.specs.Splits.{slot_entries}
 use Rattle.bw_level.proofs.AboveLemmas.{own_level}
 use Rattle.bw_tree.specs.Consolidation.{IsConsolidated, IsRebased}
-use Rattle.bw_tree.specs.Freeing.{IsTrimmed}
-use Rattle.bw_tree.specs.Merges.{HasLostChild, HasMerged, IsLowered, MayMerge}
-use Rattle.bw_look.specs.Pages.{IsLeft, leaf_as_of}
+use Rattle.bw_tree.specs.TreeFreeing.{IsTrimmed}
+use Rattle.bw_tree.specs.TreeMerges.{HasLostChild, HasMerged, IsLowered, MayMerge}
+use Rattle.bw_look.specs.PageStates.{IsLeft, leaf_as_of}
 use Rattle.bw_look.specs.Routing.{IsInLevel}
 use Rattle.bw_look.specs.Shapes.{pairs_on}
 use Rattle.bw_look.specs.View.{TreeView}
 use Rattle.bw_look.proofs.NeighbourLemmas.{one_left}
 use Rattle.bw_look.proofs.PageLemmas.{lowest_leaf}
 use Rattle.bw_shape.specs.Limits.{LimitsView, AreWithinBut, IsWithin}
-use Rattle.bw_steps.specs.Merges.{IsAbsorptionFinishStep, IsAbsorptionStep, IsLoweringStep}
+use Rattle.bw_steps.specs.MergeSteps.{IsAbsorptionFinishStep, IsAbsorptionStep, IsLoweringStep}
 use Rattle.bw_steps.specs.Releasing.{AreFreed}
 use Rattle.bw_steps.specs.Steps.{IsConsolidationStep}
 use Rattle.bw_shape.specs.Tidying.{HoldsAll, KeepsWithin}
 use Rattle.bw_shape.specs.Visits.{AreFewTogether, FitsLeft, HasRoomOn, KeepsWithinAt}
 use Rattle.bw_steps.specs.declared.steps.Did.{Did}
 use Rattle.bw_steps.specs.declared.steps.Did.TheVariants.{Done, NotNeeded}
-use Rattle.bw_shape.proofs.LeafLemmas.{lowered_leaves, same_leaves, same_page, same_row}
+use Rattle.bw_shape.proofs.KeptLeaves.{lowered_leaves, same_leaves, same_page, same_row}
 use Rattle.bw_shape.proofs.TidyLemmas.{KeepsTidy, few_pairs, held_at, holds_on, tidy_freed, tidy_still}
 
 -- a page above the leaves is no leaf

@@ -1,4 +1,4 @@
-pub mod LeafLemmas
+pub mod KeptLeaves
 pub mod SweepLemmas
 pub mod PartLemmas
 pub mod TidyLemmas

@@ -12,7 +12,7 @@ use Rattle.bw_level.specs.Levels.{AreLevels, row}
 use Rattle.bw_level.specs.Slots.{Slot, Body, Pairs, Children, Free, Gone, Live, body_is_leaf, children_of, is_leaf, slot_at}
 use Rattle.bw_level.specs.Splits.{level_parted, put_behind, slot_child, slot_entries}
 use Rattle.bw_look.specs.Routing.{IsInLevel}
-use Rattle.bw_tree.specs.Splits.{IsSplittable}
+use Rattle.bw_tree.specs.TreeSplits.{IsSplittable}
 use Rattle.bw_look.specs.View.{TreeView}
 use Rattle.bw_look.proofs.PageLemmas.{lowest_leaf}
 use Rattle.bw_shape.specs.Tidying.{DueView}

@@ -40,7 +40,7 @@ consolidated_bounds old new p k q = by (cases_eq q p)
 pub holds_itself : (tree : TreeView) → tree.staged ≡ None → HoldsSame tree tree
 holds_itself tree none = record { contents = refl; levels = refl; bounds = λ p. bounds_same (slot_at tree.slots p) (slot_at tree.slots p) refl; root = refl; next = refl; records = refl; staged = none; pages = refl; taken = λ p free. free }
 
-holds_on : (first old new : TreeView) → HoldsSame first old → HoldsSame old new → HoldsSame first new
+pub holds_on : (first old new : TreeView) → HoldsSame first old → HoldsSame old new → HoldsSame first new
 holds_on first old new a b = record {
   contents = b.contents ∙ a.contents;
   levels = b.levels ∙ a.levels;
@@ -54,19 +54,22 @@ holds_on first old new a b = record {
 }
 
 module _ (old new : TreeView) (p : ℕ) where
+  pub same_consolidated : IsConsolidated old new p → HoldsSame old new
+  same_consolidated k = record {
+    contents = k.contents;
+    levels = k.levels;
+    bounds = consolidated_bounds old new p k;
+    root = k.root;
+    next = k.next;
+    records = k.records;
+    staged = k.staged;
+    pages = ap length k.heads ∙ length-set old.heads p (slice_index new.heads p);
+    taken = taken_but old.slots new.slots p _ k.page k.others;
+  }
+
   leaf_plain : 2 ^ 32 ≤ slice_index old.heads p → IsConsolidated old new p → IsPlainAt old new p
   leaf_plain had k = record {
-    same = record {
-      contents = k.contents;
-      levels = k.levels;
-      bounds = consolidated_bounds old new p k;
-      root = k.root;
-      next = k.next;
-      records = k.records;
-      staged = k.staged;
-      pages = ap length k.heads ∙ length-set old.heads p (slice_index new.heads p);
-      taken = taken_but old.slots new.slots p _ k.page k.others;
-    };
+    same = same_consolidated k;
     plain = k.plain;
     others = λ q other. ap (λ (ws : List ℕ). slice_index ws q) k.heads ∙ get_or-set_other old.heads p q (slice_index new.heads p) 0 other;
     kept = λ q low. k.others q (λ same. omega (arith, had, subst (λ r. slice_index old.heads r < 2 ^ 32) same low));

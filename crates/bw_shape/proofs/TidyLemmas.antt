@@ -15,9 +15,9 @@ use Rattle.bw_level.specs.Searches.{IsInLevels}
 use Rattle.bw_level.specs.Slots.{Slot, PageState, Body, Pairs, Children, Free, Gone, Live, slot_at}
 use Rattle.bw_level.specs.Splits.{level_parted, put_behind, slot_entries}
 use Rattle.bw_level.proofs.SplitLemmas.{had}
-use Rattle.bw_tree.specs.Children.{AreNamed, IsNamed, state_with_children}
-use Rattle.bw_tree.specs.Roots.{HasNewRoot}
-use Rattle.bw_tree.specs.Splits.{IsSplit, IsSplittable}
+use Rattle.bw_tree.specs.TreeChildren.{AreNamed, IsNamed, state_with_children}
+use Rattle.bw_tree.specs.TreeRoots.{HasNewRoot}
+use Rattle.bw_tree.specs.TreeSplits.{IsSplit, IsSplittable}
 use Rattle.bw_look.specs.View.{TreeView, contents_at}
 use Rattle.bw_shape.specs.Limits.{LimitsView, AreWithinBut, IsWithin}
 use Rattle.bw_steps.specs.Naming.{AreFinished}
@@ -29,7 +29,7 @@ use Rattle.bw_steps.specs.Steps.{HasLostChain, IsFinishStep, IsFinished, IsRootS
 use Rattle.bw_tree.specs.Consolidation.{IsRebased}
 use Rattle.bw_steps.specs.declared.steps.Did.{Did}
 use Rattle.bw_steps.specs.declared.steps.Did.TheVariants.{Done, NotNeeded}
-use Rattle.bw_shape.proofs.LeafLemmas.{freed_leaves, grown_leaves, same_leaves, same_row}
+use Rattle.bw_shape.proofs.KeptLeaves.{freed_leaves, grown_leaves, same_leaves, same_row}
 use Rattle.bw_shape.proofs.SweepLemmas.{chain_plain, free_within, still_plain}
 use Rattle.bw_steps.proofs.TakenLemmas.{cases_free}
 

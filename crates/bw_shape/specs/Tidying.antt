@@ -7,15 +7,18 @@ use Rattle.bw_look.specs.Unnamed.{HasNoUnnamed}
 use Rattle.bw_steps.specs.Naming.{AreFinished}
 use Rattle.bw_steps.specs.Steps.{IsRootStep}
 use Rattle.bw_steps.specs.declared.steps.Did.{Did}
-use Rattle.bw_shape.specs.Leaves.{leaf_ranges}
+use Rattle.bw_shape.specs.LeafRanges.{leaf_ranges}
 use Rattle.bw_shape.specs.Limits.{LimitsView, AreWithinBut}
 
 -- The pages that are to be looked at, the next one last; the inner pages to look at behind those, the first one first;
 -- and the page whose right neighbours the level above may not name yet, or that it may still name though it was removed, or
--- whose identifier may be left to be given back, if there is one.
+-- whose identifier may be left to be given back, if there is one. Leaves that are begun are among the pages, were consolidated
+-- and may be left to be merged; marked leaves are to be looked at the next time.
 pub record DueView : Type 0 where
   pub pages : List ℕ
   pub above : List ℕ
+  pub begun : List ℕ
+  pub marked : List ℕ
   pub unfinished : Option ℕ
 
 -- The tree holds what it held as of its next stamp, which is the same, and nothing is staged. It has no fewer records; where it
@@ -48,7 +51,13 @@ HasNoneDue due = HasNoPage due × (due.unfinished ≡ None)
 -- the leaves are to be looked at in the order of keys, and behind them the inner pages, the lowest level first
 abbrev pub AreAllPages : TreeView → DueView → Type 0
 AreAllPages tree due =
-    due ≡ record { pages = reverse (row tree.levels 0); above = concat (drop 1 tree.levels); unfinished = None }
+    due ≡ record {
+      pages = reverse (row tree.levels 0);
+      above = concat (drop 1 tree.levels);
+      begun = [];
+      marked = [];
+      unfinished = None;
+    }
 
 -- The splits of p are finished: its right neighbours have their index entries on a page that is due, or none of them lacked
 -- one, and a root that was split has a root above it.

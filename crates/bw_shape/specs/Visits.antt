@@ -5,10 +5,10 @@ use Rattle.bw_level.specs.Levels.{row}
 use Rattle.bw_level.specs.Reading.{writes_over}
 use Rattle.bw_level.specs.Slots.{Slot, slot_at}
 use Rattle.bw_level.specs.Splits.{slot_entries}
-use Rattle.bw_look.specs.Pages.{IsLeft}
+use Rattle.bw_look.specs.PageStates.{IsLeft}
 use Rattle.bw_look.specs.Routing.{IsInLevel}
 use Rattle.bw_look.specs.Shapes.{pairs_on}
-use Rattle.bw_tree.specs.Splits.{IsSplit, IsSplittable}
+use Rattle.bw_tree.specs.TreeSplits.{IsSplit, IsSplittable}
 use Rattle.bw_look.specs.View.{TreeView}
 use Rattle.bw_steps.specs.Releasing.{taken_count}
 use Rattle.bw_shape.specs.Limits.{LimitsView, AreWithinBut}

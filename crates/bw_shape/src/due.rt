@@ -1,7 +1,7 @@
 // The pages that tidying is to look at.
 ghost use Rattle.std.specs.Prelude.{◌≡◌, ℕ, ◌+◌, ◌<◌, ◌≤◌, ◌^◌, true, false, [], ◌∷◌, ◌++◌, None, Some, length, reverse, slice_index, MatchOption, IfOk, OnOk, OnErr};
 ghost use Rattle.std.specs.List.{Contains};
-ghost use Rattle.bw_tree.specs.Splits.{IsSplittable};
+ghost use Rattle.bw_tree.specs.TreeSplits.{IsSplittable};
 ghost use Rattle.bw_steps.specs.Releasing.{AreFreed, IsLeftOut, IsLeftToFree};
 ghost use Rattle.bw_shape.specs.Tidying.{HasBoth, HasFinished, HasNoPage, HoldsAll, KeepsWithin};
 ghost use Rattle.bw_shape.specs.Visits.{IsNext, IsNextBefore, IsSplitNext};
@@ -43,13 +43,19 @@ impl Model for Due {
 
     ghost Value = { DueView };
 
-    ghost view = { λ d. record { pages = d.pages.items; above = d.above.items; unfinished = d.unfinished } };
+    ghost view = { λ d. record {
+      pages = d.pages.items;
+      above = d.above.items;
+      begun = d.begun.items;
+      marked = d.marked.items;
+      unfinished = d.unfinished;
+    } };
 }
 
 impl Due {
     /// No page.
     pub fn new(alloc: Alloc) -> Due
-        ensures { result ≡ record { pages = []; above = []; unfinished = None } }
+        ensures { result ≡ record { pages = []; above = []; begun = []; marked = []; unfinished = None } }
     {
         Due {
             pages: Vec::new(alloc),
@@ -66,6 +72,8 @@ impl Due {
     pub(crate) fn set_pages(&mut self, mut leaves: Vec<PageId, Alloc>, inner: Vec<PageId, Alloc>)
         ensures pages { self.new.pages ≡ reverse leaves.entry.items }
         ensures above { self.new.above ≡ inner.entry.items }
+        ensures begun { self.new.begun ≡ self.old.begun }
+        ensures marked { self.new.marked ≡ self.old.marked }
         ensures unfinished { self.new.unfinished ≡ self.old.unfinished }
     {
         leaves.reverse();
@@ -110,8 +118,34 @@ impl Due {
     }
 
     /// Where its memory comes from.
-    pub(crate) fn alloc(&self) -> Alloc {
+    pub fn alloc(&self) -> Alloc {
         *self.pages.allocator()
+    }
+
+    /// The pages, the next one last.
+    pub fn pages(&self) -> &[PageId]
+        ensures { result.now ≡ self.now.pages }
+    {
+        &self.pages
+    }
+
+    /// Whether leaves among them were consolidated where tidying stopped before they were split or merged.
+    pub fn has_leaves_begun(&self) -> bool
+        ensures { result ≡ false → self.now.begun ≡ [] }
+    {
+        !self.begun.is_empty()
+    }
+
+    /// These pages are due in place of those that were, the next one last. Of them these leaves were consolidated, and are to be
+    /// split or merged, if need be: they stand in the same order.
+    pub fn keep(&mut self, left: Vec<PageId, Alloc>, begun: Vec<PageId, Alloc>)
+        ensures pages { self.new.pages ≡ left.entry.items }
+        ensures begun { self.new.begun ≡ begun.entry.items }
+        ensures marked { self.new.marked ≡ self.old.marked }
+        ensures rest { (self.new.above ≡ self.old.above) × (self.new.unfinished ≡ self.old.unfinished) }
+    {
+        self.pages = left;
+        self.begun = begun;
     }
 
     /// The next page.
@@ -161,27 +195,37 @@ impl Due {
         self.begin_marked(tree)
     }
 
-    // Leaves that were marked are due, if they have few pairs, as those are that were consolidated before a stop.
+    // Leaves that were marked are due, if they have few pairs, as those are that were consolidated before a stop. All of these
+    // stand in the order of the pages.
     #[tactic(auto, using(crate::proofs::TidyLemmas::kept_more))]
     fn begin_marked(&mut self, tree: &Tree) -> Result<(), Memory>
         ensures within { KeepsWithin tree.now tree.now self.old.pages self.new.pages }
         ensures unfinished { self.new.unfinished ≡ self.old.unfinished }
     {
-        let mut begun = Vec::from_slice(self.alloc(), &self.marked)?;
-        begun.extend_from_slice(&self.begun)?;
-        sort_by_low_key(tree, &mut begun);
-        begun.dedup();
-        begun.reverse();
-        for leaf in &begun {
+        let mut leaves = Vec::from_slice(self.alloc(), &self.marked)?;
+        for leaf in &leaves {
             self.put_among(tree, *leaf)?;
         }
-        self.begun = begun;
+        leaves.extend_from_slice(&self.begun)?;
+        leaves.sort_unstable();
+        self.begun = self.among(&leaves)?;
         self.marked.clear();
         Ok(())
     }
 
-    // Puts a leaf among the pages that are due, in the order of keys, unless it is there. To sort all of them would walk the chain
-    // of each page for each comparison.
+    // Those of the pages that are among these, which are sorted.
+    fn among(&self, sorted: &[PageId]) -> Result<Vec<PageId, Alloc>, Memory> {
+        let pages = self
+            .pages
+            .iter()
+            .filter(|page| sorted.binary_search(*page).is_ok())
+            .copied()
+            .collect::<Vec<PageId, Alloc>>(self.alloc())?;
+        Ok(pages)
+    }
+
+    // Puts a leaf among the pages that are due, in the order of keys, unless it is there. To sort all of them would walk
+    // the chain of each page for each comparison.
     fn put_among(&mut self, tree: &Tree, leaf: PageId) -> Result<(), Memory>
         ensures kept { (p : ℕ) → Contains self.old.pages p → Contains self.new.pages p }
         ensures unfinished { self.new.unfinished ≡ self.old.unfinished }
@@ -195,11 +239,36 @@ impl Due {
         Ok(())
     }
 
-    /// These leaves were consolidated beside the posting of a batch: where they have few pairs, and a left neighbour under the
-    /// same page, the next tidying merges them. It costs the sorting of those that were marked since the last one. After
-    /// `Memory` none was.
-    pub fn mark(&mut self, leaves: &[PageId]) -> Result<(), Memory>
-        ensures { self.new ≡ self.old }
+    /// Adds pages to which a batch could post, as `add` does, and marks leaves that were consolidated beside its posting: where
+    /// these have few pairs, and a left neighbour under the same page, the next tidying merges them. It costs the sorting of
+    /// the pages, and of the leaves that were marked since the last one. After `Memory` all is as before.
+    pub fn add_posted(
+        &mut self,
+        tree: &Tree,
+        pages: Vec<PageId, Alloc>,
+        consolidated: &[PageId],
+    ) -> Result<(), Memory>
+        ensures ok { OnOk result (HasBoth pages.entry.items self.old.pages self.new.pages) }
+        ensures marked { OnOk result (HasBoth self.old.marked consolidated.now self.new.marked) }
+        ensures rest { (self.new.above ≡ self.old.above) × (self.new.unfinished ≡ self.old.unfinished) }
+        ensures err { OnErr result (self.new ≡ self.old) }
+    {
+        if pages.is_empty() {
+            return self.mark(consolidated);
+        }
+        let mut pages = self.joined(tree, pages)?;
+        pages.reverse();
+        self.mark(consolidated)?;
+        self.pages = pages;
+        Ok(())
+    }
+
+    // These leaves are due the next time, if they have few pairs then.
+    fn mark(&mut self, leaves: &[PageId]) -> Result<(), Memory>
+        ensures ok { OnOk result (HasBoth self.old.marked leaves.now self.new.marked) }
+        ensures err { OnErr result (self.new ≡ self.old) }
+        ensures pages { self.new.pages ≡ self.old.pages }
+        ensures rest { (self.new.above ≡ self.old.above) × (self.new.unfinished ≡ self.old.unfinished) }
     {
         if leaves.is_empty() {
             return Ok(());

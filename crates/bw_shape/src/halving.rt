@@ -2,7 +2,7 @@
 ghost use Rattle.std.specs.Prelude.{◌≡◌, ◌<◌, ◌≤◌, ◌^◌, false, true, None, length, slice_index, IfOk, OnOk, OnErr};
 ghost use Rattle.bw_level.specs.Searches.{IsInLevels};
 ghost use Rattle.bw_look.specs.Routing.{IsInLevel};
-ghost use Rattle.bw_tree.specs.Splits.{IsSplittable};
+ghost use Rattle.bw_tree.specs.TreeSplits.{IsSplittable};
 ghost use Rattle.bw_shape.specs.Limits.{AreWithinBut};
 ghost use Rattle.bw_shape.specs.Tidying.{HoldsAll, KeepsWithin};
 ghost use Rattle.bw_shape.specs.Visits.{HasMany, HasPassed, IsBare, IsHalved, IsNext, IsPart, StandBefore};

@@ -15,8 +15,9 @@ use bw_tree::Tree;
 /// `page_max`, is consolidated. It's split into halves until none has too many pairs, or, with fewer than `page_min`, merged
 /// into its left neighbour, where one page above names both and the two have at most `page_max` pairs. A page above that got
 /// or lost index entries is looked at next, and so is its right neighbour, level by level, by the same two limits on how many
-/// children it has. Where one is merged, its first child is looked at the next time, a leaf only for too few pairs. A root that was split gets a root above it, and one that has one child alone goes. Free identifiers
-/// behind the last page are forgotten at the end. No batch is staged.
+/// children it has. Where one is merged, its first child is looked at the next time, a leaf only for too few pairs. A root
+/// that was split gets a root above it, and one that has one child alone goes. Free identifiers behind the last page are
+/// forgotten at the end. No batch is staged.
 ///
 /// At the first `Memory` it stops, and what it didn't look at stays due. Where it doesn't stop, no leaf is over a limit,
 /// if none was that wasn't due. It costs a walk along the chain of each page that is due, and for each page that is over a

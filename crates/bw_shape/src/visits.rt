@@ -2,6 +2,7 @@
 ghost use Rattle.std.specs.Prelude.{◌≡◌, ◌<◌, ◌≤◌, ◌⊎◌, false, true, None, length, OnOk};
 ghost use Rattle.std.specs.List.{Contains};
 ghost use Rattle.bw_level.specs.Levels.{row};
+ghost use Rattle.bw_level.specs.Reading.{writes_over};
 ghost use Rattle.bw_level.specs.Slots.{slot_at};
 ghost use Rattle.bw_level.specs.Splits.{slot_entries};
 ghost use Rattle.bw_look.specs.Routing.{IsInLevel};
@@ -61,8 +62,12 @@ pub(crate) fn visit(
     visit_due(tree, limits, due, counts, page)
 }
 
-// Whether a page is a leaf with writes, as those have that a batch has written. It costs no search.
-fn has_writes(tree: &Tree, page: PageId) -> bool {
+/// Whether a page is a leaf with writes, as those have that a batch has written. It costs a walk along its chain.
+pub fn has_writes(tree: &Tree, page: PageId) -> bool
+    ensures yes { result ≡ true → 0 < length (writes_over (slot_at tree.now.slots page)) }
+    ensures no { result ≡ false → page < length tree.now.heads →
+        length (writes_over (slot_at tree.now.slots page)) ≡ 0 }
+{
     (page.0 as usize) < tree.heads().len() && tree.count_writes(page) > 0
 }
 
@@ -152,8 +157,8 @@ fn is_small(tree: &Tree, limits: &Limits, page: PageId) -> bool
     (tree.entries(page) as u64) < limits.page_min()
 }
 
-/// Whether a page is a leaf that is over a limit, or an inner page with too many children.
-pub(crate) fn is_over(tree: &Tree, limits: &Limits, page: PageId) -> bool
+/// Whether a page is a leaf that is over a limit, or an inner page with too many children. It costs some walks along its chain.
+pub fn is_over(tree: &Tree, limits: &Limits, page: PageId) -> bool
     ensures over { result ≡ true → IsOver limits.now (slot_at tree.now.slots page) }
     ensures within { result ≡ false → Contains (row tree.now.levels 0) page →
         IsWithin limits.now (slot_at tree.now.slots page) }

@@ -4,7 +4,7 @@ use Rattle.std.proofs.lemmas.List.{set-set}
 use Rattle.std.specs.Prelude.{Result, Ok, Err, OnErr}
 use Rattle.bw_key.specs.Order.{KeyBytes}
 use Rattle.bw_level.specs.Children.{FitsChild}
-use Rattle.bw_tree.specs.Children.{IsNamed}
+use Rattle.bw_tree.specs.TreeChildren.{IsNamed}
 use Rattle.bw_look.specs.Unnamed.{IsUnnamed}
 use Rattle.bw_tree.specs.Consolidation.{IsRebased}
 use Rattle.bw_look.specs.Routing.{IsInnerPage}

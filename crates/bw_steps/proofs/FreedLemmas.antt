@@ -10,9 +10,9 @@ use Rattle.bw_level.specs.Freeing.{IsUnreached}
 use Rattle.bw_level.specs.Levels.{row}
 use Rattle.bw_level.specs.Searches.{AllStand, IsInLevels}
 use Rattle.bw_level.specs.Slots.{Slot, Free, Gone, Live, left_of, left_of_slot, slot_at}
-use Rattle.bw_level.specs.Steps.{IsTerm}
+use Rattle.bw_level.specs.KeptLevels.{IsTerm}
 use Rattle.bw_look.specs.RemovedPages.{HasEachRemoved}
-use Rattle.bw_tree.specs.Freeing.{HasFreed, MayBeFreed}
+use Rattle.bw_tree.specs.TreeFreeing.{HasFreed, MayBeFreed}
 use Rattle.bw_look.specs.View.{TreeView}
 use Rattle.bw_steps.specs.Releasing.{AreFreed, HasNoneToFree, IsLeftOut, IsLeftToFree, IsReleaseStep, taken_count}
 use Rattle.bw_steps.specs.declared.steps.Did.{Did}

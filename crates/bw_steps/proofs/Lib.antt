@@ -1,6 +1,6 @@
 pub mod FinishLemmas
 pub mod TakenLemmas
 pub mod FreedLemmas
-pub mod NamingLemmas
+pub mod NamedNeighbours
 pub mod PlainLemmas
-pub mod MergeLemmas
+pub mod MergeStepLemmas

@@ -1,6 +1,6 @@
 -- What a page's mapping word tells.
 use Rattle.std.proofs.Common.{◌≡◌, ℕ, zero, suc, ◌<◌, ◌≤◌, ◌^◌, Bool, true, false, List, [], ◌∷◌, length, Decides, slice_index, sym, ◌∙◌, arith}
-use Rattle.bw_look.specs.Pages.{IsPlain}
+use Rattle.bw_look.specs.PageStates.{IsPlain}
 use Rattle.bw_look.specs.Routing.{IsInNoLevel}
 use Rattle.bw_look.specs.Trees.{ArePlaced}
 use Rattle.bw_look.specs.View.{TreeView}

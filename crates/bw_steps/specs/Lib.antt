@@ -1,4 +1,4 @@
 pub mod Steps
 pub mod Naming
-pub mod Merges
+pub mod MergeSteps
 pub mod Releasing

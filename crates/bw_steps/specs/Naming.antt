@@ -1,7 +1,7 @@
 -- Right neighbours that get their index entries at once.
 use Rattle.std.specs.Prelude.{ℕ, ◌<◌, List, [], ◌∷◌, length}
 use Rattle.bw_key.specs.Order.{KeyBytes}
-use Rattle.bw_tree.specs.Children.{AreNamed}
+use Rattle.bw_tree.specs.TreeChildren.{AreNamed}
 use Rattle.bw_look.specs.Unnamed.{IsUnnamed}
 use Rattle.bw_look.specs.View.{TreeView}
 

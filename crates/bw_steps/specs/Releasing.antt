@@ -2,7 +2,7 @@
 use Rattle.std.specs.Prelude.{◌≡◌, ℕ, ◌+◌, ◌⊎◌, List, [], ◌∷◌, None}
 use Rattle.bw_level.specs.Freeing.{IsUnreached}
 use Rattle.bw_level.specs.Slots.{Slot, Free, Gone, Live, slot_at}
-use Rattle.bw_tree.specs.Freeing.{HasFreed, MayBeFreed}
+use Rattle.bw_tree.specs.TreeFreeing.{HasFreed, MayBeFreed}
 use Rattle.bw_look.specs.View.{TreeView, contents_at}
 use Rattle.bw_steps.specs.declared.steps.Did.{Did}
 use Rattle.bw_steps.specs.declared.steps.Did.TheVariants.{Done, NotNeeded}

@@ -3,11 +3,11 @@ use Rattle.std.specs.Prelude.{◌≡◌, ℕ, ◌<◌, ◌≤◌, ◌^◌, ◌�
 use Rattle.bw_key.specs.Order.{KeyBytes}
 use Rattle.bw_level.specs.Slots.{side_of}
 use Rattle.bw_look.specs.Unnamed.{HasNoUnnamed, IsUnnamed}
-use Rattle.bw_tree.specs.Children.{IsNamed}
+use Rattle.bw_tree.specs.TreeChildren.{IsNamed}
 use Rattle.bw_tree.specs.Consolidation.{IsConsolidated, IsRebased}
-use Rattle.bw_tree.specs.Roots.{HasNewRoot}
+use Rattle.bw_tree.specs.TreeRoots.{HasNewRoot}
 use Rattle.bw_look.specs.Routing.{IsInLevel}
-use Rattle.bw_tree.specs.Splits.{IsSplit, IsSplittable}
+use Rattle.bw_tree.specs.TreeSplits.{IsSplit, IsSplittable}
 use Rattle.bw_look.specs.View.{TreeView}
 use Rattle.bw_steps.specs.declared.steps.Did.{Did}
 use Rattle.bw_steps.specs.declared.steps.Did.TheVariants.{Done, NotNeeded}

@@ -3,13 +3,13 @@
 //! isn't; each leaves what the tree holds.
 #![tactic(auto)]
 
-mod merges;
+mod merge_steps;
 mod release_runs;
 mod releasing;
 mod right_neighbours;
 mod steps;
 
-pub use merges::{absorb, are_under_one, drop_root, finish_absorb};
+pub use merge_steps::{absorb, are_under_one, drop_root, finish_absorb};
 pub use release_runs::{release_all, release_run};
 pub use releasing::release;
 pub use right_neighbours::name_rights;

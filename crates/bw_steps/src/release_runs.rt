@@ -1,7 +1,7 @@
 // Identifiers that are given back one after another: that of a removed page, and then that of the page into which it was removed.
 ghost use Rattle.std.specs.Prelude.{◌≡◌, ℕ, ◌<◌, ◌⊎◌, Some, None, IfOk, IfSome, OnErr, OnOk};
 ghost use Rattle.bw_level.specs.Slots.{left_of};
-ghost use Rattle.bw_tree.specs.Freeing.{MayBeFreed};
+ghost use Rattle.bw_tree.specs.TreeFreeing.{MayBeFreed};
 ghost use Rattle.bw_steps.specs.Releasing.{AreFreed, HasNoneToFree, IsLeftOut, IsLeftToFree, taken_count};
 
 use crate::releasing::release;

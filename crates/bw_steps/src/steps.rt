@@ -4,12 +4,12 @@ ghost use Rattle.std.specs.List.{Contains};
 ghost use Rattle.bw_level.specs.Children.{FitsChild};
 ghost use Rattle.bw_level.specs.Levels.{row};
 ghost use Rattle.bw_level.specs.Splits.{HasNoRemovedAt};
-ghost use Rattle.bw_tree.specs.Children.{IsNamed};
+ghost use Rattle.bw_tree.specs.TreeChildren.{IsNamed};
 ghost use Rattle.bw_level.specs.Searches.{IsInLevels};
 ghost use Rattle.bw_tree.specs.Consolidation.{IsRebased};
 ghost use Rattle.bw_look.specs.Routing.{IsInLevel, IsInnerPage};
-ghost use Rattle.bw_look.specs.Pages.{IsPlain, leaf_as_of};
-ghost use Rattle.bw_tree.specs.Splits.{IsSplittable};
+ghost use Rattle.bw_look.specs.PageStates.{IsPlain, leaf_as_of};
+ghost use Rattle.bw_tree.specs.TreeSplits.{IsSplittable};
 ghost use Rattle.bw_steps.specs.Steps.{IsConsolidationStep, IsFinishStep, IsFinished, HasLostChain, IsNamerToBe, IsRootStep, IsSameOver, IsSplitStep};
 
 use bw_key::{Key, Memory};

@@ -19,3 +19,4 @@ mod stopping;
 mod stops;
 mod sweeps;
 mod tidying;
+mod workers;

@@ -1,6 +1,6 @@
 -- The pages of an index are pages that hold its contents.
 use Rattle.std.proofs.Common.{List}
-use Rattle.bw_batch.specs.Trees.{IsShapeOf, IsShapeWith}
+use Rattle.bw_batch.specs.IndexTrees.{IsShapeOf, IsShapeWith}
 use Rattle.bw_batch.specs.View.{IndexView, contents_of}
 use Rattle.bw_look.specs.declared.look.shape.PageShape.{PageShape}
 

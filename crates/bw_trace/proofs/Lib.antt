@@ -3,7 +3,7 @@ pub mod Misreading
 pub mod ReadBackLemmas
 pub mod Writing
 pub mod LinesLemmas
-pub mod Reading
+pub mod ReadingSteps
 pub mod TracesLemmas
 pub mod RunningLemmas
 pub mod DeterminedLemmas

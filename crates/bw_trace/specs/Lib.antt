@@ -5,7 +5,7 @@ pub mod Misreads
 pub mod ReadBack
 pub mod Traces
 pub mod Texts
-pub mod Shapes
+pub mod ShapeTexts
 pub mod Ends
 pub mod Counts
 pub mod Faults

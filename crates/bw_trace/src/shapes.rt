@@ -2,7 +2,7 @@
 ghost use Rattle.std.specs.Prelude.{◌≡◌, ◌++◌, ◌∷◌, IfOk, OnOk};
 ghost use Rattle.std.specs.Fmt.{decimal};
 ghost use Rattle.std.specs.Option.{option_copied};
-ghost use Rattle.bw_trace.specs.Shapes.{high_text, range_text, leaf_text, inner_text, page_text, shape_text};
+ghost use Rattle.bw_trace.specs.ShapeTexts.{high_text, range_text, leaf_text, inner_text, page_text, shape_text};
 
 use crate::spelling::push_spelled;
 use crate::texts::push_number;

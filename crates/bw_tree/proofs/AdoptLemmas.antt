@@ -40,7 +40,7 @@ use Rattle.bw_level.specs.Searches.{AllStand, IsInLevels}
 use Rattle.bw_look.specs.Trees.{ArePlaced, IsStanding}
 use Rattle.bw_chain.specs.Records.{put_records}
 use Rattle.bw_chain.specs.Supports.{base_under}
-use Rattle.bw_tree.proofs.AlikeLemmas.{IsPutOver, AreInside, exact_written, levels_written, pairs_alike, put_bare, stand_written}
+use Rattle.bw_tree.proofs.TreeAlikeLemmas.{IsPutOver, AreInside, exact_written, levels_written, pairs_alike, put_bare, stand_written}
 use Rattle.bw_chain.proofs.GrowthLemmas.{take_front}
 use Rattle.bw_level.proofs.LevelLemmas.{levels_now}
 use Rattle.bw_tree.proofs.PlacedLemmas.{named_are, named_pass}

@@ -17,7 +17,7 @@ use Rattle.bw_level.specs.Changes.{Bases}
 use Rattle.bw_chain.specs.Chains.{Records, slot_of_word, slots_of}
 use Rattle.bw_look.specs.Trees.{IsStanding, IsTree, StageWords, stage_of, view_of}
 use Rattle.bw_look.specs.Words.{bases_before, words_before}
-use Rattle.bw_look.specs.declared.mapping_words.WordsBefore.{WordsBefore}
+use Rattle.bw_look.specs.declared.words_before.WordsBefore.{WordsBefore}
 use Rattle.bw_chain.specs.Records.{put_records, writes_in}
 use Rattle.bw_tree.specs.Stages.{IsPosted, IsPostedStage, adopted_stage}
 use Rattle.bw_look.specs.View.{TreeView, StageView, contents_at, contents_with}

@@ -8,9 +8,9 @@ use Rattle.bw_tree.specs.Stages.{IsPostedStage}
 use Rattle.bw_look.specs.Trees.{IsTree, StageWords, view_of}
 use Rattle.bw_look.specs.View.{TreeView, StageView}
 use Rattle.bw_look.specs.Words.{put_words}
-use Rattle.bw_tree.specs.Words.{words_of, IsPostedStageOn}
+use Rattle.bw_tree.specs.PageWords.{words_of, IsPostedStageOn}
 use Rattle.bw_tree.proofs.AdoptedLemmas.{Adoption, adoption}
-use Rattle.bw_tree.proofs.WordLemmas.{put_back, spread_stage}
+use Rattle.bw_tree.proofs.SwappedWords.{put_back, spread_stage}
 
 -- what is adopted on some pages is adopted on all
 pub adoption_on : (heads pages given : List ℕ) (bases : Bases) (records : Records) (root next : ℕ) (staged : Option StageWords) (tree : TreeView) (s : StageWords) (links : List ℕ) → IsTree heads bases records root next staged → view_of heads bases records root next staged ≡ tree → Some s ≡ staged →

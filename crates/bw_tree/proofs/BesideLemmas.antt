@@ -39,11 +39,11 @@ use Rattle.bw_level.proofs.HomeLemmas.{one_home}
 use Rattle.bw_level.proofs.StepLemmas.{home_there}
 use Rattle.bw_look.specs.Folding.{put_each, put_leaves, put_own_words}
 use Rattle.bw_tree.specs.Making.{leaf_slot}
-use Rattle.bw_look.specs.Pages.{leaf_as_of}
+use Rattle.bw_look.specs.PageStates.{leaf_as_of}
 use Rattle.bw_tree.specs.Stages.{IsPosted, writes_with}
 use Rattle.bw_look.specs.Words.{bases_before, put_words, words_before}
-use Rattle.bw_tree.specs.Words.{IsPostedStageOn}
-use Rattle.bw_look.specs.declared.mapping_words.WordsBefore.{WordsBefore}
+use Rattle.bw_tree.specs.PageWords.{IsPostedStageOn}
+use Rattle.bw_look.specs.declared.words_before.WordsBefore.{WordsBefore}
 use Rattle.bw_tree.specs.Beside.{AreFolded, IsAdoptedBeside, with_own_words}
 use Rattle.bw_look.specs.Trees.{IsStanding, IsTree, StageWords, end_of, stage_of, view_of}
 use Rattle.bw_look.specs.View.{TreeView, contents_at, contents_with}
@@ -51,7 +51,7 @@ use Rattle.bw_look.specs.declared.folded.Folded.{Folded}
 use Rattle.bw_tree.proofs.AdoptedOnLemmas.{AreFit, posted_fit}
 use Rattle.bw_tree.proofs.AdoptedLemmas.{Adoption, adoption_over}
 use Rattle.bw_look.proofs.LeafScanLemmas.{leaf_at, leaf_held}
-use Rattle.bw_tree.proofs.WordLemmas.{posted_on_all}
+use Rattle.bw_tree.proofs.SwappedWords.{posted_on_all}
 use Rattle.bw_tree.proofs.StageLemmas.{stands_on}
 use Rattle.bw_look.proofs.StagedLemmas.{take_length, writes_staged}
 use Rattle.bw_tree.proofs.ConsolidationLemmas.{at_p, contents_new, home_was, others_new, page_new, same_levels, standing_new, within}

@@ -16,7 +16,7 @@ use Rattle.bw_page.proofs.Truths.{both_of, holds}
 use Rattle.bw_delta.specs.History.{HasDistinctStamps, action_at}
 use Rattle.bw_delta.specs.Writes.{WriteView}
 use Rattle.bw_delta.proofs.Histories.{quiet}
-use Rattle.bw_delta.proofs.Maps.{find_in_range}
+use Rattle.bw_delta.proofs.PairMaps.{find_in_range}
 use Rattle.bw_level.specs.Searches.{AllStand}
 use Rattle.bw_level.specs.Changes.{Bases}
 use Rattle.bw_chain.specs.Chains.{Records, slot_of_word, slots_of}
@@ -26,7 +26,7 @@ use Rattle.bw_level.specs.Entries.{AreExact}
 use Rattle.bw_level.specs.Levels.{AreLevels, IsHome, row, levels_under}
 use Rattle.bw_level.specs.Reading.{contents_in, row_writes, value_in, writes_over}
 use Rattle.bw_level.specs.Scans.{high_of}
-use Rattle.bw_level.specs.Steps.{AreAlike, IsAlike}
+use Rattle.bw_level.specs.KeptLevels.{AreAlike, IsAlike}
 use Rattle.bw_chain.specs.Supports.{base_under}
 use Rattle.bw_level.proofs.AlikeLemmas.{exact_alike, levels_alike, stand_alike}
 use Rattle.bw_chain.proofs.BaseLemmas.{low, others_kept, put_there}
@@ -37,12 +37,12 @@ use Rattle.bw_level.proofs.RouteLemmas.{held}
 use Rattle.bw_level.proofs.RowLemmas.{InRow}
 use Rattle.bw_level.proofs.StepLemmas.{contents_kept}
 use Rattle.bw_tree.specs.Consolidation.{IsConsolidated}
-use Rattle.bw_look.specs.Pages.{leaf_as_of}
+use Rattle.bw_look.specs.PageStates.{leaf_as_of}
 use Rattle.bw_tree.specs.Making.{leaf_slot}
 use Rattle.bw_look.specs.Trees.{IsStanding, IsTree, StageWords, view_of}
 use Rattle.bw_look.specs.View.{StageView, TreeView, contents_at}
 use Rattle.bw_look.proofs.RoutingLemmas.{slot_past}
-use Rattle.bw_look.proofs.LeafLemmas.{consolidated_rules}
+use Rattle.bw_look.proofs.ConsolidatedLeaves.{consolidated_rules}
 use Rattle.bw_tree.proofs.RebaseLemmas.{put_on, stands_with}
 use Rattle.bw_look.proofs.ScanLemmas.{leaf_in_row}
 

@@ -15,7 +15,7 @@ use Rattle.bw_chain.specs.Supports.{IsLeafAt}
 use Rattle.bw_look.specs.Folding.{pages_of, put_each, put_leaves}
 use Rattle.bw_look.specs.declared.folded.Folded.{Folded}
 use Rattle.bw_look.proofs.PutLemmas.{put_more}
-use Rattle.bw_tree.proofs.WordLemmas.{not_first}
+use Rattle.bw_tree.proofs.SwappedWords.{not_first}
 
 abbrev base_of : Folded → Option Page
 base_of f = Some (LeafPage f.leaf)

@@ -11,7 +11,7 @@ use Rattle.bw_level.specs.Laws.{KeepsAll}
 use Rattle.bw_level.proofs.FreeingLemmas.{page_freed}
 use Rattle.bw_level.proofs.RouteLemmas.{held}
 use Rattle.bw_chain.proofs.VacancyLemmas.{vacant_end, vacant_own, vacated}
-use Rattle.bw_tree.specs.Freeing.{HasFreed, MayBeFreed}
+use Rattle.bw_tree.specs.TreeFreeing.{HasFreed, MayBeFreed}
 use Rattle.bw_look.specs.Trees.{IsStanding, IsTree, StageWords, view_of}
 use Rattle.bw_look.specs.View.{StageView, TreeView}
 use Rattle.bw_tree.proofs.StandingLemmas.{contents_same, same_levels, standing_kept}

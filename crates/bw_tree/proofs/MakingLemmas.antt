@@ -22,7 +22,7 @@ use Rattle.bw_level.specs.Changes.{Bases, based}
 use Rattle.bw_chain.specs.Chains.{slot_of_word, slots_of}
 use Rattle.bw_chain.specs.Removed.{HasNoRemoved}
 use Rattle.bw_tree.specs.Making.{AreAbutting, base_of_leaf, count_from, pairs_in, terms_from}
-use Rattle.bw_look.specs.Pages.{HasRules}
+use Rattle.bw_look.specs.PageStates.{HasRules}
 use Rattle.bw_level.specs.Reading.{pairs_under, writes_over, row_pairs, row_writes}
 
 no_entry : {X : Type 0} {x : X} → None ≡ Some x → ⊥

@@ -28,8 +28,8 @@ use Rattle.bw_chain.proofs.GrowthLemmas.{append_extends, still_ends}
 use Rattle.bw_chain.proofs.ReadingLemmas.{slot_of_head}
 use Rattle.bw_level.proofs.RouteLemmas.{held}
 use Rattle.bw_level.proofs.RowLemmas.{in_row}
-use Rattle.bw_page.specs.Merging.{put_all}
-use Rattle.bw_tree.specs.Children.{AreNamed, HasChildren, MayHaveChildren, state_with_children}
+use Rattle.bw_page.specs.MergedEntries.{put_all}
+use Rattle.bw_tree.specs.TreeChildren.{AreNamed, HasChildren, MayHaveChildren, state_with_children}
 use Rattle.bw_look.specs.Routing.{IsInnerPage}
 use Rattle.bw_look.specs.Trees.{IsStanding, IsTree, StageWords, view_of}
 use Rattle.bw_look.specs.View.{StageView, TreeView}

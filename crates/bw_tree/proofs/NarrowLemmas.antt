@@ -25,11 +25,11 @@ use Rattle.bw_chain.specs.Supports.{base_under}
 use Rattle.bw_level.proofs.LeafRowLemmas.{page_outside}
 use Rattle.bw_level.proofs.RowLemmas.{InRow, in_row}
 use Rattle.bw_tree.specs.Consolidation.{IsConsolidated, IsRebased}
-use Rattle.bw_look.specs.Pages.{leaf_as_of}
+use Rattle.bw_look.specs.PageStates.{leaf_as_of}
 use Rattle.bw_tree.specs.Making.{leaf_slot}
 use Rattle.bw_look.specs.Trees.{IsStanding, IsTree, StageWords, view_of}
 use Rattle.bw_look.specs.View.{TreeView, contents_at}
-use Rattle.bw_look.proofs.LeafLemmas.{high_is, pairs_here}
+use Rattle.bw_look.proofs.ConsolidatedLeaves.{high_is, pairs_here}
 use Rattle.bw_tree.proofs.RebaseLemmas.{rebased_on}
 use Rattle.bw_look.proofs.RoutingLemmas.{page_at_head}
 use Rattle.bw_look.proofs.ScanLemmas.{leaf_in_row}

@@ -24,9 +24,9 @@ use Rattle.bw_level.specs.Slots.{Slot, PageState, Children, Free, Gone, Live, sl
 use Rattle.bw_level.specs.Levels.{AreLevels, SideBySide, Stands, StartsWith, LeadsBelow, BeginsWith, FirstChild, row}
 use Rattle.bw_level.specs.Entries.{AreExact}
 use Rattle.bw_level.specs.Searches.{AllStand, IsInLevels}
-use Rattle.bw_level.specs.Steps.{IsTerm}
+use Rattle.bw_level.specs.KeptLevels.{IsTerm}
 use Rattle.bw_tree.specs.Making.{AreAbutting, IsOverLeaves, base_of_leaf, count_from, leaf_slot, pages_over, pairs_in, terms_from, tree_over}
-use Rattle.bw_look.specs.Pages.{HasRules}
+use Rattle.bw_look.specs.PageStates.{HasRules}
 use Rattle.bw_look.specs.View.{TreeView, contents_at}
 use Rattle.bw_level.specs.Reading.{row_pairs, row_writes}
 use Rattle.bw_chain.specs.Supports.{OwnBases, base_under}

@@ -13,9 +13,9 @@ use Rattle.bw_chain.specs.Vacancy.{AreVacantFrom, IsTakenBefore}
 use Rattle.bw_level.specs.Walk.{walked}
 use Rattle.bw_chain.proofs.AdditionLemmas.{slot_here}
 use Rattle.bw_level.proofs.SameLemmas.{all_kept}
-use Rattle.bw_chain.proofs.TrimLemmas.{count_left, ends_left, own_left, slots_left}
+use Rattle.bw_chain.proofs.BaseTrims.{count_left, ends_left, own_left, slots_left}
 use Rattle.bw_chain.proofs.VacancyLemmas.{free_under}
-use Rattle.bw_tree.specs.Freeing.{EndsTaken, IsTrimmed}
+use Rattle.bw_tree.specs.TreeFreeing.{EndsTaken, IsTrimmed}
 use Rattle.bw_look.specs.Trees.{ArePlaced, IsStanding, IsTree, StageWords, view_of}
 use Rattle.bw_look.specs.View.{StageView, TreeView}
 use Rattle.bw_tree.proofs.StandingLemmas.{contents_same, same_levels, standing_kept}

@@ -5,7 +5,7 @@ use Rattle.bw_level.specs.Levels.{row}
 use Rattle.bw_level.specs.Slots.{slot_at}
 use Rattle.bw_level.specs.Turns.{slot_without_writes}
 use Rattle.bw_look.specs.Folding.{put_each, put_own_words}
-use Rattle.bw_look.specs.Pages.{leaf_as_of}
+use Rattle.bw_look.specs.PageStates.{leaf_as_of}
 use Rattle.bw_tree.specs.Making.{leaf_slot}
 use Rattle.bw_tree.specs.Stages.{LeavesHaveAll, adopted_stage}
 use Rattle.bw_look.specs.View.{TreeView, contents_at, contents_with}

@@ -2,7 +2,7 @@
 use Rattle.std.specs.Prelude.{◌≡◌, ℕ, ◌<◌, ◌^◌, None, slice_index, slice_set}
 use Rattle.bw_level.specs.Slots.{slot_at}
 use Rattle.bw_tree.specs.Making.{leaf_slot}
-use Rattle.bw_look.specs.Pages.{leaf_as_of}
+use Rattle.bw_look.specs.PageStates.{leaf_as_of}
 use Rattle.bw_look.specs.View.{TreeView, contents_at}
 
 -- The leaf is a base page with all that the tree held in the leaf's range as of its next stamp, and no write over it. All

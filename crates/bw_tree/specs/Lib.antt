@@ -1,6 +1,6 @@
 pub mod Stages
 pub mod Beside
-pub mod Words
+pub mod PageWords
 pub mod Making
 pub mod Consolidation
 pub use Rattle.bw_level.specs.Walk
@@ -19,8 +19,8 @@ pub use Rattle.bw_level.specs.LeafEnds
 pub use Rattle.bw_level.specs.Targets
 pub use Rattle.bw_level.specs.Laws
 pub mod Identifiers
-pub mod Freeing
-pub mod Splits
-pub mod Children
-pub mod Roots
-pub mod Merges
+pub mod TreeFreeing
+pub mod TreeSplits
+pub mod TreeChildren
+pub mod TreeRoots
+pub mod TreeMerges

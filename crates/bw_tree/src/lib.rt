@@ -5,8 +5,8 @@
 //! A mapping word below 2^32 names a base page of the tree, and one from there on a delta record.
 #![tactic(auto)]
 
-mod folded;
 mod freed;
+mod leaf_swaps;
 mod making;
 mod mapping_words;
 mod tree;

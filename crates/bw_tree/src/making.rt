@@ -1,7 +1,7 @@
 // The parts of a tree that is made of leaves.
 ghost use Rattle.std.specs.Prelude.{◌≡◌, ◌≤◌, ◌^◌, length, map, IfOk, OnOk};
 ghost use Rattle.std.specs.List.{AllByRecursion};
-ghost use Rattle.bw_look.specs.Pages.{HasRules};
+ghost use Rattle.bw_look.specs.PageStates.{HasRules};
 ghost use Rattle.bw_tree.specs.Making.{base_of_leaf, count_from, terms_from};
 
 use bw_key::{Key, Memory};

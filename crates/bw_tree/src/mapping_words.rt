@@ -4,7 +4,7 @@ ghost use Rattle.std.specs.List.{AllByRecursion};
 ghost use Rattle.bw_core.specs.World.{times};
 ghost use Rattle.bw_chain.specs.Placing.{put_at};
 ghost use Rattle.bw_look.specs.Words.{put_words};
-ghost use Rattle.bw_tree.specs.Words.{words_of};
+ghost use Rattle.bw_tree.specs.PageWords.{words_of};
 
 use bw_memory::Alloc;
 use bw_page::PageId;

@@ -13,16 +13,16 @@ use bw_page::{Inner, Leaf, Page, PageId};
 use bw_segment::Segmented;
 use std::marker::Model;
 
-mod children;
-mod identifiers;
+mod batch_life;
+mod freeing;
 mod merges;
 mod naming;
+mod new_children;
 mod page_consolidation;
 mod reading;
 mod restart;
 mod roots;
 mod splits;
-mod staged_batch;
 mod trimming;
 
 /// Pages, named by identifiers, whose present states are chains of delta records over base pages.

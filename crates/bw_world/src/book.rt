@@ -3,7 +3,7 @@ ghost use Rattle.std.specs.Prelude.{◌≡◌, ◌↔◌, ◌<◌, ◌≤◌, �
 ghost use Rattle.std.specs.List.{AllByRecursion};
 ghost use Rattle.bw_core.specs.World.{owns, posts_in, tries_in, times, seen_at, end_at, top, spent};
 ghost use Rattle.bw_core.specs.Events.{under, Resumes, book_after_look, book_after_link, book_after_win, book_after_loss, book_after_claim, book_without_pieces, left_book, right_book, book_after_join, book_after_swap, book_after_late_swap};
-ghost use Rattle.bw_core.specs.Steps.{first_book};
+ghost use Rattle.bw_core.specs.Transitions.{first_book};
 ghost use Rattle.bw_core.specs.declared.BookView.{BookView};
 
 use crate::copies;

@@ -1,6 +1,6 @@
 //! The words and books of a world, before anything is said of them.
 ghost use Rattle.std.specs.Prelude.{◌≡◌, ◌↔◌, ◌<◌, ℕ, length, IsTrue, IfOk, MatchOption};
-ghost use Rattle.bw_core.specs.Steps.{IsWorld, start_world, IsFresh, IsSeat, MayLook, MayLink, MayTry, MayFollow, MayClaim, MaySplit, MayJoin, MayReplace};
+ghost use Rattle.bw_core.specs.Transitions.{IsWorld, start_world, IsFresh, IsSeat, MayLook, MayLink, MayTry, MayFollow, MayClaim, MaySplit, MayJoin, MayReplace};
 ghost use Rattle.bw_core.specs.declared.BookView.{BookView};
 
 use crate::book::{Book, Chain};

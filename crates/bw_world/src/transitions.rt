@@ -1,6 +1,6 @@
 //! What each event changes and answers. What may find no memory comes before the first change.
 ghost use Rattle.std.specs.Prelude.{◌≡◌, ◌≢◌, ℕ, slice_index, IsOk, IfOk, OnErr};
-ghost use Rattle.bw_core.specs.Steps.{IsWorld, MayTry, MayReplace, TakesNoMemory, Applies, Looks, Links, Tries, Follows, Claims, Splits, Joins, Replaces};
+ghost use Rattle.bw_core.specs.Transitions.{IsWorld, MayTry, MayReplace, TakesNoMemory, Applies, Looks, Links, Tries, Follows, Claims, Splits, Joins, Replaces};
 ghost use Rattle.bw_core.specs.declared.BookView.{BookView};
 
 use crate::book::Book;

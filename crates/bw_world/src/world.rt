@@ -1,7 +1,7 @@
 //! The world in which records are posted, step by step.
 ghost use Rattle.std.specs.Prelude.{◌≡◌, ◌<◌, ℕ, length, IsOk, IfOk, OnErr};
 ghost use Rattle.bw_core.specs.World.{Lawful, Keeps};
-ghost use Rattle.bw_core.specs.Steps.{CanStart, IsFresh, TakesNoMemory, Applies, Runs, start_world};
+ghost use Rattle.bw_core.specs.Transitions.{CanStart, IsFresh, TakesNoMemory, Applies, Runs, start_world};
 
 use crate::Book;
 use crate::state::State;
@@ -32,7 +32,7 @@ impl Model for World {
 
     ghost Value = { WorldView };
 
-    ghost use Rattle.bw_core.specs.Steps.{IsWorld};
+    ghost use Rattle.bw_core.specs.Transitions.{IsWorld};
 
     ghost view = { λ w. w.state };
 

@@ -3,7 +3,7 @@ ghost use Rattle.std.specs.Prelude.{◌≡◌, ◌<◌, length};
 ghost use Rattle.bw_level.specs.Reading.{writes_over};
 ghost use Rattle.bw_level.specs.Slots.{slot_at};
 ghost use Rattle.bw_level.specs.Splits.{slot_child, slot_entries};
-ghost use Rattle.bw_look.specs.Pages.{IsPlain};
+ghost use Rattle.bw_look.specs.PageStates.{IsPlain};
 
 use super::Look;
 use bw_page::PageId;

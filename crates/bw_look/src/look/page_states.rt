@@ -15,7 +15,7 @@ use bw_level::Target;
 use bw_page::{Inner, Leaf, Page, PageId};
 
 impl<'a> Look<'a> {
-    ghost use Rattle.bw_look.specs.Pages.{HasNoLeft, HasNoNamer, IsAbove, IsLeft, IsNamer, IsPlain, IsState, leaf_as_of};
+    ghost use Rattle.bw_look.specs.PageStates.{HasNoLeft, HasNoNamer, IsAbove, IsLeft, IsNamer, IsPlain, IsState, leaf_as_of};
 
     /// Whether a page is a base page by itself, with no record over it. An identifier that was never given out names none. It
     /// is a look at the page's mapping word.

@@ -1,7 +1,7 @@
 // What is told of the batch that is staged.
 ghost use Rattle.std.specs.Prelude.{◌≡◌, ◌<◌, None, Some, length, slice_get, MatchOption};
 ghost use Rattle.bw_look.specs.View.{staged_writes};
-ghost use Rattle.bw_look.specs.Stages.{IsStagedAs};
+ghost use Rattle.bw_look.specs.StagedBatches.{IsStagedAs};
 
 use super::Look;
 use crate::staging::Staged;

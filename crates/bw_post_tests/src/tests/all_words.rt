@@ -3,7 +3,7 @@ ghost use Rattle.std.specs.Prelude.{◌≡◌, ◌≤◌, ◌<◌, ◌+◌, ℕ,
 ghost use Rattle.bw_core.specs.World.{owns};
 ghost use Rattle.bw_board.specs.Working.{HasLeft, HasPostedAll};
 ghost use Rattle.bw_tree.specs.Stages.{is_adopted};
-ghost use Rattle.bw_tree.specs.Words.{IsPostedStageOn};
+ghost use Rattle.bw_tree.specs.PageWords.{IsPostedStageOn};
 
 use super::making::{FLOOR, batch, has, holds, post, stands, three};
 use crate::tests::assertions::assert_equal;
@@ -58,7 +58,7 @@ fn posted_over_all<R: Abort>(rt: &R, alloc: Alloc) -> Closed {
 }
 
 // Adopts the words of all pages, where those of two pages, on which the batch is posted, are among them.
-#[tactic(auto, using(bw_tree::proofs::WordLemmas::spread_stage))]
+#[tactic(auto, using(bw_tree::proofs::SwappedWords::spread_stage))]
 fn adopt_all<R: Abort>(rt: &R, tree: &mut Tree, pages: &[PageId], two: &Closed, all: Closed)
     requires { IsPostedStageOn tree.old tree.old.staged pages.now two.now.heads two.now.links }
     ensures { is_adopted tree.new.staged ≡ true }

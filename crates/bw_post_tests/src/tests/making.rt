@@ -1,7 +1,7 @@
 // A tree over three leaves, batches, and what tests compare with.
 ghost use Rattle.std.specs.Prelude.{◌≡◌, ◌<◌, ◌≤◌, ◌+◌, ◌^◌, None, length};
 ghost use Rattle.bw_tree.specs.Stages.{staged_on};
-ghost use Rattle.bw_tree.specs.Words.{IsPostedStageOn};
+ghost use Rattle.bw_tree.specs.PageWords.{IsPostedStageOn};
 
 use crate::tests::assertions::{assert_equal, assert_that};
 use bw_fixtures::{are, key, three_leaves, value};

@@ -3,7 +3,7 @@ ghost use Rattle.std.specs.Prelude.{◌≡◌, true};
 ghost use Rattle.std.specs.List.{Contains};
 ghost use Rattle.bw_tree.specs.Levels.{row};
 ghost use Rattle.bw_tree.specs.Stages.{is_adopted};
-ghost use Rattle.bw_tree.specs.Words.{IsPostedStageOn};
+ghost use Rattle.bw_tree.specs.PageWords.{IsPostedStageOn};
 
 use super::making::{FLOOR, batch, has, holds, post, stands, three, upsert};
 use crate::tests::assertions::{assert_equal, assert_that};

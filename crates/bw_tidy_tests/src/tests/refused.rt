@@ -97,8 +97,8 @@ fn is_same(page: &PageShape, other: &PageShape) -> bool {
         && page.writes == other.writes
 }
 
-// Compares the pages of an index.
-fn has_pages<R: Abort>(rt: &R, index: &Index, wanted: &[PageShape]) {
+/// Compares the pages of an index.
+pub fn has_pages<R: Abort>(rt: &R, index: &Index, wanted: &[PageShape]) {
     let shape = index.tree().shape().expect(rt, "memory");
     assert_equal(rt, shape.len(), wanted.len());
     for (page, other) in shape.iter().zip(wanted) {

@@ -7,7 +7,7 @@ use bw_key::{Key, Memory};
 use bw_page::PageId;
 
 impl Tree {
-    ghost use Rattle.bw_tree.specs.Merges.{HasLostChild, HasMerged, IsLowered, MayLoseChild, MayMerge};
+    ghost use Rattle.bw_tree.specs.TreeMerges.{HasLostChild, HasMerged, IsLowered, MayLoseChild, MayMerge};
 
     /// Merges a page into its left neighbour, which gets its entries and goes on to its end. The page is a removed one from
     /// then on: a search that comes to it, as the page above still names it, goes on at the left neighbour. Both are base

@@ -13,7 +13,7 @@ use bw_memory::Alloc;
 use bw_page::{Inner, Page, PageId};
 
 impl Tree {
-    ghost use Rattle.bw_tree.specs.Children.{AreNamed, MayHaveChildren, state_with_children};
+    ghost use Rattle.bw_tree.specs.TreeChildren.{AreNamed, MayHaveChildren, state_with_children};
     ghost use Rattle.bw_look.specs.Routing.{IsInnerPage};
 
     /// Lets an inner page name several pages of the level below, as after many splits of one page: what `set_child` would do

@@ -14,7 +14,7 @@ impl Tree {
     ghost use Rattle.bw_level.specs.Searches.{IsInLevels};
     ghost use Rattle.bw_level.specs.Slots.{slot_at};
     ghost use Rattle.bw_tree.specs.Consolidation.{IsConsolidated, IsRebased};
-    ghost use Rattle.bw_look.specs.Pages.{leaf_as_of};
+    ghost use Rattle.bw_look.specs.PageStates.{leaf_as_of};
     ghost use Rattle.bw_look.specs.Routing.{IsInnerPage};
 
     /// Consolidates a leaf: what its writes make of its base page, as of the next stamp, takes the place of that page (ICDE
@@ -65,8 +65,9 @@ impl Tree {
         Ok(true)
     }
 
-    // Puts a consolidated leaf in the place of its chain.
-    fn put_leaf(&mut self, page: PageId, leaf: Leaf)
+    /// Puts a leaf that was consolidated as of the next stamp in the place of its chain. No batch is staged. It costs a walk
+    /// along the chain, and takes no memory.
+    pub fn put_leaf(&mut self, page: PageId, leaf: Leaf)
         requires none { self.old.staged ≡ None }
         requires leaf { Contains (row self.old.levels 0) page }
         requires consolidated { leaf ≡ leaf_as_of self.old page self.old.next }

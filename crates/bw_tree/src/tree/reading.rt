@@ -30,10 +30,10 @@ impl Tree {
     ghost use Rattle.bw_look.specs.RemovedPages.{HasEachRemoved};
     ghost use Rattle.bw_look.specs.RemovedPages.{HasNoNamerOfRemoved, IsNamerOfRemoved};
     ghost use Rattle.bw_look.specs.Folding.{spare_of};
-    ghost use Rattle.bw_look.specs.Pages.{HasNoLeft, HasNoNamer, IsLeft, IsNamer, IsPlain, IsState, leaf_as_of};
+    ghost use Rattle.bw_look.specs.PageStates.{HasNoLeft, HasNoNamer, IsLeft, IsNamer, IsPlain, IsState, leaf_as_of};
     ghost use Rattle.bw_look.specs.Routing.{IsInLevel, IsInNoLevel};
     ghost use Rattle.bw_look.specs.Shapes.{pairs_on, shape_of};
-    ghost use Rattle.bw_look.specs.Stages.{IsStagedAs};
+    ghost use Rattle.bw_look.specs.StagedBatches.{IsStagedAs};
     ghost use Rattle.bw_look.specs.Trees.{ArePlaced};
     ghost use Rattle.bw_look.specs.View.{ArePairsUnder, HomeIsOneIn, HomesHoldAll, LeavesHaveDistinctStamps};
     ghost use Rattle.bw_look.specs.View.{contents_at, first_pairs, last_pairs, staged_writes};

@@ -10,7 +10,7 @@ use bw_memory::Alloc;
 use bw_page::{Inner, Page, PageId};
 
 impl Tree {
-    ghost use Rattle.bw_tree.specs.Roots.{HasNewRoot, IsOverRoot};
+    ghost use Rattle.bw_tree.specs.TreeRoots.{HasNewRoot, IsOverRoot};
 
     /// Puts a new root over a root that was split: the old root and its right neighbour are its children, and the tree has
     /// one level more. The identifier of the new root is answered. No batch is staged.

@@ -7,7 +7,7 @@ use bw_key::Memory;
 use bw_page::PageId;
 
 impl Tree {
-    ghost use Rattle.bw_tree.specs.Splits.{IsSplit, IsSplittable};
+    ghost use Rattle.bw_tree.specs.TreeSplits.{IsSplit, IsSplittable};
 
     /// Splits a leaf or an inner page: its entries from place `keep` on go to a new page right of it, whose identifier is
     /// answered. The page gets a delta record with the key at which it ends now and its new neighbour (ICDE 2013). No batch

@@ -5,7 +5,7 @@ use super::Tree;
 use crate::mapping_words::truncate_words;
 
 impl Tree {
-    ghost use Rattle.bw_tree.specs.Freeing.{IsTrimmed};
+    ghost use Rattle.bw_tree.specs.TreeFreeing.{IsTrimmed};
 
     /// Forgets the free identifiers behind the last page: their mapping words go, as if they had never been given out. All
     /// pages stay as they are. No batch is staged.

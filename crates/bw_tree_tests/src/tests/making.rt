@@ -2,7 +2,7 @@
 ghost use Rattle.std.specs.Prelude.{◌≡◌, true, [], None};
 ghost use Rattle.bw_level.specs.Splits.{HasNoRemovedAt};
 ghost use Rattle.bw_tree.specs.Making.{AreAbutting};
-ghost use Rattle.bw_look.specs.Pages.{IsPlain};
+ghost use Rattle.bw_look.specs.PageStates.{IsPlain};
 
 use crate::tests::assertions::{assert_equal, assert_that};
 use bw_fixtures::{leaf_of, pair, two};

@@ -1,10 +1,10 @@
 use Rattle.std.proofs.Common.{◌≡◌, ◌+◌, ◌-◌, ◌*◌, ◌<◌, min, max, length, [], ◌∷◌, sym, ap, subst, ◌∙◌, arith}
 use Rattle.std.proofs.lemmas.List.{length-append}
 use Rattle.std.specs.List.{AllByRecursion}
-use Rattle.bw_group.proofs.Lists.{all_append}
+use Rattle.bw_group.proofs.ListParts.{all_append}
 use Rattle.bw_answer.specs.Parts.{HasShares, IsPartOf}
 use Rattle.bw_answer.specs.declared.parts.Part.{Part}
-use Rattle.bw_answer.proofs.PartLemmas.{next_cut, part_more, parts_left, share_of_part, shares_enough}
+use Rattle.bw_answer.proofs.PartPlaces.{next_cut, part_more, parts_left, share_of_part, shares_enough}
 use Rattle.bw_answer.proofs.parts.parts.Goals as goal
 use Rattle.bw_answer.proofs.parts.parts.Goals.{then-points_cut-points, else-points_cut-points+then-scans_cut-scans}
 

@@ -1,7 +1,7 @@
 use Rattle.std.proofs.Common.{◌≡◌, ◌+◌, ◌-◌, ◌*◌, ◌≤◌, length, min}
 use Rattle.std.specs.List.{AllByRecursion}
 use Rattle.bw_answer.specs.Parts.{HasShares, IsPartOf}
-use Rattle.bw_answer.proofs.PartLemmas.{HaveTo}
+use Rattle.bw_answer.proofs.PartPlaces.{HaveTo}
 use Rattle.bw_answer.proofs.parts.parts.Given as goal
 
 abbrev pub invariant-loop-points_cut : goal.invariant-loop-points_cut

@@ -1,12 +1,12 @@
 use Rattle.std.proofs.Common.{ℕ, List, length, ap, subst, ◌∙◌}
-use Rattle.bw_tree.proofs.WordLemmas.{length_put}
+use Rattle.bw_tree.proofs.SwappedWords.{length_put}
 use Rattle.bw_model.specs.Model.{replies_of}
 use Rattle.bw_look.specs.View.{contents_at}
 use Rattle.bw_shape.specs.Tidying.{HasBoth}
 use Rattle.bw_batch.proofs.BatchLemmas.{start_adopted}
 use Rattle.bw_batch.proofs.DueLemmas.{within_posted}
 use Rattle.bw_batch.proofs.LeavesLemmas.{wide_leaves}
-use Rattle.bw_batch.proofs.RangeLemmas.{adopted_wide, homes_stay}
+use Rattle.bw_batch.proofs.KeptHomes.{adopted_wide, homes_stay}
 use Rattle.bw_batch.proofs.batch.answer_staged.Goals as goal
 
 pub replies-requires-clause-homes : goal.replies-requires-clause-homes
@@ -27,9 +27,8 @@ returns-clause-replies g c =
 pub returns-clause-within : goal.returns-clause-within
 returns-clause-within g c =
     let posting = c.in_ok-homes.field-0 in
-    within_posted c.args.tree.now c.adopt_folded.new.self posting.pages.items posting.closed.heads posting.closed.links c.args.due.now.pages c.add_posted.new.due.pages
-    (subst (λ (l : List ℕ). HasBoth l c.args.due.now.pages c.add_posted.new.due.pages) (c.in_ok-posted.ensures.items ∙ c.deref-2.ensures.value)
-    (subst (λ (l : List ℕ). HasBoth c.in_ok-posted.posted.items l c.add_posted.new.due.pages) (ap (λ v. v.pages) c.mark.ensures) c.in_ok-add_posted.ensures.ok))
+    within_posted c.args.tree.now c.adopt_folded.new.self posting.pages.items posting.closed.heads posting.closed.links c.args.due.now.pages c.add_posted.new.self.pages
+    (subst (λ (l : List ℕ). HasBoth l c.args.due.now.pages c.add_posted.new.self.pages) (c.in_ok-posted.ensures.items ∙ c.deref-2.ensures.value) c.in_ok-add_posted.ensures.ok)
     posting.folded.items c.in_ok-homes.ensures.posted c.adopt_folded.ensures.levels c.adopt_folded.ensures.pages c.adopt_folded.ensures.writes
 
 pub returns-clause-leaves : goal.returns-clause-leaves

@@ -1,5 +1,5 @@
 use Rattle.std.proofs.Common.{◌-◌, arith, ◌∙◌}
-use Rattle.bw_batch_bench.proofs.LeafLemmas.{put_before, alone, whole}
+use Rattle.bw_batch_bench.proofs.LeavesSideBySide.{put_before, alone, whole}
 use Rattle.bw_batch_bench.proofs.workload.leaves_for.Goals as goal
 
 pub loop-place-init : goal.loop-place-init

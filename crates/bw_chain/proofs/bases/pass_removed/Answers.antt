@@ -1,6 +1,6 @@
 use Rattle.std.proofs.Common.{◌≡◌, ℕ, zero, suc, ◌-◌, true, false, List, [], ◌∷◌, ◌++◌, take, length, Some, None, sym, ap, ◌∙◌, arith}
 use Rattle.std.specs.Prelude.{slice_get}
-use Rattle.bw_chain.proofs.RemovedLemmas.{all_passed}
+use Rattle.bw_chain.proofs.RemovedBases.{all_passed}
 use Rattle.bw_chain.proofs.bases.pass_removed.Goals as goal
 
 different : false ≡ true → ⊥

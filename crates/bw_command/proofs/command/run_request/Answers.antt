@@ -4,7 +4,7 @@ use Rattle.bw_batch.specs.Settings.{Settings}
 use Rattle.bw_command.proofs.CommandsLemmas.{always_none}
 use Rattle.bw_command.proofs.JobsLemmas.{as_told}
 use Rattle.bw_command.specs.Jobs.{IsJobOutcome}
-use Rattle.bw_command.specs.Limits.{settings_of}
+use Rattle.bw_command.specs.LimitSettings.{settings_of}
 use Rattle.bw_command.proofs.command.run_request.Goals as goal
 
 pub returns-in_default-clause-input : goal.returns-in_default-clause-input

@@ -7,7 +7,7 @@ use Rattle.bw_delta.specs.Merging.{is_due}
 use Rattle.bw_delta.specs.Writes.{WriteView}
 use Rattle.bw_delta.proofs.Dues.{due_values}
 use Rattle.bw_delta.proofs.Filters.{distinct_filter}
-use Rattle.bw_delta.proofs.Maps.{both_ok}
+use Rattle.bw_delta.proofs.PairMaps.{both_ok}
 use Rattle.bw_delta.proofs.Replays.{none_below_least}
 use Rattle.bw_delta.proofs.SortedWrites.{from_sorted}
 use Rattle.bw_delta.proofs.consolidation.due_by_key.Goals as goal

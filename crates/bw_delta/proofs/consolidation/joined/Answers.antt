@@ -6,8 +6,8 @@ use Rattle.std.specs.BTreeMap as tree
 use Rattle.bw_key.specs.Order.{KeyBytes, key_cmp}
 use Rattle.bw_model.specs.Values.{Pair}
 use Rattle.bw_page.specs.Pages.{IsPage}
-use Rattle.bw_delta.specs.Pairs.{parts_of, value_in_parts}
-use Rattle.bw_delta.proofs.Maps.{found_in, or_none}
+use Rattle.bw_delta.specs.PagePairs.{parts_of, value_in_parts}
+use Rattle.bw_delta.proofs.PairMaps.{found_in, or_none}
 use Rattle.bw_delta.proofs.Replays.{all_from_least}
 use Rattle.bw_delta.proofs.consolidation.joined.Goals as goal
 

@@ -9,7 +9,7 @@ use Rattle.bw_delta.specs.Batches.{writes_to}
 use Rattle.bw_delta.specs.History.{history, action_at, pointed_to}
 use Rattle.bw_delta.specs.Merging.{after_writes, merged_value, AreFrom}
 use Rattle.bw_delta.specs.Writes.{WriteView}
-use Rattle.bw_delta.proofs.Maps.{both_ok, find_in_range, or_none, sorted_in_range}
+use Rattle.bw_delta.proofs.PairMaps.{both_ok, find_in_range, or_none, sorted_in_range}
 use Rattle.bw_delta.proofs.consolidation.leaf_under_writes.Goals as goal
 
 pub merged-requires-clause-sorted : goal.merged-requires-clause-sorted

@@ -2,7 +2,7 @@ use Rattle.std.proofs.Common.{◌≡◌, ◌++◌, List, T, sym, ap, subst, ◌�
 use Rattle.std.specs.FinMap.{is_sorted}
 use Rattle.bw_key.specs.Order.{key_cmp}
 use Rattle.bw_model.specs.Values.{Pair}
-use Rattle.bw_delta.proofs.Maps.{in_order}
+use Rattle.bw_delta.proofs.PairMaps.{in_order}
 use Rattle.bw_delta.proofs.consolidation.packed.Goals as goal
 use Rattle.bw_delta.proofs.consolidation.packed.Goals.{After-drop-key-iterator-2}
 

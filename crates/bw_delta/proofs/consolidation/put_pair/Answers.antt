@@ -2,7 +2,7 @@ use Rattle.std.proofs.Common.{◌∙◌, List, Some, ap, cond, get_or}
 use Rattle.std.specs.BTreeMap as tree
 use Rattle.bw_key.specs.Order.{KeyBytes, key_cmp, key_eq}
 use Rattle.bw_model.specs.Values.{Pair, ValueBytes}
-use Rattle.bw_delta.proofs.Maps.{changed}
+use Rattle.bw_delta.proofs.PairMaps.{changed}
 use Rattle.bw_delta.proofs.consolidation.put_pair.Goals as goal
 
 pub returns : goal.returns

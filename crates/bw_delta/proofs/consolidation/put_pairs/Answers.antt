@@ -5,7 +5,7 @@ use Rattle.std.specs.FinMap.{find}
 use Rattle.std.specs.Option.{option_or}
 use Rattle.bw_key.specs.Order.{key_cmp}
 use Rattle.bw_model.specs.Values.{Pair}
-use Rattle.bw_delta.proofs.Maps.{find_last}
+use Rattle.bw_delta.proofs.PairMaps.{find_last}
 use Rattle.bw_delta.proofs.consolidation.put_pairs.Goals as goal
 
 pub loop-left-init : goal.loop-left-init

@@ -6,8 +6,8 @@ use Rattle.std.specs.BTreeMap as tree
 use Rattle.bw_key.specs.Order.{key_cmp}
 use Rattle.bw_model.specs.Values.{ValueBytes}
 use Rattle.bw_page.specs.Leaves.{LeafView}
-use Rattle.bw_delta.specs.Pairs.{parts_of, value_in_parts}
-use Rattle.bw_delta.proofs.Maps.{value_last}
+use Rattle.bw_delta.specs.PagePairs.{parts_of, value_in_parts}
+use Rattle.bw_delta.proofs.PairMaps.{value_last}
 use Rattle.bw_delta.proofs.consolidation.put_parts.Goals as goal
 
 pub loop-part-preserved : goal.loop-part-preserved

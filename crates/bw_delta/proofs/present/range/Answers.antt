@@ -8,7 +8,7 @@ use Rattle.std.specs.declared.ops.Bound.TheVariants.{Included, Excluded}
 use Rattle.bw_key.specs.Order.{KeyBytes, key_cmp}
 use Rattle.bw_model.specs.Contents.{is_pair_in_range}
 use Rattle.bw_page.proofs.KeyLemmas.{below_self}
-use Rattle.bw_delta.proofs.Maps.{in_order}
+use Rattle.bw_delta.proofs.PairMaps.{in_order}
 use Rattle.bw_delta.proofs.Replays.{is_forward, between_all, between_ends, between_none}
 use Rattle.bw_delta.proofs.present.range.Goals as goal
 use Rattle.bw_delta.proofs.present.range.Goals.{then-lt, else-lt}

@@ -1,5 +1,5 @@
 use Rattle.std.proofs.Common.{◌≡◌, ℕ, length, ◌-◌, take, drop, get_or, subst, arith}
-use Rattle.bw_group.proofs.Entries.{IsOfKey, group_more, group_one, still_of_key, of_other_key}
+use Rattle.bw_group.proofs.PointGroups.{IsOfKey, group_more, group_one, still_of_key, of_other_key}
 use Rattle.bw_group.proofs.grouping.group_end.Goals as goal
 
 pub loop-end-init : goal.loop-end-init

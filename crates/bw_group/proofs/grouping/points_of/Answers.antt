@@ -5,7 +5,7 @@ use Rattle.std.specs.Option.{option_copied}
 use Rattle.bw_group.specs.Points.{IsPointOf, entries_from, entry_at}
 use Rattle.bw_key.specs.Order.{KeyBytes}
 use Rattle.bw_model.specs.Model.{key_of}
-use Rattle.bw_group.proofs.Entries.{entries_more, point_there, points_more, with_point, without_point}
+use Rattle.bw_group.proofs.PointGroups.{entries_more, point_there, points_more, with_point, without_point}
 use Rattle.bw_group.proofs.grouping.points_of.Goals as goal
 use Rattle.bw_group.proofs.grouping.points_of.Goals.{in-Some+in_ok-push-in-Some, in-None}
 

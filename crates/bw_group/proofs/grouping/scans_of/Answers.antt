@@ -3,7 +3,7 @@ use Rattle.std.proofs.lemmas.List.{take_all}
 use Rattle.std.specs.Option.{option_copied}
 use Rattle.bw_group.specs.Points.{scans_from}
 use Rattle.bw_model.specs.Model.{key_of}
-use Rattle.bw_group.proofs.Entries.{scans_more, with_scan, without_scan}
+use Rattle.bw_group.proofs.PointGroups.{scans_more, with_scan, without_scan}
 use Rattle.bw_group.proofs.grouping.scans_of.Goals as goal
 use Rattle.bw_group.proofs.grouping.scans_of.Goals.{in-Some, in-None+in_ok-push-in-None}
 

@@ -9,11 +9,11 @@ use Rattle.bw_tree.specs.Slots.{slot_at}
 use Rattle.bw_group.specs.Homes.{with_number}
 use Rattle.bw_group.specs.Points.{GroupingView, IsEntryOf, entries_at, entries_from, entries_of, key_at}
 use Rattle.bw_group.specs.declared.points.Point.{Point}
-use Rattle.bw_group.proofs.Entries.{part_holds, places_within}
+use Rattle.bw_group.proofs.PointGroups.{part_holds, places_within}
 use Rattle.bw_group.proofs.Groups.{point_of}
-use Rattle.bw_group.proofs.RunLemmas.{later_above}
+use Rattle.bw_group.proofs.HomeRuns.{later_above}
 use Rattle.bw_group.proofs.Wholes.{batch_entries}
-use Rattle.bw_group.proofs.HomeLemmas.{IsRun, all_found, none_found, run_found, with_number_length}
+use Rattle.bw_group.proofs.FoundHomes.{IsRun, all_found, none_found, run_found, with_number_length}
 use Rattle.bw_group.proofs.homes.find_homes.Goals as goal
 
 pub loop-start-init : goal.loop-start-init

@@ -1,5 +1,5 @@
 use Rattle.std.proofs.Common.{◌≡◌, ◌-◌, length}
-use Rattle.bw_group.proofs.HomeLemmas.{AreFoundTo}
+use Rattle.bw_group.proofs.FoundHomes.{AreFoundTo}
 use Rattle.bw_group.proofs.homes.find_homes.Given as goal
 
 abbrev pub invariant-loop-start : goal.invariant-loop-start

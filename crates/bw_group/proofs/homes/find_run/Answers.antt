@@ -6,7 +6,7 @@ use Rattle.bw_look.specs.View.{TreeView}
 use Rattle.bw_key.specs.Order.{KeyBytes}
 use Rattle.bw_model.specs.Contents.{is_below_end}
 use Rattle.bw_group.specs.Points.{key_at}
-use Rattle.bw_group.proofs.RunLemmas.{run_homes}
+use Rattle.bw_group.proofs.HomeRuns.{run_homes}
 use Rattle.bw_group.proofs.homes.find_run.Goals as goal
 
 at_home : (tree routed : TreeView) (key : KeyBytes) (page : ℕ) → routed ≡ tree → IsHome routed.slots routed.levels key page → IsHome tree.slots tree.levels key page

@@ -3,7 +3,7 @@ use Rattle.std.specs.Option.{option_copied}
 use Rattle.bw_model.specs.Contents.{is_below_end}
 use Rattle.bw_group.specs.Points.{Entry}
 use Rattle.bw_group.proofs.Groups.{point_of}
-use Rattle.bw_group.proofs.RunLemmas.{run_more, run_one, is_under}
+use Rattle.bw_group.proofs.HomeRuns.{run_more, run_one, is_under}
 use Rattle.bw_group.proofs.homes.run_end.Goals as goal
 
 pub loop-place-init : goal.loop-place-init

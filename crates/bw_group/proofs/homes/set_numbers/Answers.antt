@@ -1,5 +1,5 @@
 use Rattle.std.proofs.Common.{◌<◌, length, arith}
-use Rattle.bw_group.proofs.Entries.{entry_holds}
+use Rattle.bw_group.proofs.PointGroups.{entry_holds}
 use Rattle.bw_group.proofs.homes.set_numbers.Goals as goal
 
 pub offset_bounds-numbers-point : goal.offset_bounds-numbers-point

@@ -1,6 +1,6 @@
 use Rattle.std.proofs.Common.{sym, ap, ◌∙◌, arith}
 use Rattle.bw_model.specs.Sorted.{place_of}
-use Rattle.bw_model.proofs.PairsLemmas.{put_found_at, put_absent_at}
+use Rattle.bw_model.proofs.SortedPairs.{put_found_at, put_absent_at}
 use Rattle.bw_model.proofs.sorted.put_at.Goals as goal
 use Rattle.bw_model.proofs.sorted.put_at.Goals.{else-at-len-via-then-at-len+else-eq, else-at-len-via-else-at-len}
 

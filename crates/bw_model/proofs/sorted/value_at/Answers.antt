@@ -3,7 +3,7 @@ use Rattle.std.proofs.lemmas.List.{drop_all}
 use Rattle.std.specs.FinMap.{find}
 use Rattle.bw_key.specs.Order.{key_cmp}
 use Rattle.bw_model.specs.Values.{Pair, ValueBytes}
-use Rattle.bw_model.proofs.PairsLemmas.{find_here, find_later}
+use Rattle.bw_model.proofs.SortedPairs.{find_here, find_later}
 use Rattle.bw_model.proofs.sorted.value_at.Goals as goal
 
 pub returns-then-eq : goal.returns-then-eq

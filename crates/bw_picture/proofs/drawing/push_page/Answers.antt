@@ -1,7 +1,7 @@
 use Rattle.std.proofs.Common.{codes}
 use Rattle.bw_picture.specs.Layout.{x_of, y_of, span_of}
-use Rattle.bw_picture.specs.Pages.{body_text, bracket_text}
-use Rattle.bw_picture.specs.Pages.{body_text, bracket_text}
+use Rattle.bw_picture.specs.DrawnPages.{body_text, bracket_text}
+use Rattle.bw_picture.specs.DrawnPages.{body_text, bracket_text}
 use Rattle.bw_picture.specs.Pictures.{place_text}
 use Rattle.bw_picture.proofs.Rows.{four_texts}
 use Rattle.bw_picture.proofs.drawing.push_page.Goals as goal

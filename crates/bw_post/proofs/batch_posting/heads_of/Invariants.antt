@@ -1,5 +1,5 @@
 use Rattle.std.proofs.Common.{◌≡◌, take}
-use Rattle.bw_tree.specs.Words.{words_of}
+use Rattle.bw_tree.specs.PageWords.{words_of}
 use Rattle.bw_post.proofs.batch_posting.heads_of.Given as goal
 
 abbrev pub invariant-loop-page : goal.invariant-loop-page

@@ -1,6 +1,6 @@
 use Rattle.std.proofs.Common.{◌≡◌, ◌⊎◌, ℕ, List, [], Option, map, subst, sym, ◌∙◌}
 use Rattle.bw_look.specs.Folding.{spare_of}
-use Rattle.bw_post.proofs.Spares.{pages_spared}
+use Rattle.bw_post.proofs.PageSpares.{pages_spared}
 use Rattle.bw_post.proofs.Staged.{staged_homes}
 use Rattle.bw_post.proofs.batch_posting.post_beside.Goals as goal
 

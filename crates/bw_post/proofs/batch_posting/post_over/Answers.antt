@@ -2,7 +2,7 @@ use Rattle.std.proofs.Common.{◌<◌, ℕ, List, ap, sym, subst, ◌∙◌, ari
 use Rattle.std.specs.Prelude.{EachIndex, slice_index}
 use Rattle.bw_core.specs.World.{total}
 use Rattle.bw_board.specs.Public.{BoardView, SeatView}
-use Rattle.bw_tree.specs.Words.{words_of}
+use Rattle.bw_tree.specs.PageWords.{words_of}
 use Rattle.bw_post.specs.Posting.{HasFolded, width_of}
 use Rattle.bw_post.proofs.Homes.{IsOver, is_board_of, is_over, low_words, no_leaves, no_spare, posted_stage, spares_fit, told_batch, unadopted}
 use Rattle.bw_post.proofs.Joined.{front_of, same_length, same_sum}

@@ -2,7 +2,7 @@ use Rattle.std.proofs.Common.{◌≡◌, ◌∙◌, ℕ, true, false, List, [], 
 use Rattle.std.specs.Prelude.{slice_index_or}
 use Rattle.std.specs.List.{Contains}
 use Rattle.bw_board.specs.Public.{SeatView}
-use Rattle.bw_look.specs.Pages.{leaf_as_of}
+use Rattle.bw_look.specs.PageStates.{leaf_as_of}
 use Rattle.bw_look.specs.declared.folded.Folded.{Folded}
 use Rattle.bw_tree.specs.Levels.{row}
 use Rattle.bw_post.proofs.Folds.{claimed_late, claimed_won, page_read, some_spare, tries_other}

@@ -1,6 +1,6 @@
 use Rattle.std.proofs.Common.{sym, subst, ◌∙◌}
 use Rattle.bw_shape.specs.Limits.{AreWithinBut}
-use Rattle.bw_steps.specs.Merges.{IsAbsorptionStep}
+use Rattle.bw_steps.specs.MergeSteps.{IsAbsorptionStep}
 use Rattle.bw_shape.proofs.AbsorbLemmas.{absorbed_within}
 use Rattle.bw_shape.proofs.absorbing.absorb_next.Goals as goal
 

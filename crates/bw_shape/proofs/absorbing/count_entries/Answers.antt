@@ -1,6 +1,6 @@
 use Rattle.std.proofs.Common.{subst}
 use Rattle.std.specs.Prelude.{MatchOption}
-use Rattle.bw_look.specs.Pages.{IsState}
+use Rattle.bw_look.specs.PageStates.{IsState}
 use Rattle.bw_look.specs.Routing.{IsInNoLevel}
 use Rattle.bw_shape.proofs.absorbing.count_entries.Goals as goal
 

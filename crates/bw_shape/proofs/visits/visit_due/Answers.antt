@@ -1,7 +1,6 @@
-use Rattle.std.proofs.Common.{[], ◌∷◌, length, sym, subst, ap, arith}
-use Rattle.std.proofs.lemmas.List.{length-append}
+use Rattle.std.proofs.Common.{length, sym, subst, ap, arith}
 use Rattle.bw_shape.specs.Limits.{AreWithinBut}
-use Rattle.bw_shape.proofs.TidyLemmas.{within_bare, within_pass}
+use Rattle.bw_shape.proofs.TidyLemmas.{within_bare}
 use Rattle.bw_shape.proofs.visits.visit_due.Goals as goal
 
 pub look-requires-clause-within : goal.look-requires-clause-within

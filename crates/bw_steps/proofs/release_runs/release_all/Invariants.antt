@@ -1,5 +1,5 @@
 use Rattle.std.proofs.Common.{ℕ}
-use Rattle.bw_tree.specs.Freeing.{MayBeFreed}
+use Rattle.bw_tree.specs.TreeFreeing.{MayBeFreed}
 use Rattle.bw_steps.specs.Releasing.{AreFreed}
 use Rattle.bw_steps.proofs.FreedLemmas.{IsFrom}
 use Rattle.bw_steps.proofs.release_runs.release_all.Given as goal

@@ -1,5 +1,5 @@
 use Rattle.std.proofs.Common.{◌⊎◌, ◌≡◌, ℕ, Option, Some, subst}
-use Rattle.bw_tree.specs.Freeing.{MayBeFreed}
+use Rattle.bw_tree.specs.TreeFreeing.{MayBeFreed}
 use Rattle.bw_look.specs.View.{TreeView}
 use Rattle.bw_steps.proofs.FreedLemmas.{begins_free, ends_free, freed_itself, freed_on, goes_on_free}
 use Rattle.bw_steps.proofs.release_runs.release_run.Goals as goal

@@ -1,6 +1,6 @@
 use Rattle.std.proofs.Common.{refl, arith}
 use Rattle.bw_look.proofs.UnnamedLemmas.{home_inner}
-use Rattle.bw_steps.proofs.NamingLemmas.{all_fit, all_rise, some_unnamed}
+use Rattle.bw_steps.proofs.NamedNeighbours.{all_fit, all_rise, some_unnamed}
 use Rattle.bw_steps.proofs.right_neighbours.name_rights.Goals as goal
 
 pub returns-in_default-clause-ok : goal.returns-in_default-clause-ok

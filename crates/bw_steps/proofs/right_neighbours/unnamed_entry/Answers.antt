@@ -1,6 +1,6 @@
 use Rattle.std.proofs.Common.{◌≡◌, ◌∙◌, ℕ, true, not, nat_eq, sym, arith}
 use Rattle.std.proofs.lemmas.Bool.Decides.{nat_tests}
-use Rattle.bw_steps.proofs.NamingLemmas.{one_parent}
+use Rattle.bw_steps.proofs.NamedNeighbours.{one_parent}
 use Rattle.bw_steps.proofs.right_neighbours.unnamed_entry.Goals as goal
 
 apart : (p q : ℕ) → true ≡ not (nat_eq p q) → p ≡ q → ⊥

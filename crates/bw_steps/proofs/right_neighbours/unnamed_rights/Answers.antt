@@ -5,7 +5,7 @@ use Rattle.bw_level.specs.Searches.{IsInLevels}
 use Rattle.bw_look.specs.Unnamed.{IsUnnamed}
 use Rattle.bw_look.specs.View.{TreeView}
 use Rattle.bw_steps.specs.Naming.{AreUnnamed, HasNoUnnamedOn, last_page}
-use Rattle.bw_steps.proofs.NamingLemmas.{last_in_levels, last_more, more_unnamed, walks_less}
+use Rattle.bw_steps.proofs.NamedNeighbours.{last_in_levels, last_more, more_unnamed, walks_less}
 use Rattle.bw_steps.proofs.right_neighbours.unnamed_rights.Goals as goal
 
 abbrev Outcome : TreeView → ℕ → ℕ → Option (KeyBytes × ℕ) → Type 0

@@ -2,7 +2,7 @@ use Rattle.std.proofs.Common.{◌∙◌, ap}
 use Rattle.std.proofs.lemmas.Result.{IfOk-weaker}
 use Rattle.bw_picture.specs.Pictures.{picture_text}
 use Rattle.bw_trace.proofs.EndsLemmas.{shape_with}
-use Rattle.bw_trace.specs.Shapes.{shape_text}
+use Rattle.bw_trace.specs.ShapeTexts.{shape_text}
 use Rattle.bw_trace.proofs.endings.end_text.Goals as goal
 
 pub returns-in_ok-pages-in-Shape : goal.returns-in_ok-pages-in-Shape

@@ -1,6 +1,6 @@
 use Rattle.std.proofs.Common.{◌≡◌, take}
 use Rattle.std.specs.List.{AllByRecursion}
-use Rattle.bw_look.specs.Pages.{HasRules}
+use Rattle.bw_look.specs.PageStates.{HasRules}
 use Rattle.bw_tree.specs.Making.{terms_from}
 use Rattle.bw_tree.proofs.making.separators.Given as goal
 

@@ -1,7 +1,7 @@
 use Rattle.std.proofs.Common.{◌<◌, ◌+◌, ℕ, List, ap, sym, subst, ◌∙◌, arith, get_or, length, set}
 use Rattle.std.proofs.lemmas.List.{take_all}
-use Rattle.bw_tree.specs.Words.{words_of}
-use Rattle.bw_tree.proofs.WordLemmas.{AreSwapped, all_there, swapped_next, swapped_none}
+use Rattle.bw_tree.specs.PageWords.{words_of}
+use Rattle.bw_tree.proofs.SwappedWords.{AreSwapped, all_there, swapped_next, swapped_none}
 use Rattle.bw_look.proofs.WordLemmas.{put_none}
 use Rattle.bw_tree.proofs.mapping_words.swap_each.Goals as goal
 

@@ -1,4 +1,4 @@
-use Rattle.bw_tree.proofs.WordLemmas.{AreSwapped}
+use Rattle.bw_tree.proofs.SwappedWords.{AreSwapped}
 use Rattle.bw_tree.proofs.mapping_words.swap_each.Given as goal
 
 abbrev pub invariant-loop-place : goal.invariant-loop-place

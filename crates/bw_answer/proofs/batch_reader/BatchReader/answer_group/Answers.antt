@@ -6,8 +6,8 @@ use Rattle.bw_delta.specs.Readings.{from_stamp}
 use Rattle.bw_answer.specs.Replies.{ReaderView, IsReadBy, IsReadInTurn}
 use Rattle.bw_model.specs.Model.{IsReplyAt}
 use Rattle.bw_group.specs.Points.{Entry, entries_of, IsEntryOf, IsPointOf}
-use Rattle.bw_group.proofs.Entries.{seen_length, entry_is, entry_holds, entry_op, place_within}
-use Rattle.bw_group.proofs.Lists.{all_at}
+use Rattle.bw_group.proofs.PointGroups.{seen_length, entry_is, entry_holds, entry_op, place_within}
+use Rattle.bw_group.proofs.ListParts.{all_at}
 use Rattle.bw_answer.proofs.ReplyLemmas.{all_answering, answering_none, answer_more}
 use Rattle.bw_answer.proofs.batch_reader.BatchReader.answer_group.Goals as goal
 

@@ -4,9 +4,9 @@ use Rattle.bw_tree.specs.Levels.{IsHome, IsOneHome}
 use Rattle.bw_group.specs.Homes.{IsPageAt}
 use Rattle.bw_group.specs.Points.{IsEntryOf, entries_of}
 use Rattle.bw_answer.specs.Replies.{IsReadInTurn, ReaderView}
-use Rattle.bw_group.proofs.Entries.{part_holds}
+use Rattle.bw_group.proofs.PointGroups.{part_holds}
 use Rattle.bw_group.proofs.HomeReads.{run_at_home}
-use Rattle.bw_group.proofs.Lists.{all_same}
+use Rattle.bw_group.proofs.ListParts.{all_same}
 use Rattle.bw_answer.proofs.GroupReads.{all_listed, first_home, points_part}
 use Rattle.bw_answer.proofs.ReplyLemmas.{all_answered, answered_none, part_answered}
 use Rattle.bw_answer.proofs.batch_reader.BatchReader.answer_points.Goals as goal

@@ -9,8 +9,8 @@ use Rattle.bw_tree.specs.Levels.{IsHome, row}
 use Rattle.bw_look.specs.View.{TreeView}
 use Rattle.bw_group.specs.Points.{IsEntryOf, IsPointOf, entries_of}
 use Rattle.bw_answer.specs.Replies.{IsReadBy, ReaderView}
-use Rattle.bw_group.proofs.Entries.{group_rises, part_holds}
-use Rattle.bw_group.proofs.Lists.{all_part}
+use Rattle.bw_group.proofs.PointGroups.{group_rises, part_holds}
+use Rattle.bw_group.proofs.ListParts.{all_part}
 use Rattle.bw_answer.proofs.ReplyLemmas.{all_answered, answered_none, part_answered}
 use Rattle.bw_answer.proofs.GroupReads.{group_read, group_reads}
 use Rattle.bw_answer.proofs.batch_reader.BatchReader.answer_run.Goals as goal

@@ -5,7 +5,7 @@ use Rattle.std.specs.Prelude.{is_some}
 use Rattle.bw_model.specs.Model.{IsReplyAt}
 use Rattle.bw_model.specs.declared.operations.Op.{Op}
 use Rattle.bw_answer.specs.Replies.{ReaderView}
-use Rattle.bw_group.proofs.Entries.{entry_key, place_within, point_get}
+use Rattle.bw_group.proofs.PointGroups.{entry_key, place_within, point_get}
 use Rattle.bw_answer.proofs.ReplyLemmas.{get_replied}
 use Rattle.bw_answer.proofs.batch_reader.BatchReader.reply_to.Goals as goal
 

@@ -1,5 +1,5 @@
 use Rattle.std.proofs.Common.{rules}
-use Rattle.bw_batch.proofs.ContentsLemmas.{all_pairs}
+use Rattle.bw_batch.proofs.IndexContents.{all_pairs}
 use Rattle.bw_batch.proofs.index.Index.contents.Goals as goal
 
 pub returns : goal.returns

@@ -1,7 +1,7 @@
 use Rattle.std.proofs.Common.{◌∙◌, ap}
 use Rattle.bw_batch.specs.Lens.{key_count}
 use Rattle.bw_batch.specs.Settings.{limits_of}
-use Rattle.bw_shape.proofs.LeafLemmas.{swept_leaves}
+use Rattle.bw_shape.proofs.KeptLeaves.{swept_leaves}
 use Rattle.bw_batch.proofs.LeavesLemmas.{same_listed}
 use Rattle.bw_batch.proofs.index.Index.make_room.Goals as goal
 

@@ -2,7 +2,7 @@ use Rattle.std.proofs.Common.{◌∙◌, Some, ap, sym, subst}
 use Rattle.bw_level.specs.Changes.{Bases}
 use Rattle.bw_chain.specs.Placing.{put_at}
 use Rattle.bw_chain.specs.Removed.{HasAllRemoved}
-use Rattle.bw_chain.proofs.RemovedLemmas.{all_put}
+use Rattle.bw_chain.proofs.RemovedBases.{all_put}
 use Rattle.bw_chain.proofs.chains.Chains.add_base.Goals as goal
 
 pub invariant_of-self-2 : goal.invariant_of-self-2

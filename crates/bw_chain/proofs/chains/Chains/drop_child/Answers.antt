@@ -4,7 +4,7 @@ use Rattle.bw_chain.specs.Chains.{ChainsView, page_at}
 use Rattle.bw_level.specs.Children.{slot_without_child, state_without_child}
 use Rattle.bw_chain.specs.Removed.{HasAllRemoved}
 use Rattle.bw_chain.proofs.InPlaceLemmas.{plain_within}
-use Rattle.bw_chain.proofs.RemovedLemmas.{all_set, inner_live, live_page}
+use Rattle.bw_chain.proofs.RemovedBases.{all_set, inner_live, live_page}
 use Rattle.bw_chain.proofs.chains.Chains.drop_child.Goals as goal
 
 pub set-requires : goal.set-requires

@@ -6,7 +6,7 @@ use Rattle.bw_level.specs.Merges.{slot_joined, state_joined}
 use Rattle.bw_chain.specs.Removed.{HasAllRemoved}
 use Rattle.bw_level.specs.Slots.{Slot, Live}
 use Rattle.bw_chain.proofs.InPlaceLemmas.{plain_within}
-use Rattle.bw_chain.proofs.RemovedLemmas.{all_removed, all_set, live_page}
+use Rattle.bw_chain.proofs.RemovedBases.{all_removed, all_set, live_page}
 use Rattle.bw_chain.proofs.chains.Chains.merge.Goals as goal
 
 pub set-requires : goal.set-requires

@@ -10,7 +10,7 @@ use Rattle.bw_chain.specs.Chains.{ChainsView}
 use Rattle.bw_level.specs.Slots.{IsSound}
 use Rattle.bw_chain.specs.Removed.{HasAllRemoved}
 use Rattle.bw_chain.proofs.InPlaceLemmas.{split_at, split_within}
-use Rattle.bw_chain.proofs.RemovedLemmas.{all_replaced, live_page, sound_live}
+use Rattle.bw_chain.proofs.RemovedBases.{all_replaced, live_page, sound_live}
 use Rattle.bw_chain.proofs.chains.Chains.narrow.Goals as goal
 
 pub replace-requires : goal.replace-requires

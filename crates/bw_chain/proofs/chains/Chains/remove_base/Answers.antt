@@ -4,7 +4,7 @@ use Rattle.bw_level.specs.Changes.{Bases}
 use Rattle.bw_chain.specs.Chains.{ChainsView}
 use Rattle.bw_chain.specs.Removed.{HasAllRemoved}
 use Rattle.bw_chain.proofs.BaseLemmas.{base_low}
-use Rattle.bw_chain.proofs.RemovedLemmas.{all_removed}
+use Rattle.bw_chain.proofs.RemovedBases.{all_removed}
 use Rattle.bw_chain.proofs.SupportLemmas.{base_within}
 use Rattle.bw_chain.proofs.chains.Chains.remove_base.Goals as goal
 

@@ -10,7 +10,7 @@ use Rattle.bw_chain.specs.Placing.{put_at}
 use Rattle.bw_chain.specs.Removed.{HasAllRemoved}
 use Rattle.bw_level.specs.Splits.{first_entries, right_part, slot_entries, slot_left, slot_right, slot_separator}
 use Rattle.bw_chain.proofs.InPlaceLemmas.{plain_at, plain_within}
-use Rattle.bw_chain.proofs.RemovedLemmas.{all_put, all_replaced, entries_live, live_page}
+use Rattle.bw_chain.proofs.RemovedBases.{all_put, all_replaced, entries_live, live_page}
 use Rattle.bw_chain.proofs.chains.Chains.split.Goals as goal
 
 refused : {T E P : Type 0} (r : Result T E) → P → OnErr r P

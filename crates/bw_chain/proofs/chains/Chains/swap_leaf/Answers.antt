@@ -7,7 +7,7 @@ use Rattle.bw_level.specs.Changes.{Bases}
 use Rattle.bw_level.specs.Slots.{Pairs}
 use Rattle.bw_chain.specs.Chains.{ChainsView}
 use Rattle.bw_chain.specs.Removed.{HasAllRemoved}
-use Rattle.bw_chain.proofs.RemovedLemmas.{all_set, all_vacated, live_page}
+use Rattle.bw_chain.proofs.RemovedBases.{all_set, all_vacated, live_page}
 use Rattle.bw_chain.proofs.chains.Chains.swap_leaf.Goals as goal
 
 pub invariant_of-self : goal.invariant_of-self

@@ -7,7 +7,7 @@ use Rattle.bw_model.specs.Contents.{is_pair_in_range}
 use Rattle.bw_model.specs.Values.{Pair}
 use Rattle.bw_delta.specs.Present.{base_pairs, Change}
 use Rattle.bw_delta.proofs.Changes.{read_changed, sorted_changed}
-use Rattle.bw_delta.proofs.Maps.{sorted_in_range}
+use Rattle.bw_delta.proofs.PairMaps.{sorted_in_range}
 use Rattle.bw_delta.proofs.present.Present.add_first.Goals as goal
 
 pub add_rising-requires-clause-pairs : goal.add_rising-requires-clause-pairs

@@ -5,7 +5,7 @@ use Rattle.bw_key.specs.Order.{KeyBytes, key_cmp, key_eq}
 use Rattle.std.specs.FinMap.{find}
 use Rattle.bw_delta.specs.Present.{base_pairs}
 use Rattle.bw_delta.proofs.Changes.{none_there, put_change, take_back}
-use Rattle.bw_delta.proofs.Maps.{changed, found_in}
+use Rattle.bw_delta.proofs.PairMaps.{changed, found_in}
 use Rattle.bw_delta.proofs.present.Present.set.Goals as goal
 
 pub returns-then-is_none-2 : goal.returns-then-is_none-2

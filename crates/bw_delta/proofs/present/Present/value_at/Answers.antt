@@ -4,7 +4,7 @@ use Rattle.bw_key.specs.Order.{KeyBytes, key_cmp}
 use Rattle.bw_model.specs.Values.{Pair, ValueBytes}
 use Rattle.bw_delta.specs.Present.{base_pairs, changed_pairs, Change}
 use Rattle.bw_delta.proofs.Changes.{find_changed, value_under}
-use Rattle.bw_delta.proofs.Maps.{found_in}
+use Rattle.bw_delta.proofs.PairMaps.{found_in}
 use Rattle.bw_delta.proofs.present.Present.value_at.Goals as goal
 
 -- the value under changes, by what is found among these

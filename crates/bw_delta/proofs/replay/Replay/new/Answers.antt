@@ -2,7 +2,7 @@ use Rattle.std.proofs.Common.{ap, ◌∙◌}
 use Rattle.bw_key.specs.Order.{key_eq}
 use Rattle.bw_delta.specs.History.{history, action_at, pointed_to}
 use Rattle.bw_delta.specs.Batches.{writes_to}
-use Rattle.bw_delta.specs.Pairs.{parts_of, value_in_parts}
+use Rattle.bw_delta.specs.PagePairs.{parts_of, value_in_parts}
 use Rattle.bw_delta.proofs.Filters.{same_filtered}
 use Rattle.bw_delta.proofs.Histories.{same_history}
 use Rattle.bw_delta.proofs.replay.Replay.new.Goals as goal

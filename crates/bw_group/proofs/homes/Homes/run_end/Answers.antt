@@ -4,7 +4,7 @@ use Rattle.bw_group.specs.Points.{Entry}
 use Rattle.bw_group.specs.declared.points.Point.{Point}
 use Rattle.bw_group.proofs.Groups.{point_of}
 use Rattle.bw_group.proofs.NumberLemmas.{number_read, number_there}
-use Rattle.bw_group.proofs.RunLemmas.{run_more, run_one}
+use Rattle.bw_group.proofs.HomeRuns.{run_more, run_one}
 use Rattle.bw_group.proofs.homes.Homes.run_end.Goals as goal
 
 pub loop-end-init : goal.loop-end-init

@@ -1,7 +1,7 @@
 use Rattle.std.proofs.Common.{◌-◌, ◌<◌, length, ap, ◌∙◌, arith}
 use Rattle.bw_group.specs.Homes.{HomesView}
 use Rattle.bw_group.specs.Points.{entries_in, entries_of}
-use Rattle.bw_group.proofs.Entries.{part_holds}
+use Rattle.bw_group.proofs.PointGroups.{part_holds}
 use Rattle.bw_group.proofs.NumberLemmas.{number_read, number_there, page_there, pages_at, places_within}
 use Rattle.bw_group.proofs.homes.Homes.run_from.Goals as goal
 

@@ -4,7 +4,7 @@ use Rattle.bw_delta.specs.History.{HasDistinctStamps}
 use Rattle.bw_level.specs.Levels.{row}
 use Rattle.bw_level.specs.Slots.{slot_at}
 use Rattle.bw_look.specs.View.{TreeView}
-use Rattle.bw_look.proofs.LeafLemmas.{AreParts, consolidated_parts, is_leaf_as_of, parts_rules}
+use Rattle.bw_look.proofs.ConsolidatedLeaves.{AreParts, consolidated_parts, is_leaf_as_of, parts_rules}
 use Rattle.bw_look.proofs.ScanLemmas.{page_distinct}
 use Rattle.bw_look.proofs.look.Look.leaf_as_of.Goals as goal
 

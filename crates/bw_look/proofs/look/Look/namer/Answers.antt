@@ -1,7 +1,7 @@
 use Rattle.std.proofs.Common.{◌≡◌, ℕ, suc, ◌+◌, true, false, sym, ◌∙◌, subst, arith}
 use Rattle.bw_key.specs.Order.{KeyBytes}
 use Rattle.bw_level.specs.Levels.{IsHomeAt}
-use Rattle.bw_look.specs.Pages.{IsAbove}
+use Rattle.bw_look.specs.PageStates.{IsAbove}
 use Rattle.bw_look.specs.Routing.{IsInLevel}
 use Rattle.bw_look.specs.View.{TreeView}
 use Rattle.bw_level.specs.Before.{low_of}

@@ -1,6 +1,6 @@
 use Rattle.std.proofs.Common.{◌≡◌, ◌∙◌, ap, refl}
 use Rattle.bw_page.specs.Inners.{InnerView}
-use Rattle.bw_page.specs.Merging.{put_all}
+use Rattle.bw_page.specs.MergedEntries.{put_all}
 use Rattle.bw_page.specs.Pages.{BoundsView}
 use Rattle.bw_page.proofs.Entries.{rules_of_view, same_inner}
 use Rattle.bw_page.proofs.MergingLemmas.{inner_with_all}

@@ -2,7 +2,7 @@ use Rattle.std.proofs.Common.{◌∙◌, ap, sym, subst, ℕ, List, [], ◌∷�
 use lib.Pointwise.{bytes_decides}
 use Rattle.bw_tree.specs.Stages.{IsPostedStage}
 use Rattle.bw_look.specs.Words.{put_words}
-use Rattle.bw_tree.proofs.WordLemmas.{spread_stage}
+use Rattle.bw_tree.proofs.SwappedWords.{spread_stage}
 use Rattle.bw_post_tests.proofs.tests.all_words.adopt_all.Goals as goal
 
 pub adopt-requires : goal.adopt-requires

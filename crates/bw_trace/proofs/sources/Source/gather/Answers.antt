@@ -6,7 +6,7 @@ use Rattle.std.specs.Io.KnownBytes.{Consumes}
 use Rattle.bw_trace.specs.Sources.{SourceView}
 use Rattle.bw_trace.specs.Traces.{StandFor}
 use Rattle.bw_trace.specs.declared.places.Place.{Place}
-use Rattle.bw_trace.proofs.Reading.{reads_on_more, takes_none_after}
+use Rattle.bw_trace.proofs.ReadingSteps.{reads_on_more, takes_none_after}
 use Rattle.bw_trace.proofs.TracesLemmas.{GoesOn, one_line, gathered, one_more_at_most, was_going, after_go, after_fault, last_at_end, none_at_cut}
 use Rattle.bw_trace.proofs.sources.Source.gather.Goals as goal
 

@@ -7,7 +7,7 @@ use Rattle.std.specs.Io.KnownBytes.{Consumes}
 use Rattle.bw_trace.specs.Lines.{IsLineOf}
 use Rattle.bw_trace.specs.Sources.{SourceView, IsOver}
 use Rattle.bw_trace.proofs.LinesLemmas.{IsOneLine, one_line_more, ended_line, last_line, long_line, parsed_none}
-use Rattle.bw_trace.proofs.Reading.{reads_on_none, reads_on_more, takes_none_after}
+use Rattle.bw_trace.proofs.ReadingSteps.{reads_on_none, reads_on_more, takes_none_after}
 use Rattle.bw_trace.proofs.sources.Source.read_line.Goals as goal
 
 -- the end of the input, behind a line that may be empty

@@ -1,5 +1,5 @@
 use Rattle.std.proofs.Common.{◌∙◌, ap, sym, subst, Some, length, ◌≤◌, ◌+◌}
-use Rattle.bw_look.specs.declared.mapping_words.WordsBefore.TheVariants.{OfAll}
+use Rattle.bw_look.specs.declared.words_before.WordsBefore.TheVariants.{OfAll}
 use Rattle.bw_tree.proofs.AdoptedLemmas.{adopted_with, adoption}
 use Rattle.bw_tree.proofs.tree.Tree.adopt.Goals as goal
 

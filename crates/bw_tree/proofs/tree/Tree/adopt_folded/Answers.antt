@@ -5,7 +5,7 @@ use Rattle.bw_level.specs.Changes.{Bases}
 use Rattle.bw_chain.specs.Supports.{IsLeafAt}
 use Rattle.bw_look.specs.Folding.{put_leaves}
 use Rattle.bw_look.specs.Words.{put_words}
-use Rattle.bw_tree.specs.Words.{words_of}
+use Rattle.bw_tree.specs.PageWords.{words_of}
 use Rattle.bw_look.specs.declared.folded.Folded.{Folded}
 use Rattle.bw_tree.proofs.AdoptedOnLemmas.{words_back}
 use Rattle.bw_tree.specs.Beside.{IsAdoptedBeside}

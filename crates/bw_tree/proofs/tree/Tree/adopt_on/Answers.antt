@@ -1,7 +1,7 @@
 use Rattle.std.proofs.Common.{◌∙◌, ap, sym, subst, Some, List, ℕ, length, ◌≤◌, ◌+◌}
-use Rattle.bw_look.specs.declared.mapping_words.WordsBefore.TheVariants.{OfPages}
+use Rattle.bw_look.specs.declared.words_before.WordsBefore.TheVariants.{OfPages}
 use Rattle.bw_look.specs.Words.{put_words}
-use Rattle.bw_tree.specs.Words.{words_of}
+use Rattle.bw_tree.specs.PageWords.{words_of}
 use Rattle.bw_tree.proofs.AdoptedLemmas.{adopted_with}
 use Rattle.bw_tree.proofs.AdoptedOnLemmas.{AreFit, adoption_on, pages_fit, words_back}
 use Rattle.bw_tree.proofs.tree.Tree.adopt_on.Goals as goal

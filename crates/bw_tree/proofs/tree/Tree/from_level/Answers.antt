@@ -4,7 +4,7 @@ use Rattle.bw_key.specs.Order.{KeyBytes}
 use Rattle.bw_model.specs.Values.{ValueBytes}
 use Rattle.bw_page.specs.Inners.{IsInner}
 use Rattle.bw_page.specs.Leaves.{LeafView}
-use Rattle.bw_look.specs.Pages.{HasRules}
+use Rattle.bw_look.specs.PageStates.{HasRules}
 use Rattle.bw_tree.specs.Making.{terms_from}
 use Rattle.bw_level.specs.Changes.{Bases}
 use Rattle.bw_chain.specs.Removed.{HasNoRemoved}

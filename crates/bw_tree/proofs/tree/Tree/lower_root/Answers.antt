@@ -7,9 +7,9 @@ use Rattle.bw_level.specs.Roots.{HasOneChild, removed_root}
 use Rattle.bw_level.specs.Slots.{slot_at, slot_level}
 use Rattle.bw_look.specs.Trees.{view_of}
 use Rattle.bw_look.specs.View.{TreeView}
-use Rattle.bw_tree.specs.Merges.{IsLowered}
-use Rattle.bw_tree.proofs.LoweringLemmas.{lowered_on, one_child}
-use Rattle.bw_tree.proofs.RootLemmas.{root_word}
+use Rattle.bw_tree.specs.TreeMerges.{IsLowered}
+use Rattle.bw_tree.proofs.TreeLoweringLemmas.{lowered_on, one_child}
+use Rattle.bw_tree.proofs.TreeRootLemmas.{root_word}
 use Rattle.bw_tree.proofs.tree.Tree.lower_root.Goals as goal
 
 pub remove_base-requires : goal.remove_base-requires

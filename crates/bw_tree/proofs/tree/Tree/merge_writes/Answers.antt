@@ -1,5 +1,5 @@
 use Rattle.std.proofs.Common.{◌∙◌, ap}
-use Rattle.bw_look.specs.Pages.{leaf_as_of}
+use Rattle.bw_look.specs.PageStates.{leaf_as_of}
 use Rattle.bw_look.specs.View.{TreeView}
 use Rattle.bw_tree.proofs.tree.Tree.merge_writes.Goals as goal
 

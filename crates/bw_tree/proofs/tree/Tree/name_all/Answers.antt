@@ -7,7 +7,7 @@ use Rattle.bw_level.specs.Changes.{Bases}
 use Rattle.bw_chain.specs.Chains.{Records}
 use Rattle.bw_chain.specs.Records.{with_link}
 use Rattle.bw_chain.specs.Supports.{base_under}
-use Rattle.bw_tree.specs.Children.{AreNamed}
+use Rattle.bw_tree.specs.TreeChildren.{AreNamed}
 use Rattle.bw_look.specs.Trees.{IsTree, view_of}
 use Rattle.bw_tree.proofs.NamingLemmas.{all_named_on, ends_behind}
 use Rattle.bw_look.proofs.RoutingLemmas.{page_at_head, page_there}

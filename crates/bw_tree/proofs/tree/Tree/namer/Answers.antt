@@ -1,6 +1,6 @@
 use Rattle.std.proofs.Common.{subst}
 use Rattle.std.specs.Prelude.{MatchOption}
-use Rattle.bw_look.specs.Pages.{HasNoNamer, IsNamer}
+use Rattle.bw_look.specs.PageStates.{HasNoNamer, IsNamer}
 use Rattle.bw_look.specs.View.{TreeView}
 use Rattle.bw_tree.proofs.tree.Tree.namer.Goals as goal
 

@@ -1,6 +1,6 @@
 use Rattle.std.proofs.Common.{◌≡◌, ◌∙◌, suc, [], ap, get_or, rules, arith}
 use Rattle.bw_level.specs.Roots.{two_children}
-use Rattle.bw_tree.proofs.RootLemmas.{over_sound, root_word}
+use Rattle.bw_tree.proofs.TreeRootLemmas.{over_sound, root_word}
 use Rattle.bw_tree.proofs.tree.Tree.page_over_root.Goals as goal
 
 pub neighbour-requires-clause-ends : goal.neighbour-requires-clause-ends

@@ -1,7 +1,7 @@
 use Rattle.std.proofs.Common.{List, ℕ, ap, ◌∙◌}
 use Rattle.bw_chain.specs.Placing.{put_at}
 use Rattle.bw_tree.proofs.IdentifierLemmas.{unused_on}
-use Rattle.bw_tree.proofs.RootLemmas.{root_on}
+use Rattle.bw_tree.proofs.TreeRootLemmas.{root_on}
 use Rattle.bw_tree.proofs.tree.Tree.put_root.Goals as goal
 
 pub invariant_of-self-2 : goal.invariant_of-self-2

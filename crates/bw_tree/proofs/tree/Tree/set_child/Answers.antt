@@ -1,7 +1,7 @@
 use Rattle.std.proofs.Common.{set, ap, ◌∙◌, get_or}
-use Rattle.bw_tree.specs.Children.{IsNamed}
+use Rattle.bw_tree.specs.TreeChildren.{IsNamed}
 use Rattle.bw_look.specs.Trees.{IsTree, view_of}
-use Rattle.bw_tree.proofs.EntryLemmas.{named_on}
+use Rattle.bw_tree.proofs.TreeEntryLemmas.{named_on}
 use Rattle.bw_tree.proofs.tree.Tree.set_child.Goals as goal
 
 -- the tree of the new words, and what it is to the old one

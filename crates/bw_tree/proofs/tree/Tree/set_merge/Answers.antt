@@ -1,8 +1,8 @@
 use Rattle.std.proofs.Common.{set, ap, ◌∙◌, get_or, arith}
 use Rattle.std.proofs.lemmas.List.{get_or_default}
-use Rattle.bw_tree.specs.Merges.{HasMerged}
+use Rattle.bw_tree.specs.TreeMerges.{HasMerged}
 use Rattle.bw_look.specs.Trees.{IsTree, view_of}
-use Rattle.bw_tree.proofs.MergeLemmas.{left_at, merged_on, neighbours_at, right_at, right_low, right_there, word_of_right}
+use Rattle.bw_tree.proofs.TreeMergeLemmas.{left_at, merged_on, neighbours_at, right_at, right_low, right_there, word_of_right}
 use Rattle.bw_tree.proofs.tree.Tree.set_merge.Goals as goal
 
 pub index-right-requires : goal.index-right-requires

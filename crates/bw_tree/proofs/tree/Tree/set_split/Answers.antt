@@ -1,11 +1,11 @@
 use Rattle.std.proofs.Common.{◌≡◌, set, List, ℕ, ap, ◌∙◌, get_or}
 use Rattle.std.proofs.lemmas.List.{get_or_default}
 use Rattle.bw_chain.specs.Placing.{put_at}
-use Rattle.bw_tree.specs.Splits.{IsSplit}
+use Rattle.bw_tree.specs.TreeSplits.{IsSplit}
 use Rattle.bw_look.specs.Trees.{IsTree, view_of}
 use Rattle.bw_tree.proofs.IdentifierLemmas.{unused_on}
 use Rattle.bw_look.proofs.RoutingLemmas.{page_at_head}
-use Rattle.bw_tree.proofs.SplitLemmas.{in_levels, split_on}
+use Rattle.bw_tree.proofs.TreeSplitLemmas.{in_levels, split_on}
 use Rattle.bw_tree.proofs.tree.Tree.set_split.Goals as goal
 
 pub split-requires-clause-ends : goal.split-requires-clause-ends

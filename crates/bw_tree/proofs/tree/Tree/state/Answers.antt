@@ -1,6 +1,6 @@
 use Rattle.std.proofs.Common.{subst}
 use Rattle.std.specs.Prelude.{IfOk, MatchOption}
-use Rattle.bw_look.specs.Pages.{IsState}
+use Rattle.bw_look.specs.PageStates.{IsState}
 use Rattle.bw_look.specs.Routing.{IsInNoLevel}
 use Rattle.bw_look.specs.View.{TreeView}
 use Rattle.bw_tree.proofs.tree.Tree.state.Goals as goal

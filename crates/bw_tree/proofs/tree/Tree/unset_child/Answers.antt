@@ -1,7 +1,7 @@
 use Rattle.std.proofs.Common.{set, ap, ◌∙◌, get_or, sym}
-use Rattle.bw_tree.specs.Merges.{HasLostChild}
+use Rattle.bw_tree.specs.TreeMerges.{HasLostChild}
 use Rattle.bw_look.specs.Trees.{IsTree, view_of}
-use Rattle.bw_tree.proofs.DropLemmas.{drops_there, lost_on, other_low}
+use Rattle.bw_tree.proofs.TreeDropLemmas.{drops_there, lost_on, other_low}
 use Rattle.bw_look.proofs.RoutingLemmas.{sound_there, page_at_head}
 use Rattle.bw_tree.proofs.tree.Tree.unset_child.Goals as goal
 

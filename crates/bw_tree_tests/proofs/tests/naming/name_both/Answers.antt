@@ -5,7 +5,7 @@ use Rattle.bw_page.proofs.Truths.{both_of, true_holds}
 use Rattle.std.specs.FinMap.{is_sorted}
 use Rattle.bw_key.specs.Order.{KeyBytes, key_cmp}
 use Rattle.bw_look.specs.Unnamed.{IsUnnamed}
-use Rattle.bw_tree.specs.Children.{MayHaveChildren}
+use Rattle.bw_tree.specs.TreeChildren.{MayHaveChildren}
 use Rattle.bw_look.proofs.UnnamedLemmas.{fits_child, home_inner}
 use Rattle.bw_tree_tests.proofs.tests.naming.name_both.Goals as goal
 

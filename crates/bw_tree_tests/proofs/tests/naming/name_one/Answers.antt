@@ -1,6 +1,6 @@
 use Rattle.std.proofs.Common.{sym, subst}
 use Rattle.bw_key.specs.Order.{KeyBytes}
-use Rattle.bw_tree.specs.Children.{MayHaveChild}
+use Rattle.bw_tree.specs.TreeChildren.{MayHaveChild}
 use Rattle.bw_look.proofs.UnnamedLemmas.{fits_child}
 use Rattle.bw_tree_tests.proofs.tests.naming.name_one.Goals as goal
 

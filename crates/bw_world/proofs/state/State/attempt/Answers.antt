@@ -3,7 +3,7 @@ use Rattle.std.proofs.lemmas.List.{get_or_read}
 use Rattle.bw_core.specs.declared.BookView.{BookView}
 use Rattle.bw_core.specs.World.{World}
 use Rattle.bw_world.specs.Inside.{view_of}
-use Rattle.bw_core.specs.Steps.{IsWorld, MayTry}
+use Rattle.bw_core.specs.Transitions.{IsWorld, MayTry}
 use Rattle.bw_core.proofs.Allowed.{own_link, page_heads, tried}
 use Rattle.bw_world.proofs.state.State.attempt.Goals as goal
 

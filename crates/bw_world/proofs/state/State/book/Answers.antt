@@ -3,7 +3,7 @@ use mathlib.Core.Option.{some, some-injective}
 use lib.ListN.{get_elem?}
 use Rattle.bw_core.specs.declared.BookView.{BookView}
 use Rattle.bw_core.specs.World.{World}
-use Rattle.bw_core.specs.Steps.{IsSeat}
+use Rattle.bw_core.specs.Transitions.{IsSeat}
 use Rattle.bw_core.proofs.Lists.{at_index, inside_at}
 use Rattle.bw_world.proofs.state.State.book.Goals as goal
 use Rattle.bw_world.proofs.state.State.book.Goals.{else-at-len-via-then-at-len+else-live, else-at-len-via-else-at-len}

@@ -2,7 +2,7 @@ use Rattle.std.proofs.Common.{rules, arith, sym, subst, ◌≡◌, ◌<◌, ◌-
 use Rattle.std.proofs.lemmas.Grind.{common_steps}
 use Rattle.bw_core.specs.World.{World}
 use Rattle.bw_world.specs.Inside.{view_of}
-use Rattle.bw_core.specs.Steps.{IsWorld, IsFresh}
+use Rattle.bw_core.specs.Transitions.{IsWorld, IsFresh}
 use Rattle.bw_world.proofs.Reading.{Reads, reads_start, reads_next, reads_record, reads_end}
 use Rattle.bw_world.proofs.state.State.chain.Goals as goal
 

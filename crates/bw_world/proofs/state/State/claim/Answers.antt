@@ -5,7 +5,7 @@ use Rattle.bw_core.specs.declared.Played.TheVariants.{Done}
 use Rattle.bw_core.specs.World.{World}
 use Rattle.bw_core.specs.Events.{book_after_claim, book_without_pieces}
 use Rattle.bw_world.specs.Inside.{view_of}
-use Rattle.bw_core.specs.Steps.{IsWorld, MayClaim, Claims, world_after_claim}
+use Rattle.bw_core.specs.Transitions.{IsWorld, MayClaim, Claims, world_after_claim}
 use Rattle.bw_core.proofs.Allowed.{read_seat}
 use Rattle.bw_core.proofs.Lists.{inside_at}
 use Rattle.bw_world.proofs.state.State.claim.Goals as goal

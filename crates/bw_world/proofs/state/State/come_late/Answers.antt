@@ -5,7 +5,7 @@ use Rattle.bw_core.specs.declared.Played.TheVariants.{Lost}
 use Rattle.bw_core.specs.World.{World}
 use Rattle.bw_core.specs.Events.{world_with, book_after_late_swap}
 use Rattle.bw_world.specs.Inside.{view_of}
-use Rattle.bw_core.specs.Steps.{IsWorld, IsFresh, MayReplace, Replaces}
+use Rattle.bw_core.specs.Transitions.{IsWorld, IsFresh, MayReplace, Replaces}
 use Rattle.bw_core.proofs.Allowed.{read_seat, seat_pages, page_heads}
 use Rattle.bw_core.proofs.Lists.{inside_at}
 use Rattle.bw_world.proofs.state.State.come_late.Goals as goal

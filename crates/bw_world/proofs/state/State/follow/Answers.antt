@@ -4,7 +4,7 @@ use Rattle.bw_core.specs.declared.BookView.{BookView}
 use Rattle.bw_core.specs.declared.Played.TheVariants.{Done}
 use Rattle.bw_core.specs.World.{World}
 use Rattle.bw_world.specs.Inside.{view_of}
-use Rattle.bw_core.specs.Steps.{IsWorld, MayFollow, Follows}
+use Rattle.bw_core.specs.Transitions.{IsWorld, MayFollow, Follows}
 use Rattle.bw_core.proofs.Allowed.{seen_link}
 use Rattle.bw_world.proofs.state.State.follow.Goals as goal
 

@@ -4,7 +4,7 @@ use Rattle.bw_core.specs.declared.Played.TheVariants.{Done}
 use Rattle.bw_core.specs.World.{World}
 use Rattle.bw_core.specs.Events.{world_with, book_after_join}
 use Rattle.bw_world.specs.Inside.{view_of}
-use Rattle.bw_core.specs.Steps.{IsWorld, MayJoin, Joins}
+use Rattle.bw_core.specs.Transitions.{IsWorld, MayJoin, Joins}
 use Rattle.bw_core.proofs.Allowed.{read_seat, two_widths}
 use Rattle.bw_core.proofs.Lists.{inside_at}
 use Rattle.bw_world.proofs.state.State.join.Goals as goal

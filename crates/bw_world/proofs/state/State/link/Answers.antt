@@ -5,7 +5,7 @@ use Rattle.std.specs.List.{AllByRecursion}
 use Rattle.bw_core.specs.World.{World, seen_at, end_at, top}
 use Rattle.bw_core.specs.Events.{world_with, book_after_link}
 use Rattle.bw_world.specs.Inside.{view_of}
-use Rattle.bw_core.specs.Steps.{IsWorld, MayLink, Links}
+use Rattle.bw_core.specs.Transitions.{IsWorld, MayLink, Links}
 use Rattle.bw_core.proofs.Allowed.{read_seat, seat_pages, seen_words, own_link}
 use Rattle.bw_core.proofs.Lists.{inside_at}
 use Rattle.bw_world.proofs.state.State.link.Goals as goal

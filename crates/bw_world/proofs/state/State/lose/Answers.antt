@@ -5,7 +5,7 @@ use Rattle.bw_core.specs.declared.Played.TheVariants.{Lost}
 use Rattle.bw_core.specs.World.{World}
 use Rattle.bw_core.specs.Events.{world_with, book_after_loss}
 use Rattle.bw_world.specs.Inside.{view_of}
-use Rattle.bw_core.specs.Steps.{IsWorld, IsFresh, MayTry, Tries}
+use Rattle.bw_core.specs.Transitions.{IsWorld, IsFresh, MayTry, Tries}
 use Rattle.bw_core.proofs.Allowed.{read_seat, seat_pages, page_heads, tried, tried_few}
 use Rattle.bw_core.proofs.Lists.{inside_at}
 use Rattle.bw_world.proofs.state.State.lose.Goals as goal

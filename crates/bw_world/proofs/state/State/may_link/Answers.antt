@@ -1,5 +1,5 @@
 use Rattle.std.proofs.Common.{rules}
-use Rattle.bw_core.specs.Steps.{IsSeat}
+use Rattle.bw_core.specs.Transitions.{IsSeat}
 use Rattle.bw_core.proofs.Allowed.{link_allowed, is_zero}
 use Rattle.bw_world.proofs.state.State.may_link.Goals as goal
 

@@ -5,7 +5,7 @@ use Rattle.bw_core.specs.declared.Played.TheVariants.{Done}
 use Rattle.bw_core.specs.World.{World}
 use Rattle.bw_core.specs.Events.{world_with, left_book, right_book}
 use Rattle.bw_world.specs.Inside.{view_of}
-use Rattle.bw_core.specs.Steps.{IsWorld, MaySplit, Splits}
+use Rattle.bw_core.specs.Transitions.{IsWorld, MaySplit, Splits}
 use Rattle.bw_core.proofs.Allowed.{read_seat}
 use Rattle.bw_core.proofs.Lists.{inside_at}
 use Rattle.bw_world.proofs.state.State.split.Goals as goal

@@ -4,7 +4,7 @@ use Rattle.bw_core.specs.declared.Played.TheVariants.{Done}
 use Rattle.bw_core.specs.World.{World}
 use Rattle.bw_core.specs.Events.{world_with, book_after_swap}
 use Rattle.bw_world.specs.Inside.{view_of}
-use Rattle.bw_core.specs.Steps.{IsWorld, MayReplace, Replaces}
+use Rattle.bw_core.specs.Transitions.{IsWorld, MayReplace, Replaces}
 use Rattle.bw_core.proofs.Allowed.{read_seat, seat_pages, page_heads}
 use Rattle.bw_core.proofs.Lists.{inside_at}
 use Rattle.bw_world.proofs.state.State.take_over.Goals as goal

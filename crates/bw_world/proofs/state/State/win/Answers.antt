@@ -4,7 +4,7 @@ use Rattle.bw_core.specs.declared.Played.TheVariants.{Done}
 use Rattle.bw_core.specs.World.{World}
 use Rattle.bw_core.specs.Events.{world_with, book_after_win}
 use Rattle.bw_world.specs.Inside.{view_of}
-use Rattle.bw_core.specs.Steps.{IsWorld, MayTry, Tries}
+use Rattle.bw_core.specs.Transitions.{IsWorld, MayTry, Tries}
 use Rattle.bw_core.proofs.Allowed.{read_seat, seat_pages, own_link, page_heads, tried}
 use Rattle.bw_core.proofs.Lists.{inside_at}
 use Rattle.bw_world.proofs.state.State.win.Goals as goal

@@ -3,7 +3,7 @@ use Rattle.std.proofs.lemmas.List.{take_more, take_all}
 use Rattle.bw_core.specs.declared.Event.{Event}
 use Rattle.bw_core.specs.declared.Event.TheVariants.{Look}
 use Rattle.bw_core.specs.World.{World, Lawful}
-use Rattle.bw_core.specs.Steps.{Runs, start_world}
+use Rattle.bw_core.specs.Transitions.{Runs, start_world}
 use Rattle.bw_core.proofs.Runs.{start_is_lawful, run_keeps, runs-push}
 use Rattle.bw_world.proofs.world.World.replay.Goals as goal
 

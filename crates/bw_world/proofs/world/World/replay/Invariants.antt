@@ -1,5 +1,5 @@
 use Rattle.std.proofs.Common.{take}
-use Rattle.bw_core.specs.Steps.{Runs, start_world}
+use Rattle.bw_core.specs.Transitions.{Runs, start_world}
 use Rattle.bw_world.proofs.world.World.replay.Given as goal
 
 abbrev pub invariant-loop-event : goal.invariant-loop-event

@@ -1,6 +1,6 @@
 use Rattle.std.proofs.Common.{sym, subst}
 use Rattle.bw_core.specs.World.{Lawful}
-use Rattle.bw_core.specs.Steps.{IsWorld}
+use Rattle.bw_core.specs.Transitions.{IsWorld}
 use Rattle.bw_core.proofs.Runs.{start_is_world, start_is_lawful}
 use Rattle.bw_world.proofs.world.World.start.Goals as goal
 

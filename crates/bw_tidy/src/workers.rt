@@ -1,0 +1,175 @@
+// Workers who look at the pages that are due.
+ghost use Rattle.std.specs.Prelude.{◌≡◌, ℕ, ◌<◌, false, true, None, [], ◌∷◌, length, map, IfOk, OnOk};
+ghost use Rattle.std.specs.List.{AllByRecursion, Contains};
+ghost use Rattle.bw_shape.specs.Limits.{AreWithinBut};
+ghost use Rattle.bw_shape.specs.Sweeps.{HoldsSame};
+ghost use Rattle.bw_shape.specs.Tidying.{HasNoneDue, HoldsAll};
+ghost use Rattle.bw_tidy.specs.Findings.{AreListed, ArePut, IsFinding, IsLeafAt};
+
+use crate::findings::{Finding, inspect};
+use bw_key::Memory;
+use bw_memory::Alloc;
+use bw_page::PageId;
+use bw_shape::{Due, Limits, Tidy, tidy_due};
+use bw_tree::Tree;
+use std::thread::{Threads, for_each_mut};
+
+// How many pages are worth a thread: where some of them are consolidated, they take longer than its start.
+const LEAST_PAGES: usize = 64;
+
+/// Tidies, as `tidy_due` does, by up to so many workers: one for each 64 pages that are due, and one at least. Where there are
+/// two or more, they look at the pages side by side, each in a thread of its own where one can be made, and consolidate the
+/// leaves that are over a limit. What is left is done by one thread: these leaves take the places of their chains, and those
+/// that have too few or too many pairs are merged or split.
+///
+/// Which pages there are then, and what is counted, doesn't depend on the number of workers, where each page is due once and
+/// no memory is refused. It costs what `tidy_due` does, a place in three lists for each page that is due, and, until they take
+/// their places, the memory of all leaves that were consolidated beside that of the pages for which they stand. A worker whose
+/// leaf finds no memory leaves it to the one thread, and where a list finds none, that does all. So it does behind a stop,
+/// while leaves that were consolidated before it are due still.
+pub fn tidy_by<R: Threads + Sync>(
+    rt: &R,
+    tree: &mut Tree,
+    limits: &Limits,
+    due: &mut Due,
+    workers: u64,
+) -> Tidy
+    requires none { tree.old.staged ≡ None }
+    requires within { AreWithinBut limits.now tree.old due.old.pages }
+    ensures holds { HoldsAll tree.old tree.new }
+    ensures within { AreWithinBut limits.now tree.new due.new.pages }
+    ensures all { result.stopped ≡ false → HasNoneDue due.new }
+{
+    let most = (due.pages().len() / LEAST_PAGES) as u64;
+    let count = most.min(workers) as usize;
+    let consolidated = consolidate_due(rt, tree, limits, due, count).unwrap_or(0);
+    let tidy = tidy_due(tree, limits, due);
+    Tidy {
+        consolidated: tidy.consolidated.saturating_add(consolidated),
+        ..tidy
+    }
+}
+
+// Has so many workers consolidate the leaves that are over a limit, if they are two or more, and answers how many leaves that
+// were. The pages at which there is more to do stay due. After `Memory` all is as before.
+fn consolidate_due<R: Threads + Sync>(
+    rt: &R,
+    tree: &mut Tree,
+    limits: &Limits,
+    due: &mut Due,
+    workers: usize,
+) -> Result<u64, Memory>
+    requires none { tree.old.staged ≡ None }
+    requires within { AreWithinBut limits.now tree.old due.old.pages }
+    ensures same { HoldsSame tree.old tree.new }
+    ensures within { AreWithinBut limits.now tree.new due.new.pages }
+{
+    if workers < 2 || due.has_leaves_begun() {
+        return Ok(0);
+    }
+    // Asked for before the leaves take memory.
+    let mut pages = Vec::with_capacity(due.alloc(), due.pages().len())?;
+    let mut begun = Vec::with_capacity(due.alloc(), due.pages().len())?;
+    let mut findings = new_findings(due.alloc(), due.pages())?;
+    inspect_all(rt, tree, limits, workers, &mut findings);
+    list_due(&findings, &mut pages)?;
+    list_begun(&findings, &mut begun)?;
+    let consolidated = put_leaves(tree, findings);
+    due.keep(pages, begun);
+    Ok(consolidated)
+}
+
+// A finding for each page.
+fn new_findings(alloc: Alloc, pages: &[PageId]) -> Result<Vec<Finding, Alloc>, Memory>
+    ensures { IfOk result (λ findings. map (λ finding. finding.page) findings.items ≡ pages.now) }
+{
+    let mut findings = Vec::with_capacity(alloc, pages.len())?;
+    for page in pages {
+        findings.push(Finding::new(*page))?;
+    }
+    Ok(findings)
+}
+
+// Has so many workers look at the pages.
+fn inspect_all<R: Threads + Sync>(
+    rt: &R,
+    tree: &Tree,
+    limits: &Limits,
+    workers: usize,
+    findings: &mut [Finding],
+)
+    requires { 0 < workers }
+    ensures pages { map (λ finding. finding.page) findings.new ≡ map (λ finding. finding.page) findings.old }
+    ensures found { AllByRecursion (IsFinding tree.now limits.now) findings.new }
+{
+    let look = move |_place: usize, finding: &mut Finding|
+        ensures { (finding.exit.now.page ≡ finding.entry.now.page) × IsFinding tree.entry.now limits.entry.now finding.exit.now }
+    {
+        *finding = inspect(tree, limits, finding.page);
+    };
+    for_each_mut(rt, findings, workers, &look);
+}
+
+// Lists the pages at which there is more to do.
+fn list_due(findings: &[Finding], pages: &mut Vec<PageId, Alloc>) -> Result<(), Memory>
+    ensures { OnOk result (AreListed pages.new.items findings.now) }
+{
+    for finding in findings {
+        add_due(pages, finding)?;
+    }
+    Ok(())
+}
+
+// Adds the page, if there is more to do.
+fn add_due(pages: &mut Vec<PageId, Alloc>, finding: &Finding) -> Result<(), Memory>
+    ensures due { OnOk result (finding.now.is_due ≡ true → Contains pages.new.items finding.now.page) }
+    ensures kept { (p : ℕ) → Contains pages.old.items p → Contains pages.new.items p }
+{
+    if finding.is_due {
+        pages.push(finding.page)?;
+    }
+    Ok(())
+}
+
+// Lists those of them that were consolidated.
+fn list_begun(findings: &[Finding], begun: &mut Vec<PageId, Alloc>) -> Result<(), Memory> {
+    for finding in findings {
+        if finding.is_due && finding.leaf.is_some() {
+            begun.push(finding.page)?;
+        }
+    }
+    Ok(())
+}
+
+// Puts each leaf that was consolidated in the place of its chain, and answers how many there are.
+fn put_leaves(tree: &mut Tree, findings: Vec<Finding, Alloc>) -> u64
+    requires none { tree.old.staged ≡ None }
+    requires leaves { AllByRecursion (λ finding. IsLeafAt tree.old finding.page finding.leaf) findings.items }
+    ensures same { HoldsSame tree.old tree.new }
+    ensures put { ArePut tree.old tree.new findings.entry.items }
+{
+    let mut count: u64 = 0;
+    for finding in findings {
+        count = count.saturating_add(put_leaf(tree, finding));
+    }
+    count
+}
+
+// Puts a leaf that was consolidated, if it was, in the place of its chain, and answers how many that was.
+fn put_leaf(tree: &mut Tree, finding: Finding) -> u64
+    requires none { tree.old.staged ≡ None }
+    requires leaf { IsLeafAt tree.old finding.page finding.leaf }
+    ensures same { HoldsSame tree.old tree.new }
+    ensures put { ArePut tree.old tree.new (finding ∷ []) }
+{
+    let Finding {
+        page,
+        leaf,
+        is_due: _is_due,
+    } = finding;
+    let Some(leaf) = leaf else {
+        return 0;
+    };
+    tree.put_leaf(page, leaf);
+    1
+}
