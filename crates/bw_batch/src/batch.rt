@@ -32,8 +32,7 @@ pub(crate) struct Answered {
 
 /// Runs a batch on a tree, whose replies are those of one thread that runs its operations in order on an ordered map. The
 /// pages to which it posts are due then, behind those that are due already: all its pages, where leaves could be consolidated
-/// beside that. After `Memory` all that contracts see is as before, but leaves that were consolidated beside the posting may stay
-/// marked (`Due::mark`).
+/// beside that. After `Memory` all is as before.
 pub(crate) fn run_batch<R: Threads + Sync, G: Gate>(
     rt: &R,
     alloc: Alloc,

@@ -154,7 +154,7 @@ impl Index {
     /// The replies and the contents afterwards are those of one thread that runs the operations in order on an
     /// ordered map. A batch of more operations than `batch_max` is refused as `TooLong`, before anything is asked
     /// for; else it may be refused as `Memory`, where a growth was refused. After a refusal the contents are as before, and
-    /// so is all else that this contract sees, unless a sweep was due.
+    /// all else is too, unless a sweep was due.
     ///
     /// A sweep is due where the operations would pass the 2^40th stamp, or with their records more than `record_max`. Before
     /// the batch it consolidates every page that has records, and starts records and stamps over.
