@@ -9,9 +9,13 @@ use Rattle.bw_level.specs.Slots.{PageState, Free, Live, IsSoundInner}
 use Rattle.bw_level.specs.Turns.{plain_at}
 use Rattle.bw_chain.proofs.ChainLemmas.{no_record, on_base}
 
--- the page of a word without a record is the base page that was read
+-- the page of a word without a record is the base page of that number
+pub base_page : (chains : ChainsView) (word : ℕ) → IsChain chains word → word < floor_word → page_at chains word ≡ based (slice_get chains.bases word)
+base_page chains word ends low = on_base chains.bases chains.records word ends (no_record chains.records word low)
+
+-- so it is what was read of it
 pub read_plain : (chains : ChainsView) (word : ℕ) (o : Option (Bor Page)) → IsChain chains word → word < floor_word → plain_at o ≡ based (slice_get chains.bases word) → page_at chains word ≡ plain_at o
-read_plain chains word o ends low read = on_base chains.bases chains.records word ends (no_record chains.records word low) ∙ sym read
+read_plain chains word o ends low read = base_page chains word ends low ∙ sym read
 
 -- so where it is a page, one was read
 pub read_there : (chains : ChainsView) (word : ℕ) (o : Option (Bor Page)) (s : PageState) → IsChain chains word → word < floor_word → plain_at o ≡ based (slice_get chains.bases word) → page_at chains word ≡ Live s → o ≡ None → ⊥

@@ -14,3 +14,4 @@ pub mod VacancyLemmas
 pub mod BareLemmas
 pub mod BaseTrims
 pub mod BaseReadLemmas
+pub mod OwnBaseLemmas

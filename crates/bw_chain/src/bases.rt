@@ -18,18 +18,16 @@ use bw_segment::Segmented;
 use std::mem;
 
 impl Chains {
-    /// Puts a page in the place of the base page under a chain, and answers its number, which as a mapping word names the
-    /// page without a record. It isn't a removed page. It costs a walk along the chain's links, and takes no memory.
-    pub fn replace_base(&mut self, head: u64, page: Page) -> u64
-        requires ends { IsChain self.old head }
-        requires page { IsNotRemoved page }
-        ensures number { result ≡ base_under self.old.records head }
-        ensures bases { self.new.bases ≡ slice_set self.old.bases result (Some page) }
+    /// Puts a page in the place of the base page of a number, where there is such a number. It isn't a removed page. It takes
+    /// no memory.
+    pub fn replace_base(&mut self, number: PageId, page: Page)
+        requires { IsNotRemoved page }
+        ensures bases { self.new.bases ≡ slice_set self.old.bases number (Some page) }
         ensures records { self.new.records ≡ self.old.records }
     {
-        let number = self.base_number(head);
-        self.bases.set(number as usize, Some(page));
-        number
+        if (number.0 as usize) < self.bases.len() {
+            self.bases.set(number.0 as usize, Some(page));
+        }
     }
 
     /// Swaps a leaf that is the base page of a number with another leaf. It takes no memory.
@@ -45,16 +43,6 @@ impl Chains {
                 self.bases.set(number.0 as usize, Some(Page::Leaf(swapped)));
             }
             _ => unreachable!(),
-        }
-    }
-
-    /// Puts a leaf in the place of the base page of a number, where there is such a number. It takes no memory.
-    pub fn put_leaf(&mut self, number: PageId, leaf: Leaf)
-        ensures bases { self.new.bases ≡ slice_set self.old.bases number (Some (LeafPage leaf)) }
-        ensures records { self.new.records ≡ self.old.records }
-    {
-        if (number.0 as usize) < self.bases.len() {
-            self.bases.set(number.0 as usize, Some(Page::Leaf(leaf)));
         }
     }
 

@@ -1,7 +1,7 @@
 // Base pages that take over their right neighbours, and that lose a child.
-ghost use Rattle.std.specs.Prelude.{◌≡◌, ◌≢◌, ◌+◌, ◌<◌, ◌^◌, true, is_some, length, IfOk, OnOk, OnErr};
+ghost use Rattle.std.specs.Prelude.{◌≡◌, ◌≢◌, ◌+◌, ◌<◌, ◌^◌, true, is_some, length, slice_get, IfOk, OnOk, OnErr};
 ghost use Rattle.bw_level.specs.Before.{low_at, low_of};
-ghost use Rattle.bw_level.specs.Changes.{plain};
+ghost use Rattle.bw_level.specs.Changes.{based, plain};
 ghost use Rattle.bw_chain.specs.Chains.{IsChain, floor_word, page_at};
 ghost use Rattle.bw_level.specs.Children.{slot_without_child};
 ghost use Rattle.bw_chain.specs.Restructuring.{HasLost, IsJoined, absorption};
@@ -35,14 +35,15 @@ impl Chains {
         ensures err { OnErr result (self.new ≡ self.old) }
     {
         let page = self.joined(word, right)?;
-        let removed = self.removed(right, left)?;
-        let absorption = self.absorption(right)?;
+        let number = PageId(right as u32);
+        let removed = self.removed(number, left)?;
+        let absorption = self.absorption(number)?;
         self.removed.reserve(1)?;
         let removal = Delta::Removed { left };
         let record = append_both(&mut self.arena, removal, right, absorption, word)?;
         self.bases.set(word as usize, Some(page));
         self.bases.set(right as usize, Some(removed));
-        self.removed.push(PageId(right as u32)).unwrap();
+        self.removed.push(number).unwrap();
         Ok(record)
     }
 
@@ -65,31 +66,42 @@ impl Chains {
     }
 
     // What is left of a page that is removed into this left neighbour.
-    fn removed(&self, word: u64, left: PageId) -> Result<Page, Memory>
-        requires ends { IsChain self.now word }
-        requires there { is_some (low_at (page_at self.now word)) ≡ true }
-        ensures { IfOk result (λ page. plain page ≡ slot_removed left (page_at self.now word)) }
+    fn removed(&self, number: PageId, left: PageId) -> Result<Page, Memory>
+        requires ends { IsChain self.now number }
+        requires there { is_some (low_at (page_at self.now number)) ≡ true }
+        ensures { IfOk result (λ page. plain page ≡ slot_removed left (page_at self.now number)) }
     {
-        let Some(low) = self.low(word) else {
+        self.know_base(number);
+        let Some(low) = self.low(number) else {
             unreachable!();
         };
         Ok(Page::Gone(RemovedPage {
             left,
-            level: self.level(word),
+            level: self.level(number),
             low: low.copy()?,
         }))
     }
 
-    // The record of the absorption of a page.
-    fn absorption(&self, word: u64) -> Result<Delta, Memory>
-        requires ends { IsChain self.now word }
-        requires linked { IsLinked (page_at self.now word) }
-        requires there { is_some (low_at (page_at self.now word)) ≡ true }
-        ensures { IfOk result (λ delta. delta ≡ absorption word (page_at self.now word)) }
+    // That a number by itself names its base page. It does nothing.
+    fn know_base(&self, number: PageId)
+        requires { IsChain self.now number }
+        ensures { page_at self.now number ≡ based (slice_get self.now.bases number) }
     {
-        let Some(low) = self.low(word) else {
+        let _word = number.0 as u64;
+    }
+
+    // The record of the absorption of a page.
+    fn absorption(&self, number: PageId) -> Result<Delta, Memory>
+        requires ends { IsChain self.now number }
+        requires linked { IsLinked (page_at self.now number) }
+        requires there { is_some (low_at (page_at self.now number)) ≡ true }
+        ensures { IfOk result (λ delta. delta ≡ absorption number (page_at self.now number)) }
+    {
+        self.know_base(number);
+        let Some(low) = self.low(number) else {
             unreachable!();
         };
+        let word = number.0 as u64;
         let sep = low.copy()?;
         let Some((_, end, next)) = self.neighbour(word) else {
             return Ok(Delta::Absorb {

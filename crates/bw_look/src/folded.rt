@@ -4,7 +4,7 @@ ghost use Rattle.bw_look.specs.Folding.{put_leaves};
 
 use bw_chain::Chains;
 use bw_memory::Alloc;
-use bw_page::{Leaf, PageId};
+use bw_page::{Leaf, Page, PageId};
 
 /// A leaf that takes the place of its page's base page: one that was consolidated beside the posting of a batch, or, where that
 /// batch is undone, the one that was there before.
@@ -23,6 +23,6 @@ pub(crate) fn put_leaves(chains: &mut Chains, folded: Vec<Folded, Alloc>)
     ensures records { chains.new.records ≡ chains.old.records }
 {
     for Folded { page, leaf } in folded {
-        chains.put_leaf(page, leaf);
+        chains.replace_base(page, Page::Leaf(leaf));
     }
 }

@@ -224,8 +224,8 @@ impl Due {
         Ok(pages)
     }
 
-    // Puts a leaf among the pages that are due, in the order of keys, unless it is there. To sort all of them would walk
-    // the chain of each page for each comparison.
+    // Puts a leaf among the pages that are due, in the order of keys, unless it is there. To sort all of them would look at two
+    // pages for each comparison.
     fn put_among(&mut self, tree: &Tree, leaf: PageId) -> Result<(), Memory>
         ensures kept { (p : ℕ) → Contains self.old.pages p → Contains self.new.pages p }
         ensures unfinished { self.new.unfinished ≡ self.old.unfinished }

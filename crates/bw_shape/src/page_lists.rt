@@ -31,7 +31,7 @@ pub(crate) fn inner_pages(alloc: Alloc, tree: &Tree) -> Result<Vec<PageId, Alloc
 }
 
 /// The pages that have records, in the order of the keys at which they begin. It costs a look at each mapping word, and for n
-/// such pages some n log2 n comparisons of keys, each of which walks the two pages' chains.
+/// such pages some n log2 n comparisons of keys, each of which looks at the two base pages.
 pub(crate) fn recorded_pages(alloc: Alloc, tree: &Tree) -> Result<Vec<PageId, Alloc>, Memory>
     ensures { IfOk result (λ pages. HasAllRecorded tree.now pages.items) }
 {

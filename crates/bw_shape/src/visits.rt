@@ -40,9 +40,8 @@ pub(crate) fn visit(
 {
     tree.know_levels();
     let leaf_is_due = is_due(tree, limits, page, due.has_begun(page));
-    if !leaf_is_due && has_writes(tree, page) {
-        due.pass();
-        return Ok(());
+    if has_writes(tree, page) {
+        return visit_leaf(tree, limits, due, counts, page, leaf_is_due);
     }
     let Some(stands) = tree.in_level(page) else {
         due.pass();
@@ -55,40 +54,46 @@ pub(crate) fn visit(
     if stands > 0 {
         return look(tree, limits, due, counts, page, stands);
     }
-    if !leaf_is_due {
-        due.pass();
-        return Ok(());
-    }
-    visit_due(tree, limits, due, counts, page)
+    visit_leaf(tree, limits, due, counts, page, leaf_is_due)
 }
 
 /// Whether a page is a leaf with writes, as those have that a batch has written. It costs a walk along its chain.
 pub fn has_writes(tree: &Tree, page: PageId) -> bool
+    ensures leaf { result ≡ true → IsInLevel tree.now page 0 }
     ensures yes { result ≡ true → 0 < length (writes_over (slot_at tree.now.slots page)) }
     ensures no { result ≡ false → page < length tree.now.heads →
         length (writes_over (slot_at tree.now.slots page)) ≡ 0 }
 {
+    tree.know_levels();
+    tree.know_records();
     (page.0 as usize) < tree.heads().len() && tree.count_writes(page) > 0
 }
 
-// Consolidates the next page, a leaf that is due, and splits or merges it, if need be.
-fn visit_due(
+// Looks at the next page, a leaf. One that is due is consolidated, and split or merged, if need be; another one is left as it is.
+fn visit_leaf(
     tree: &mut Tree,
     limits: &Limits,
     due: &mut Due,
     counts: &mut Tidy,
     page: PageId,
+    is_due: bool,
 ) -> Result<(), Memory>
     requires none { tree.old.staged ≡ None }
     requires next { IsNext due.old.pages page }
     requires within { AreWithinBut limits.now tree.old due.old.pages }
     requires finished { due.old.unfinished ≡ None }
     requires leaf { IsInLevel tree.old page 0 }
+    requires fits { is_due ≡ false → Contains (row tree.old.levels 0) page →
+        IsWithin limits.now (slot_at tree.old.slots page) }
     ensures holds { HoldsAll tree.old tree.new }
     ensures within { AreWithinBut limits.now tree.new due.new.pages }
     ensures less { OnOk result (length due.new.pages < length due.old.pages) }
     ensures finished { OnOk result (due.new.unfinished ≡ None) }
 {
+    if !is_due {
+        due.pass();
+        return Ok(());
+    }
     due.begin_leaf(page)?;
     bare(tree, counts, page, 0)?;
     tree.know_records();

@@ -36,11 +36,12 @@ impl Finding {
 
 /// Looks at a page. A leaf that is over a limit is consolidated, unless that finds no memory; there is more to do where it has
 /// too few or too many pairs then. There is nothing to do at any other leaf. It costs some walks along the page's chain, a
-/// search for a page without writes and for one that is over a limit, and what `Tree::leaf_as_of` does for the leaf.
+/// search for a page without writes, and what `Tree::leaf_as_of` does for the leaf.
 pub(crate) fn inspect(tree: &Tree, limits: &Limits, page: PageId) -> Finding
     ensures page { result.page ≡ page }
     ensures found { IsFinding tree.now limits.now result }
 {
+    tree.know_levels();
     if !is_over(tree, limits, page) {
         return Finding {
             page,
@@ -48,32 +49,23 @@ pub(crate) fn inspect(tree: &Tree, limits: &Limits, page: PageId) -> Finding
             is_due: !is_leaf(tree, page),
         };
     }
-    tree.know_levels();
     let leaf = consolidated(tree, page);
     let is_due = needs_more(limits, &leaf);
     Finding { page, leaf, is_due }
 }
 
-// Whether a page is a leaf. One that has writes is known without a search.
+// Whether a page stands among the leaves. One that has writes does, and for another one that costs a search.
 fn is_leaf(tree: &Tree, page: PageId) -> bool
-    ensures { result ≡ true → (level : ℕ) → IsInLevel tree.now page level → level ≡ 0 }
-{
-    tree.know_levels();
-    has_writes(tree, page) || stands_lowest(tree, page)
-}
-
-// Whether a page stands among the leaves. It costs a search.
-fn stands_lowest(tree: &Tree, page: PageId) -> bool
     ensures { result ≡ true → IsInLevel tree.now page 0 }
 {
-    tree.in_level(page) == Some(0)
+    has_writes(tree, page) || tree.in_level(page) == Some(0)
 }
 
 // A leaf without its chain, if it has one.
 fn consolidated(tree: &Tree, page: PageId) -> Option<Leaf>
     ensures { IsLeafAt tree.now page result }
 {
-    if tree.is_plain(page) || !stands_lowest(tree, page) {
+    if tree.is_plain(page) || !is_leaf(tree, page) {
         return None;
     }
     tree.leaf_as_of(page, tree.next_stamp()).ok()

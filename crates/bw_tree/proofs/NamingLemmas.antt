@@ -15,17 +15,19 @@ use Rattle.bw_page.proofs.KeyLemmas.{below_back}
 use Rattle.bw_page.proofs.Truths.{both_of, not_holds}
 use Rattle.bw_delta.specs.History.{HasDistinctStamps}
 use Rattle.bw_level.specs.Changes.{Bases, plain}
-use Rattle.bw_chain.specs.Chains.{Records, Ends, slot_of_word, slots_of}
+use Rattle.bw_chain.specs.Chains.{AllEnd, Records, slot_of_word, slots_of}
 use Rattle.bw_level.specs.Children.{FitsChild, HasChild, state_with_child}
 use Rattle.bw_level.specs.Laws.{KeepsAll}
 use Rattle.bw_level.specs.Levels.{AreLevels, row}
 use Rattle.bw_level.specs.Searches.{plain_inner}
 use Rattle.bw_level.specs.Slots.{Slot, PageState, Children, Free, Live, slot_at}
-use Rattle.bw_chain.specs.Supports.{base_under}
+use Rattle.bw_chain.specs.Supports.{OwnBases, base_under}
 use Rattle.bw_chain.proofs.BaseLemmas.{all_end, low, others_kept, own_after, put_there}
 use Rattle.bw_level.proofs.EntryLemmas.{child_kept}
-use Rattle.bw_chain.proofs.GrowthLemmas.{append_extends, still_ends}
+use Rattle.bw_chain.proofs.GrowthLemmas.{append_extends}
+use Rattle.bw_chain.proofs.OwnBaseLemmas.{own_number}
 use Rattle.bw_chain.proofs.ReadingLemmas.{slot_of_head}
+use Rattle.bw_chain.proofs.SupportLemmas.{still_rests}
 use Rattle.bw_level.proofs.RouteLemmas.{held}
 use Rattle.bw_level.proofs.RowLemmas.{in_row}
 use Rattle.bw_page.specs.MergedEntries.{put_all}
@@ -245,12 +247,12 @@ module _ (heads : List ℕ) (bases : Bases) (records more : Records) (root next 
     staged = refl;
   }
 
--- a word ends where it ended over records behind the others, which no chain names
-pub ends_behind : (bases bases' : Bases) (records records' more : Records) (word : ℕ) → bases' ≡ bases → records' ≡ records ++ more → Ends bases records word → Ends bases' records' word
-ends_behind bases bases' records records' more word same longer ends =
-    subst (λ (b : Bases). Ends b records' word) (sym same)
-    (subst (λ (r : Records). Ends bases r word) (sym longer)
-    (still_ends bases records (records ++ more) word (append_extends records more) (omega (arith, length-append records more)) ends).0)
+-- the chain of a page ends at the base page of its number over records behind the others, too
+pub own_behind : (heads : List ℕ) (bases : Bases) (records more : Records) → OwnBases heads bases records → AllEnd bases records heads → (p : ℕ) → p < length heads → p ≡ base_under (records ++ more) (slice_index heads p)
+own_behind heads bases records more own ends p there =
+    let word = slice_index heads p in
+    own_number heads bases records own p there
+    ∙ sym (still_rests bases records (records ++ more) word (append_extends records more) (omega (arith, length-append records more)) (ends p word (slice_get-get_or heads p 0 there)))
 
 -- so does a tree that was given the page in the place of the base page
 pub all_named_on : (heads : List ℕ) (bases : Bases) (records more : Records) (root next : ℕ) (staged : Option StageWords) (tree : TreeView) (p : ℕ) (es : List (KeyBytes × ℕ)) (page : Page) → length more ≡ length es → length (records ++ more) ≤ 2 ^ 32 → IsTree heads bases records root next staged → view_of heads bases records root next staged ≡ tree → tree.staged ≡ None → IsInnerPage tree p → MayHaveChildren tree p es → ((was : PageState) → slot_at tree.slots p ≡ Live was → plain page ≡ Live (state_with_children es was)) →

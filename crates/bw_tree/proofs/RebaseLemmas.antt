@@ -1,5 +1,5 @@
 -- A page takes the place of the chain that makes the same.
-use Rattle.std.proofs.Common.{set, ◌≡◌, ℕ, ◌<◌, ◌^◌, List, length, get_or, Option, Some, None, sym, ap, ◌∙◌, subst, arith}
+use Rattle.std.proofs.Common.{set, ◌≡◌, ℕ, ◌<◌, ◌^◌, List, length, Option, Some, None, sym, ap, ◌∙◌, subst, arith}
 use Rattle.std.proofs.lemmas.Option.{slice_get-get_or}
 use Rattle.std.proofs.lemmas.List.{get_or-set_same, length-set}
 use Rattle.std.specs.List.{AllByRecursion}
@@ -8,7 +8,7 @@ use Rattle.bw_page.specs.declared.pages.Page.{Page}
 use Rattle.bw_delta.specs.History.{HasDistinctStamps}
 use Rattle.bw_level.specs.Searches.{AllStand}
 use Rattle.bw_level.specs.Changes.{Bases, plain}
-use Rattle.bw_chain.specs.Chains.{Records, Ends, slots_of}
+use Rattle.bw_chain.specs.Chains.{Records, slots_of}
 use Rattle.bw_level.specs.Entries.{AreExact}
 use Rattle.bw_level.specs.Levels.{AreLevels, levels_under}
 use Rattle.bw_level.specs.Slots.{Slot, slot_at}
@@ -18,7 +18,6 @@ use Rattle.bw_chain.proofs.ReadingLemmas.{slot_of_head}
 use Rattle.bw_tree.specs.Consolidation.{IsRebased}
 use Rattle.bw_look.specs.Trees.{ArePlaced, IsStanding, IsTree, StageWords, leaf_writes, view_of}
 use Rattle.bw_look.specs.View.{StageView, TreeView}
-use Rattle.bw_look.proofs.RoutingLemmas.{at_head}
 use Rattle.bw_tree.proofs.StandingLemmas.{placed_set}
 
 -- Pages stand where one took the place of a chain and the levels are the same, if these levels, their index entries and
@@ -103,10 +102,6 @@ module _ (heads : List ℕ) (bases : Bases) (records : Records) (root next : ℕ
 -- a page has a mapping word
 pub heads_there : (heads : List ℕ) (bases : Bases) (records : Records) (root next : ℕ) (staged : Option StageWords) (tree : TreeView) (p : ℕ) → view_of heads bases records root next staged ≡ tree → p < length tree.heads → p < length heads
 heads_there heads bases records root next staged tree p is there = subst (λ (v : TreeView). p < length v.heads) (sym is) there
-
-pub ends_there : (heads : List ℕ) (bases : Bases) (records : Records) (root next bound : ℕ) (staged : Option StageWords) (tree : TreeView) (p head : ℕ) → view_of heads bases records root next staged ≡ tree → IsStanding heads bases records root bound → p < length tree.heads → head ≡ get_or heads p head → Ends bases records head
-ends_there heads bases records root next bound staged tree p head is t there read =
-    (at_head heads bases records root next bound staged tree p head is t (heads_there heads bases records root next staged tree p is there) read).ends
 
 -- so does a tree that was given the page in the place of the base page
 pub rebased_on : (heads : List ℕ) (bases : Bases) (records : Records) (root next : ℕ) (staged : Option StageWords) (tree : TreeView) (p : ℕ) (page : Page) → IsTree heads bases records root next staged → view_of heads bases records root next staged ≡ tree → tree.staged ≡ None → p < length tree.heads → slot_at tree.slots p ≡ plain page →

@@ -28,15 +28,12 @@ impl<'a> Look<'a> {
         }
     }
 
-    /// The key at which a page begins, or none for a free identifier, a removed page, and one that was never given out. It
-    /// costs a walk along the page's chain, and takes no memory.
+    /// The key at which a page begins, or none for a free identifier, a removed page, and one that was never given out. It is
+    /// a look at the page's base page, and takes no memory.
     pub fn low_key(&self, page: PageId) -> Option<&'a Key>
         ensures { option_copied result ≡ low_at (slot_at self.now.slots page) }
     {
-        if page.0 as usize >= self.heads.len() {
-            return None;
-        }
-        self.chains.low(self.heads[page.0 as usize])
+        self.chains.low(page)
     }
 
     /// The left neighbour of a page, whose side link leads to it, or none for the first page of a level and for a page of no

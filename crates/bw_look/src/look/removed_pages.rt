@@ -13,14 +13,11 @@ impl<'a> Look<'a> {
     ghost use Rattle.bw_look.specs.RemovedPages.{HasNoNamerOfRemoved, IsNamerOfRemoved};
 
     /// What is left of a page that was removed, or none for another page, a free identifier and one that was never given out.
-    /// It costs a walk along the page's chain, and takes no memory.
+    /// It is a look at its base page, and takes no memory.
     pub fn removed(&self, page: PageId) -> Option<&'a RemovedPage>
         ensures { option_copied result ≡ removed_at (slot_at self.now.slots page) }
     {
-        if page.0 as usize >= self.heads.len() {
-            return None;
-        }
-        self.chains.removed_page(self.heads[page.0 as usize])
+        self.chains.removed_page(page)
     }
 
     /// The page of the level above that still names a page which was removed, as after a merge that isn't finished: at the key
@@ -54,7 +51,7 @@ impl<'a> Look<'a> {
         self.first_page(self.root_level() - 1)
     }
 
-    /// What is left of the root where it is removed into this child. It costs a walk along the root's chain.
+    /// What is left of the root where it is removed into this child.
     pub fn removed_root(&self, child: PageId) -> RemovedPage
         ensures { result ≡ removed_root (slot_level (slot_at self.now.slots self.now.root)) child }
     {

@@ -141,11 +141,10 @@ impl<'a> Look<'a> {
         if page.0 as usize >= self.heads.len() {
             return None;
         }
-        let head = self.heads[page.0 as usize];
-        let Some(low) = self.chains.low(head) else {
+        let Some(low) = self.low_key(page) else {
             return None;
         };
-        let level = self.chains.level(head);
+        let level = self.level(page);
         let Some(home) = self.above(level, low) else {
             return None;
         };
@@ -173,12 +172,11 @@ impl<'a> Look<'a> {
         self.chains.neighbour(self.heads[page.0 as usize])
     }
 
-    /// The level of a page.
+    /// The level of a page. It is a look at its base page.
     pub(crate) fn level(&self, page: PageId) -> u32
-        requires { page < length self.now.slots }
         ensures { result ≡ slot_level (slot_at self.now.slots page) }
     {
-        self.chains.level(self.heads[page.0 as usize])
+        self.chains.level(page)
     }
 
     /// The inner page that a page of a level is, where no change lies over its base page. It is a look at its mapping word.

@@ -22,8 +22,8 @@ impl Tree {
     ///
     /// The children as they stand and the entries become the page's base page, and no record stands over it any more. There is
     /// a record more for each entry all the same, which no chain names: records are counted as `set_child` makes them. It
-    /// costs a walk along the page's chain, a copy of its children, a second one where it had a record, and a binary search
-    /// and a copy of the key for each entry. After `Memory` the tree is as before.
+    /// costs a copy of the page's children, a second one where it had a record, and a binary search and a copy of the key for
+    /// each entry. After `Memory` the tree is as before.
     pub fn name_all(
         &mut self,
         parent: PageId,
@@ -40,7 +40,8 @@ impl Tree {
         let page = self.inner_with(parent, entries)?;
         let head = self.heads[parent.0 as usize];
         self.chains.add_records(deltas, head)?;
-        self.heads[parent.0 as usize] = self.chains.replace_base(head, Page::Inner(page));
+        self.chains.replace_base(parent, Page::Inner(page));
+        self.heads[parent.0 as usize] = parent.0 as u64;
         Ok(())
     }
 

@@ -65,16 +65,15 @@ impl Tree {
         Ok(true)
     }
 
-    /// Puts a leaf that was consolidated as of the next stamp in the place of its chain. No batch is staged. It costs a walk
-    /// along the chain, and takes no memory.
+    /// Puts a leaf that was consolidated as of the next stamp in the place of its chain. No batch is staged. It takes no memory.
     pub fn put_leaf(&mut self, page: PageId, leaf: Leaf)
         requires none { self.old.staged ≡ None }
         requires leaf { Contains (row self.old.levels 0) page }
         requires consolidated { leaf ≡ leaf_as_of self.old page self.old.next }
         ensures { IsConsolidated self.old self.new page }
     {
-        let head = self.heads[page.0 as usize];
-        self.heads[page.0 as usize] = self.chains.replace_base(head, Page::Leaf(leaf));
+        self.chains.replace_base(page, Page::Leaf(leaf));
+        self.heads[page.0 as usize] = page.0 as u64;
     }
 
     /// Consolidates an inner page: what its chain makes of its base page takes the place of that page, so that the page
@@ -105,7 +104,7 @@ impl Tree {
         requires stays { IsNotRemoved state }
         ensures { IsRebased self.old self.new page }
     {
-        let number = self.chains.replace_base(self.heads[page.0 as usize], state);
-        self.heads[page.0 as usize] = number;
+        self.chains.replace_base(page, state);
+        self.heads[page.0 as usize] = page.0 as u64;
     }
 }

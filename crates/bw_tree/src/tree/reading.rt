@@ -99,8 +99,8 @@ impl Tree {
         self.look().is_plain(page)
     }
 
-    /// The key at which a page begins, or none for a free identifier, a removed page, and one that was never given out. It
-    /// costs a walk along the page's chain, and takes no memory.
+    /// The key at which a page begins, or none for a free identifier, a removed page, and one that was never given out. It is
+    /// a look at the page's base page, and takes no memory.
     pub fn low_key(&self, page: PageId) -> Option<&Key>
         ensures { option_copied result ≡ low_at (slot_at self.now.slots page) }
     {
@@ -341,7 +341,7 @@ impl Tree {
     }
 
     /// What is left of a page that was removed, or none for another page, a free identifier and one that was never given out.
-    /// It costs a walk along the page's chain, and takes no memory.
+    /// It is a look at its base page, and takes no memory.
     pub fn removed(&self, page: PageId) -> Option<&RemovedPage>
         ensures { option_copied result ≡ removed_at (slot_at self.now.slots page) }
     {

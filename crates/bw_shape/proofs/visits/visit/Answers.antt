@@ -4,20 +4,13 @@ use Rattle.bw_shape.proofs.AbsorbLemmas.{no_leaf}
 use Rattle.bw_shape.proofs.TidyLemmas.{leaf_level, within_pass}
 use Rattle.bw_shape.proofs.visits.visit.Goals as goal
 
-pub returns-then-has_writes-clause-within : goal.returns-then-has_writes-clause-within
-returns-then-has_writes-clause-within c =
-    within_pass c.args.limits.now c.args.tree.now c.args.due.now.pages c.pass.new.self.pages c.args.page (c.pass.ensures.pages c.args.page c.requires.next) (c.is_due-leaf_is_due.ensures.no c.if-not-leaf_is_due.true) c.requires.within
-
-pub returns-then-has_writes-clause-less : goal.returns-then-has_writes-clause-less
-returns-then-has_writes-clause-less c = omega (arith, ap length (c.pass.ensures.pages c.args.page c.requires.next), length-append c.pass.new.self.pages (c.args.page ∷ []))
-
 pub returns-in_default-clause-within : goal.returns-in_default-clause-within
 returns-in_default-clause-within c =
-    within_pass c.args.limits.now c.args.tree.now c.args.due.now.pages c.pass-in_default.new.self.pages c.args.page (c.pass-in_default.ensures.pages c.args.page c.requires.next)
+    within_pass c.args.limits.now c.args.tree.now c.args.due.now.pages c.pass.new.self.pages c.args.page (c.pass.ensures.pages c.args.page c.requires.next)
     (λ leaf. let on = leaf_level c.args.tree.now.levels c.args.page leaf in absurd (c.in_default.ensures.level on.level (on.within, on.in_level))) c.requires.within
 
 pub returns-in_default-clause-less : goal.returns-in_default-clause-less
-returns-in_default-clause-less c = omega (arith, ap length (c.pass-in_default.ensures.pages c.args.page c.requires.next), length-append c.pass-in_default.new.self.pages (c.args.page ∷ []))
+returns-in_default-clause-less c = omega (arith, ap length (c.pass.ensures.pages c.args.page c.requires.next), length-append c.pass.new.self.pages (c.args.page ∷ []))
 
 pub returns-then-stands-level-clause-within : goal.returns-then-stands-level-clause-within
 returns-then-stands-level-clause-within c =
@@ -32,10 +25,3 @@ pub look-requires-clause-short : goal.look-requires-clause-short
 look-requires-clause-short c =
     let tree = c.args.tree.now in
     λ leaf. absurd (no_leaf tree tree.root c.know_levels.ensures.lawful c.args.page c.in-Some.stands c.in-Some.ensures.level (omega (arith, c.if-stands-gt0.true)) leaf)
-
-pub returns-then-not-leaf_is_due-2-clause-within : goal.returns-then-not-leaf_is_due-2-clause-within
-returns-then-not-leaf_is_due-2-clause-within c =
-    within_pass c.args.limits.now c.args.tree.now c.args.due.now.pages c.pass-then-not-leaf_is_due-2.new.self.pages c.args.page (c.pass-then-not-leaf_is_due-2.ensures.pages c.args.page c.requires.next) (c.is_due-leaf_is_due.ensures.no c.if-not-leaf_is_due-2.true) c.requires.within
-
-pub returns-then-not-leaf_is_due-2-clause-less : goal.returns-then-not-leaf_is_due-2-clause-less
-returns-then-not-leaf_is_due-2-clause-less c = omega (arith, ap length (c.pass-then-not-leaf_is_due-2.ensures.pages c.args.page c.requires.next), length-append c.pass-then-not-leaf_is_due-2.new.self.pages (c.args.page ∷ []))

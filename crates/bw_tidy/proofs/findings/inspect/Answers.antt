@@ -5,7 +5,7 @@ use Rattle.bw_tidy.proofs.findings.inspect.Goals as goal
 pub returns-then-not-is_over-clause-found : goal.returns-then-not-is_over-clause-found
 returns-then-not-is_over-clause-found c =
     let within : c.is_over.result ≡ false = search rules in
-    record { leaf = tt; fits = λ off. c.is_over.ensures.within within; lowest = λ off. c.is_leaf.ensures (not_back c.is_leaf.result off) }
+    record { leaf = tt; fits = λ off. c.is_over.ensures.within within; lowest = λ off level on. leaf_lowest c.args.tree.now c.know_levels.ensures.lawful c.args.page level on (c.is_leaf.ensures (not_back c.is_leaf.result off)) }
 
 pub returns-clause-found : goal.returns-clause-found
 returns-clause-found c =

@@ -65,9 +65,6 @@ loop-next-preserved-in-Left c =
       high = omega (arith, c.loop-next.invariant.high, left_level _ _ _ lawful key page c.in-Left.next (searching key stands) (c.in-Left.ensures key (stands page)));
     }
 
-pub level-requires-in-Down : goal.level-requires-in-Down
-level-requires-in-Down c = held_there _ _ _ (lawful_now c.self.inside.root _ _ c.self.view_is c.self.invariant.now.lawful) c.args.target c.requires c.loop-next.page c.loop-next.invariant.searching
-
 pub returns-then-level-2 : goal.returns-then-level-2
 returns-then-level-2 c = λ key stands.
     down_home _ _ _ (lawful_now c.self.inside.root _ _ c.self.view_is c.self.invariant.now.lawful) key c.loop-next.page c.in-Down.next c.args.level (c.loop-next.invariant.searching key stands)

@@ -1,28 +1,26 @@
-use Rattle.std.proofs.Common.{set, ◌∙◌, ap, get_or}
-use Rattle.std.proofs.lemmas.List.{get_or_default}
-use Rattle.bw_chain.specs.Supports.{base_under}
-use Rattle.bw_tree.proofs.RebaseLemmas.{ends_there, heads_there, rebased_on}
+use Rattle.std.proofs.Common.{set, ap}
+use Rattle.bw_chain.proofs.OwnBaseLemmas.{own_number}
+use Rattle.bw_look.specs.Trees.{IsTree, view_of}
+use Rattle.bw_tree.specs.Consolidation.{IsRebased}
+use Rattle.bw_tree.proofs.RebaseLemmas.{heads_there, rebased_on}
 use Rattle.bw_tree.proofs.tree.Tree.rebase.Goals as goal
 
-pub replace_base-number-requires-clause-ends : goal.replace_base-number-requires-clause-ends
-replace_base-number-requires-clause-ends c =
-    ends_there c.self.inside.heads.items c.self.inside.chains.bases c.self.inside.chains.records c.self.inside.root c.self.inside.next _ c.self.inside.staged c.args.self.now c.args.page c.index.result.now c.self.view_is c.self.invariant.now c.requires.there
-    (c.index.ensures ∙ ap (λ n. get_or c.self.inside.heads.items n c.index.result.now) c.page.view_is)
+-- the tree of the new word and base page, and what it is to the old one
+rebased_now : (c : goal.After-self-1) →
+    IsTree (set c.self.inside.heads.items c.page.inside.0 c.page.inside.0) c.replace_base.new.self.bases c.replace_base.new.self.records c.self.inside.root c.self.inside.next c.self.inside.staged
+    × IsRebased c.args.self.now (view_of (set c.self.inside.heads.items c.page.inside.0 c.page.inside.0) c.replace_base.new.self.bases c.replace_base.new.self.records c.self.inside.root c.self.inside.next c.self.inside.staged) c.args.page
+rebased_now c =
+    let heads = c.self.inside.heads.items in
+    let bases = c.self.inside.chains.bases in
+    let records = c.self.inside.chains.records in
+    let there = heads_there heads bases records c.self.inside.root c.self.inside.next c.self.inside.staged c.args.self.now c.args.page c.self.view_is c.requires.there in
+    rebased_on heads bases records c.self.inside.root c.self.inside.next c.self.inside.staged c.args.self.now c.args.page c.args.state c.self.invariant c.self.view_is c.requires.none c.requires.there c.requires.same
+    (set heads c.page.inside.0 c.page.inside.0) c.replace_base.new.self.bases c.replace_base.new.self.records c.args.page
+    (own_number heads bases records c.self.invariant.now.own c.args.page there)
+    (ap (λ n. set heads n n) c.page.view_is) c.replace_base.ensures.bases c.replace_base.ensures.records
 
 pub invariant_of-self : goal.invariant_of-self
-invariant_of-self c =
-    let heads = c.self.inside.heads.items in
-    let there = heads_there heads c.self.inside.chains.bases c.self.inside.chains.records c.self.inside.root c.self.inside.next c.self.inside.staged c.args.self.now c.args.page c.self.view_is c.requires.there in
-    (rebased_on heads c.self.inside.chains.bases c.self.inside.chains.records c.self.inside.root c.self.inside.next c.self.inside.staged c.args.self.now c.args.page c.args.state c.self.invariant c.self.view_is c.requires.none c.requires.there c.requires.same
-    (set heads c.page.inside.0 c.replace_base-number.result) c.replace_base-number.new.self.bases c.replace_base-number.new.self.records c.replace_base-number.result
-    (c.replace_base-number.ensures.number ∙ ap (base_under c.self.inside.chains.records) (c.index.ensures ∙ ap (λ n. get_or heads n c.index.result.now) c.page.view_is ∙ get_or_default heads c.args.page c.index.result.now 0 there))
-    (ap (λ n. set heads n c.replace_base-number.result) c.page.view_is) c.replace_base-number.ensures.bases c.replace_base-number.ensures.records).0
+invariant_of-self c = (rebased_now c).0
 
 pub returns : goal.returns
-returns c =
-    let heads = c.self.inside.heads.items in
-    let there = heads_there heads c.self.inside.chains.bases c.self.inside.chains.records c.self.inside.root c.self.inside.next c.self.inside.staged c.args.self.now c.args.page c.self.view_is c.requires.there in
-    (rebased_on heads c.self.inside.chains.bases c.self.inside.chains.records c.self.inside.root c.self.inside.next c.self.inside.staged c.args.self.now c.args.page c.args.state c.self.invariant c.self.view_is c.requires.none c.requires.there c.requires.same
-    (set heads c.page.inside.0 c.replace_base-number.result) c.replace_base-number.new.self.bases c.replace_base-number.new.self.records c.replace_base-number.result
-    (c.replace_base-number.ensures.number ∙ ap (base_under c.self.inside.chains.records) (c.index.ensures ∙ ap (λ n. get_or heads n c.index.result.now) c.page.view_is ∙ get_or_default heads c.args.page c.index.result.now 0 there))
-    (ap (λ n. set heads n c.replace_base-number.result) c.page.view_is) c.replace_base-number.ensures.bases c.replace_base-number.ensures.records).1
+returns c = (rebased_now c).1

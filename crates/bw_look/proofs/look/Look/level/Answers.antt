@@ -1,0 +1,11 @@
+use Rattle.std.proofs.Common.{◌∙◌, sym, ap}
+use Rattle.bw_level.specs.Slots.{slot_at, slot_level}
+use Rattle.bw_chain.proofs.OwnBaseLemmas.{level_of_base}
+use Rattle.bw_look.specs.View.{TreeView}
+use Rattle.bw_look.proofs.look.Look.level.Goals as goal
+
+pub returns : goal.returns
+returns c =
+    c.level.ensures
+    ∙ sym (level_of_base c.self.inside.heads.now.items c.self.inside.chains.now.bases c.self.inside.chains.now.records c.self.invariant.now.own c.args.page)
+    ∙ ap (λ (v : TreeView). slot_level (slot_at v.slots c.args.page)) c.self.view_is
