@@ -130,12 +130,24 @@ fn each_number_of_workers_replaces_all_leaves(rt: HostRuntime) {
     }
 }
 
-// Runs a batch, and again where it was refused.
+// The next stamp, how many records there are, and the mapping word of the one page.
+fn numbers(index: &Index) -> (u64, usize, Option<u64>) {
+    let tree = index.tree();
+    (
+        tree.next_stamp(),
+        tree.records(),
+        tree.heads().first().copied(),
+    )
+}
+
+// Runs a batch, and again where it was refused, which left all as it was.
 fn run_again<R: Abort + Threads + Sync>(rt: &R, index: &mut Index, ops: &[Op]) -> Done {
+    let stood = numbers(index);
     match index.run(rt, ops, &OpenGate) {
         Ok(done) => done,
         Err(refusal) => {
             assert_equal(rt, refusal, Refusal::Memory);
+            assert_that(rt, numbers(index) == stood);
             index.run(rt, ops, &OpenGate).expect(rt, "memory")
         }
     }
@@ -157,6 +169,7 @@ fn run_refused<R: Abort + Threads + Sync>(
     have_replies(rt, done.replies.as_slice(), SECOND);
     holds(rt, &index, &[("a", "2")]);
     assert_that(rt, refused || done.replaced == 1);
+    assert_that(rt, done.replaced == 1 || !done.tidy.stopped);
     (refused, done.replaced == 0)
 }
 

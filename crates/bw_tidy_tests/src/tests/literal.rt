@@ -1,4 +1,5 @@
-// Tidying as a plain program. It knows all keys and all pages, and has no list of pages that are due.
+// Tidying as a plain program. It knows all keys and all pages, and has no list of pages that are due, but of the first
+// leaves under pages that were merged, at which it looks once more, as the index does.
 use bw_batch::{Key, Op, Tidy};
 use bw_memory::Alloc;
 use std::process::Abort;

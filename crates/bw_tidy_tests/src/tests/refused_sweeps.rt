@@ -158,3 +158,10 @@ fn batches_meet_each_refusal_beside_a_consolidation_and_before_a_sweep(rt: HostR
     let alloc = heap(rt.alloc()).expect(&rt, "a heap");
     refuse_in_turn(&rt, &make, alloc, swept(&rt, 6, 6).with_beside(true));
 }
+
+#[test]
+fn batches_and_sweeps_meet_each_refusal_with_consolidation_beside(rt: HostRuntime) {
+    let make = Maker::new(&rt, rt.alloc());
+    let alloc = heap(rt.alloc()).expect(&rt, "a heap");
+    refuse_in_turn(&rt, &make, alloc, swept(&rt, 8, 3).with_beside(true));
+}

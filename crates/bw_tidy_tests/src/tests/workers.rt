@@ -133,9 +133,14 @@ fn more_workers_than_there_are_pages_for_come_to_the_pages_of_one(rt: HostRuntim
     compare(&rt, &make, 64, AMPLE);
 }
 
-// An index of four workers that ran these batches.
-fn filled<R: Abort + Threads + Sync>(rt: &R, make: &Maker<R>, batches: &[Vec<Op, Alloc>]) -> Index {
-    let mut index = empty(rt, make, 4, AMPLE);
+// An index of so many workers that ran these batches.
+fn filled<R: Abort + Threads + Sync>(
+    rt: &R,
+    make: &Maker<R>,
+    workers: u64,
+    batches: &[Vec<Op, Alloc>],
+) -> Index {
+    let mut index = empty(rt, make, workers, AMPLE);
     for ops in batches {
         index.run(rt, ops, &OpenGate).expect(rt, "memory");
     }
@@ -159,7 +164,7 @@ fn count_growths<R: Abort + Threads + Sync>(
     before: &[Vec<Op, Alloc>],
     ops: &[Op],
 ) -> u64 {
-    let mut index = filled(rt, make, before);
+    let mut index = filled(rt, make, 4, before);
     make.alloc.refuse(0);
     index.run(rt, ops, &OpenGate).expect(rt, "memory");
     make.alloc.left().wrapping_neg()
@@ -174,7 +179,7 @@ fn comes_to<R: Abort + Threads + Sync>(
     wanted: &[PageShape],
     growth: u64,
 ) {
-    let mut index = filled(rt, make, before);
+    let mut index = filled(rt, make, 4, before);
     make.alloc.refuse(growth);
     run_again(rt, &mut index, ops);
     make.alloc.refuse(0);
@@ -198,7 +203,7 @@ fn refuse_some<R: Abort + Threads + Sync>(
     before: &[Vec<Op, Alloc>],
     ops: &[Op],
 ) {
-    let mut index = filled(rt, make, before);
+    let mut index = filled(rt, make, 4, before);
     run_again(rt, &mut index, ops);
     let wanted = index.tree().shape().expect(rt, "memory");
     let step = count_growths(rt, make, before, ops) / TRIES;
@@ -227,4 +232,58 @@ fn pages_are_the_same_behind_a_growth_that_was_refused(rt: HostRuntime) {
 fn fewer_pages_are_the_same_behind_a_growth_that_was_refused(rt: HostRuntime) {
     let make = Maker::new(&rt, rt.alloc());
     refuse_some_of(&rt, &make, true);
+}
+
+// Whether tidying stopped behind a batch of so many workers, where this growth is refused, if the batch stands.
+fn stands<R: Abort + Threads + Sync>(
+    rt: &R,
+    make: &Maker<R>,
+    workers: u64,
+    before: &[Vec<Op, Alloc>],
+    ops: &[Op],
+    growth: u64,
+) -> Option<bool> {
+    let mut index = filled(rt, make, workers, before);
+    make.alloc.refuse(growth);
+    let outcome = index.run(rt, ops, &OpenGate);
+    make.alloc.refuse(0);
+    match outcome {
+        Ok(done) => Some(done.tidy.stopped),
+        Err(_) => None,
+    }
+}
+
+// The first growth that may be refused so that the batch stands: the first one of tidying. Whether tidying stopped there.
+fn first_of_tidying<R: Abort + Threads + Sync>(
+    rt: &R,
+    make: &Maker<R>,
+    workers: u64,
+    before: &[Vec<Op, Alloc>],
+    ops: &[Op],
+) -> (u64, bool) {
+    for growth in 1..4096u64 {
+        if let Some(stopped) = stands(rt, make, workers, before, ops, growth) {
+            return (growth, stopped);
+        }
+    }
+    panic!(rt; "each batch was refused");
+}
+
+// Where workers consolidate leaves, three lists are made first, and one thread does all where one of them finds no memory. One
+// worker makes no such list, and stops at the first growth that it is refused.
+#[test]
+fn one_thread_goes_on_where_a_list_finds_no_memory(rt: HostRuntime) {
+    let make = Maker::new(&rt, rt.alloc());
+    let mut random = Random::new(20130411);
+    let before = upserts(&rt, &make, &mut random);
+    let ops = batch(&rt, &make, &mut random, false);
+    let (first, stopped) = first_of_tidying(&rt, &make, 4, &before, &ops);
+    assert_that(&rt, !stopped);
+    for more in 1..3u64 {
+        let growth = first.saturating_add(more);
+        let stopped = stands(&rt, &make, 4, &before, &ops, growth);
+        assert_equal(&rt, stopped, Some(false));
+    }
+    let (_, stopped) = first_of_tidying(&rt, &make, 1, &before, &ops);
+    assert_that(&rt, stopped);
 }
