@@ -1,3 +1,4 @@
 pub mod Points
 pub mod Homes
 pub mod Ranks
+pub mod FoundRuns

@@ -11,15 +11,18 @@ ghost use Rattle.bw_tree.specs.Levels.{IsOneHome, row};
 ghost use Rattle.bw_tree.specs.Slots.{slot_at};
 ghost use Rattle.bw_tree.specs.Scans.{high_of};
 ghost use Rattle.bw_group.specs.Points.{entries_in, entries_of, key_at, place_at};
+ghost use Rattle.bw_group.specs.FoundRuns.{IsFoundRun};
 ghost use Rattle.bw_group.specs.Homes.{AreHomes, HasPageAt, IsPageAt, number_of, with_number};
 ghost use Rattle.bw_group.specs.declared.points.Point.{Point};
 
+use crate::found_runs::{FoundRun, find_runs};
 use crate::grouping::Grouping;
 use crate::points::Point;
 use bw_key::{Key, Memory};
 use bw_memory::Alloc;
 use bw_tree::{PageId, Routes, Tree};
 use std::marker::Model;
+use std::thread::Threads;
 
 /// The homes of a batch: the pages of its keys, in the order of the keys and none twice, and for each operation that
 /// has a key the number of its page among them. So whoever works on the pages of a batch has lists as long as the
@@ -101,25 +104,46 @@ impl Homes {
     }
 }
 
-/// Finds the page of each operation's key: the tree's `route`.
+/// Finds the page of each operation's key, the tree's `route`, by up to so many workers: one for each 4,096 keys at the most.
 ///
-/// It searches for each leaf once that has a key of the batch, in the order of the keys, so that a search goes on from
-/// the separator of the one before it (`Routes`). `Memory` is answered where a list finds none.
-pub fn find_homes(alloc: Alloc, tree: &Tree, batch: &Grouping<'_>) -> Result<Homes, Memory>
+/// It searches for each leaf that has a key of the batch, in the order of the keys, so that a search goes on from the
+/// separator of the one before it (`Routes`). Two workers or more search side by side, each in a thread of its own where one
+/// can be made, and that costs a place in two lists for each leaf. `Memory` is answered where a list finds none.
+pub fn find_homes<R: Threads + Sync>(
+    rt: &R,
+    alloc: Alloc,
+    tree: &Tree,
+    batch: &Grouping<'_>,
+    workers: u64,
+) -> Result<Homes, Memory>
     ensures { IfOk result (AreHomes tree.now batch.now.ops) }
 {
+    let points = &batch.points;
+    let runs = find_runs(rt, alloc, tree, points, workers)?;
+    let found = runs.as_slice();
     let mut pages = Vec::new(alloc);
     let mut numbers = no_numbers(alloc, batch.ops.len())?;
-    let points = &batch.points;
     let mut routes = Routes::new(tree.look());
+    let mut next = 0;
     let mut start = 0;
     while start < points.len() {
-        let (page, end) = find_run(tree, &mut routes, points, start);
+        next = first_from(found, next, start);
+        let (page, end) = run_at(tree, &mut routes, points, start, found.get(next));
         set_numbers(&mut numbers, &points[start..end], pages.len());
         pages.push(page)?;
         start = end;
     }
     Ok(Homes { pages, numbers })
+}
+
+// The number of the first one of these runs, from one on, that begins at a place or behind it.
+fn first_from(found: &[FoundRun], next: usize, place: usize) -> usize {
+    for number in next..found.len() {
+        if found[number].start >= place {
+            return number;
+        }
+    }
+    found.len()
 }
 
 // Number 0 for each of so many operations, until its page is found.
@@ -143,9 +167,39 @@ fn set_numbers(numbers: &mut [usize], points: &[Point<'_>], number: usize)
     }
 }
 
-// The run of points that begins at `start`: their page, on which they all are at home, and where the run ends. It costs
-// a search for the page, and for each point of the run a comparison of its key with the page's end, mostly of numbers.
-fn find_run(
+// The run of points that begins at `start`: this one that was found, if it begins there, and else by a search.
+fn run_at(
+    tree: &Tree,
+    routes: &mut Routes<'_>,
+    points: &[Point<'_>],
+    start: usize,
+    found: Option<&FoundRun>,
+) -> (PageId, usize)
+    requires tree { routes.old.tree ≡ tree.now }
+    requires start { start < length points.now }
+    requires sorted { IsSortedBy (λ d e. is_lt (key_cmp d.0 e.0)) (entries_of points.now) }
+    requires found { IfSome found (λ run. IsFoundRun tree.now points.now run.now) }
+    ensures tree { routes.new.tree ≡ tree.now }
+    ensures there { result.0 < length tree.now.heads }
+    ensures leaf { Contains (row tree.now.levels 0) result.0 }
+    ensures more { start < result.1 }
+    ensures bound { result.1 ≤ length points.now }
+    ensures homes { let run = entries_in points.now start result.1 in
+        AllByRecursion (λ e. IsOneHome tree.now.slots tree.now.levels e.0 result.0) run }
+    ensures whole { result.1 < length points.now → (d : Point) →
+        is_below_end (high_of (slot_at tree.now.slots result.0)) (key_at points.now result.1 d) ≡ false }
+{
+    if let Some(run) = found {
+        if run.start == start {
+            return (run.page, run.end);
+        }
+    }
+    find_run(tree, routes, points, start)
+}
+
+/// The run of points that begins at `start`: their page, on which they all are at home, and where the run ends. It costs
+/// a search for the page, and for each point of the run a comparison of its key with the page's end, mostly of numbers.
+pub(crate) fn find_run(
     tree: &Tree,
     routes: &mut Routes<'_>,
     points: &[Point<'_>],

@@ -4,6 +4,7 @@
 //! operations of one page follow one another, so that each page is searched for once.
 #![tactic(auto)]
 
+mod found_runs;
 mod grouping;
 mod homes;
 mod points;

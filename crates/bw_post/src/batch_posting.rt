@@ -65,7 +65,7 @@ pub fn post_all<R: Threads + Sync, G: Gate>(
     ensures folded { IfOk result (λ posting. posting.folded.items ≡ []) }
 {
     let staged = tree.staged().unwrap();
-    let homes = find_homes(alloc, tree, batch)?;
+    let homes = find_homes(rt, alloc, tree, batch, workers)?;
     let pages = written_pages(alloc, &homes, staged.records)?;
     post_over(rt, alloc, tree, homes, pages, &[], piece, workers, gate)
 }
@@ -98,7 +98,7 @@ pub fn post_beside<R: Threads + Sync, G: Gate>(
 {
     tree.know_levels();
     tree.know_records();
-    let homes = find_homes(alloc, tree, batch)?;
+    let homes = find_homes(rt, alloc, tree, batch, workers)?;
     let pages = Vec::from_slice(alloc, homes.pages())?;
     let spares = ripe_spares(tree, &pages, chain_max)?;
     post_over(rt, alloc, tree, homes, pages, &spares, piece, workers, gate)

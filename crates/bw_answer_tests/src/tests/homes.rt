@@ -28,7 +28,7 @@ fn each_key_has_its_home_at_its_place(rt: HostRuntime) {
     let alloc = heap(rt.alloc()).expect(&rt, "memory");
     let tree = three(&rt, alloc);
     let ops = six_reads(&rt, alloc);
-    let homes = homes_of(alloc, &tree, &ops).expect(&rt, "memory");
+    let homes = homes_of(&rt, alloc, &tree, &ops, 1).expect(&rt, "memory");
     are_homes(&rt, &homes);
 }
 
@@ -39,7 +39,7 @@ fn each_growth_of_homes_is_refused(rt: HostRuntime) {
     let ops = six_reads(&rt, alloc);
     for growth in 1..100 {
         alloc.refuse(growth);
-        let homes = homes_of(alloc, &tree, &ops);
+        let homes = homes_of(&rt, alloc, &tree, &ops, 1);
         if !was_refused(alloc, growth) {
             are_homes(&rt, &homes.expect(&rt, "memory"));
             assert_that(&rt, growth > 2);

@@ -116,7 +116,7 @@ pub fn replies_by_workers<R: Threads + Sync>(
     requires few { length ops.now ≤ 20000 }
 {
     let batch = Grouping::new(alloc, ops)?;
-    let homes = find_homes(alloc, tree, &batch)?;
+    let homes = find_homes(rt, alloc, tree, &batch, workers)?;
     replies(rt, alloc, tree, 0, &batch, &homes, workers)
 }
 
@@ -134,15 +134,21 @@ pub fn replies_by_parts<R: Threads + Sync>(
     requires count { 0 < count }
 {
     let batch = Grouping::new(alloc, ops)?;
-    let homes = find_homes(alloc, tree, &batch)?;
+    let homes = find_homes(rt, alloc, tree, &batch, 1)?;
     replies_in_parts(rt, alloc, tree, 0, &batch, &homes, count)
 }
 
-/// The homes of a batch.
-pub fn homes_of(alloc: Alloc, tree: &Tree, ops: &[Op]) -> Result<Homes, Memory>
+/// The homes of a batch, by so many workers.
+pub fn homes_of<R: Threads + Sync>(
+    rt: &R,
+    alloc: Alloc,
+    tree: &Tree,
+    ops: &[Op],
+    workers: u64,
+) -> Result<Homes, Memory>
     requires { length ops.now ≤ 5000 }
     ensures { IfOk result (AreHomes tree.now ops.now) }
 {
     let batch = Grouping::new(alloc, ops)?;
-    find_homes(alloc, tree, &batch)
+    find_homes(rt, alloc, tree, &batch, workers)
 }
