@@ -204,7 +204,7 @@ fn program<'a>(global: Global) -> Result<Command<'a>, AllocError>
 {
     let stats = "Tell on standard error how much was run, and how fast";
     let beside =
-        "Let workers consolidate leaves before they post: pays a little where writes spread over many leaves";
+        "Let workers consolidate leaves before they post: less tidying behind a batch, and more work in all";
     let command = Command::new(global, "bw_run")
         .about(ABOUT)
         .after_help(AFTER)
