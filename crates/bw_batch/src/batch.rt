@@ -123,7 +123,7 @@ fn answer_staged<R: Threads + Sync, G: Gate>(
     tree.adopt_folded(pages, closed, folded);
     let base = tree.next_stamp();
     let replies = replies(rt, alloc, tree, base, batch, &homes, workers)?;
-    due.add_posted(tree, posted, &leaves)?;
+    due.add(tree, posted, &leaves)?;
     Ok(Answered {
         replies,
         lost,

@@ -38,7 +38,7 @@ pub struct Done {
 
 /// An ordered index from keys to values, changed in batches: a tree whose pages are base pages and the chains of the
 /// writes since (ICDE 2013). Behind each batch the pages that it wrote to are consolidated and split where they are over a
-/// limit, and a sweep starts records and stamps over before they would pass their ends.
+/// limit, and merged where they have few entries; a sweep starts records and stamps over before they would pass their ends.
 pub struct Index {
     options: Options,
     alloc: Alloc,
@@ -157,7 +157,8 @@ impl Index {
     /// all else is too, unless a sweep was due.
     ///
     /// A sweep is due where the operations would pass the 2^40th stamp, or with their records more than `record_max`. Before
-    /// the batch it consolidates every page that has records, and starts records and stamps over.
+    /// the batch it consolidates every page that has records, and starts records and stamps over. Leaves of which it leaves few
+    /// pairs are merged behind the batch, though that doesn't write to them.
     ///
     /// The writes are posted by up to `workers` threads side by side, which `rt` starts, and `gate` is called round the
     /// posting of each. They are numbered in the order of the batch, from 0. Where the options ask for it
@@ -195,7 +196,7 @@ impl Index {
             leaves_of self.new.pages ≡ leaves_of self.old.pages) }
         ensures kept { OnErr result (leaves_of self.new.pages ≡ leaves_of self.old.pages) }
 
-        // Where tidying didn't stop, no page is due any more.
+        // Where tidying didn't stop, the list of pages that are due is empty: no leaf is over a limit.
         ensures tidied { IfOk result (λ done. done.tidy.stopped ≡ false → self.new.due ≡ []) }
 
         // An exchange is lost to another write, or to a leaf that was consolidated beside it.

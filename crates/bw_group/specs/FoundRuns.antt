@@ -18,7 +18,8 @@ pub record IsFoundRun (tree : TreeView) (points : List Point) (run : FoundRun) :
   pub more : run.start < run.end
   pub bound : run.end ≤ length points
   pub homes : AllByRecursion (λ e. IsOneHome tree.slots tree.levels e.0 run.page) (entries_in points run.start run.end)
-  pub whole : run.end < length points → (d : Point) → is_below_end (high_of (slot_at tree.slots run.page)) (key_at points run.end d) ≡ false
+  pub whole : run.end < length points → (d : Point) →
+      is_below_end (high_of (slot_at tree.slots run.page)) (key_at points run.end d) ≡ false
 
 -- so are all runs that were found in a part
 abbrev pub AreFoundIn : TreeView → List Point → Part → Type 0

@@ -109,10 +109,10 @@ fn search_part(tree: &Tree, points: &[Point<'_>], part: &mut Part)
     let mut routes = Routes::new(tree.look());
     let mut start = part.start;
     while start < stop {
-        let (page, end) = find_run(tree, &mut routes, points, start);
-        if part.runs.push(FoundRun { start, page, end }).is_err() {
+        let run = find_run(tree, &mut routes, points, start);
+        start = run.end;
+        if part.runs.push(run).is_err() {
             return;
         }
-        start = end;
     }
 }

@@ -128,10 +128,10 @@ pub fn find_homes<R: Threads + Sync>(
     let mut start = 0;
     while start < points.len() {
         next = first_from(found, next, start);
-        let (page, end) = run_at(tree, &mut routes, points, start, found.get(next));
-        set_numbers(&mut numbers, &points[start..end], pages.len());
-        pages.push(page)?;
-        start = end;
+        let run = run_at(tree, &mut routes, points, start, found.get(next));
+        set_numbers(&mut numbers, &points[start..run.end], pages.len());
+        pages.push(run.page)?;
+        start = run.end;
     }
     Ok(Homes { pages, numbers })
 }
@@ -174,24 +174,18 @@ fn run_at(
     points: &[Point<'_>],
     start: usize,
     found: Option<&FoundRun>,
-) -> (PageId, usize)
+) -> FoundRun
     requires tree { routes.old.tree ≡ tree.now }
     requires start { start < length points.now }
     requires sorted { IsSortedBy (λ d e. is_lt (key_cmp d.0 e.0)) (entries_of points.now) }
     requires found { IfSome found (λ run. IsFoundRun tree.now points.now run.now) }
     ensures tree { routes.new.tree ≡ tree.now }
-    ensures there { result.0 < length tree.now.heads }
-    ensures leaf { Contains (row tree.now.levels 0) result.0 }
-    ensures more { start < result.1 }
-    ensures bound { result.1 ≤ length points.now }
-    ensures homes { let run = entries_in points.now start result.1 in
-        AllByRecursion (λ e. IsOneHome tree.now.slots tree.now.levels e.0 result.0) run }
-    ensures whole { result.1 < length points.now → (d : Point) →
-        is_below_end (high_of (slot_at tree.now.slots result.0)) (key_at points.now result.1 d) ≡ false }
+    ensures start { result.start ≡ start }
+    ensures found { IsFoundRun tree.now points.now result }
 {
     if let Some(run) = found {
         if run.start == start {
-            return (run.page, run.end);
+            return *run;
         }
     }
     find_run(tree, routes, points, start)
@@ -204,23 +198,18 @@ pub(crate) fn find_run(
     routes: &mut Routes<'_>,
     points: &[Point<'_>],
     start: usize,
-) -> (PageId, usize)
+) -> FoundRun
     requires tree { routes.old.tree ≡ tree.now }
     requires start { start < length points.now }
     requires sorted { IsSortedBy (λ d e. is_lt (key_cmp d.0 e.0)) (entries_of points.now) }
     ensures tree { routes.new.tree ≡ tree.now }
-    ensures there { result.0 < length tree.now.heads }
-    ensures leaf { Contains (row tree.now.levels 0) result.0 }
-    ensures more { start < result.1 }
-    ensures bound { result.1 ≤ length points.now }
-    ensures homes { let run = entries_in points.now start result.1 in
-        AllByRecursion (λ e. IsOneHome tree.now.slots tree.now.levels e.0 result.0) run }
-    ensures whole { result.1 < length points.now → (d : Point) →
-        is_below_end (high_of (slot_at tree.now.slots result.0)) (key_at points.now result.1 d) ≡ false }
+    ensures start { result.start ≡ start }
+    ensures found { IsFoundRun tree.now points.now result }
 {
     tree.know_homes();
     let page = routes.route(points[start].key);
-    (page, run_end(points, start, routes.end()))
+    let end = run_end(points, start, routes.end());
+    FoundRun { start, page, end }
 }
 
 // Where the run of points below an end stops that begins at `start`: at the first point behind it that isn't below.

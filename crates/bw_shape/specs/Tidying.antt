@@ -13,13 +13,20 @@ use Rattle.bw_shape.specs.Limits.{LimitsView, AreWithinBut}
 -- The pages that are to be looked at, the next one last; the inner pages to look at behind those, the first one first;
 -- and the page whose right neighbours the level above may not name yet, or that it may still name though it was removed, or
 -- whose identifier may be left to be given back, if there is one. Leaves that are begun are among the pages, were consolidated
--- and may be left to be merged; marked leaves are to be looked at the next time.
+-- and may be left to be merged. Later inner pages and marked leaves are to be looked at the next time, and so is the first leaf
+-- under a page that is to be merged, once it was.
 pub record DueView : Type 0 where
   pub pages : List ℕ
   pub above : List ℕ
+  pub later : List ℕ
   pub begun : List ℕ
   pub marked : List ℕ
+  pub moving : Option ℕ
   pub unfinished : Option ℕ
+
+-- nothing is to be looked at
+abbrev pub no_due : DueView
+no_due = record { pages = []; above = []; later = []; begun = []; marked = []; moving = None; unfinished = None }
 
 -- The tree holds what it held as of its next stamp, which is the same, and nothing is staged. It has no fewer records; where it
 -- has no more, its leaves are the same, with the same ranges: each split puts a record, and each merge two.
@@ -36,6 +43,10 @@ pub record HasBoth (pages more both : List ℕ) : Type 0 where
   pub right : (p : ℕ) → Contains more p → Contains both p
   pub only : (p : ℕ) → Contains both p → Contains pages p ⊎ Contains more p
 
+-- these pages are among those
+abbrev pub AreAmong : List ℕ → List ℕ → Type 0
+AreAmong few pages = (p : ℕ) → Contains few p → Contains pages p
+
 -- whatever the limits are, each leaf is within them or to be looked at, if that was so
 abbrev pub KeepsWithin : TreeView → TreeView → List ℕ → List ℕ → Type 0
 KeepsWithin old new due due' = (limits : LimitsView) → AreWithinBut limits old due → AreWithinBut limits new due'
@@ -51,13 +62,7 @@ HasNoneDue due = HasNoPage due × (due.unfinished ≡ None)
 -- the leaves are to be looked at in the order of keys, and behind them the inner pages, the lowest level first
 abbrev pub AreAllPages : TreeView → DueView → Type 0
 AreAllPages tree due =
-    due ≡ record {
-      pages = reverse (row tree.levels 0);
-      above = concat (drop 1 tree.levels);
-      begun = [];
-      marked = [];
-      unfinished = None;
-    }
+    due ≡ record no_due { pages = reverse (row tree.levels 0); above = concat (drop 1 tree.levels) }
 
 -- The splits of p are finished: its right neighbours have their index entries on a page that is due, or none of them lacked
 -- one, and a root that was split has a root above it.

@@ -3,12 +3,14 @@ ghost use Rattle.std.specs.Prelude.{◌≡◌, ℕ, ◌+◌, ◌<◌, ◌≤◌,
 ghost use Rattle.std.specs.List.{Contains};
 ghost use Rattle.bw_tree.specs.TreeSplits.{IsSplittable};
 ghost use Rattle.bw_steps.specs.Releasing.{AreFreed, IsLeftOut, IsLeftToFree};
-ghost use Rattle.bw_shape.specs.Tidying.{HasBoth, HasFinished, HasNoPage, HoldsAll, KeepsWithin};
+ghost use Rattle.bw_shape.specs.Tidying.{AreAmong, HasBoth, HasFinished, HasNoPage, HoldsAll, KeepsWithin, no_due};
 ghost use Rattle.bw_shape.specs.Visits.{IsNext, IsNextBefore, IsSplitNext};
 
+use crate::limits::Limits;
 use crate::page_lists::{
     by_low_key, first_below, least_level, mark, pages_on, pages_over, sort_by_low_key,
 };
+use crate::visits::may_merge;
 use bw_key::Memory;
 use bw_memory::Alloc;
 use bw_page::PageId;
@@ -46,8 +48,10 @@ impl Model for Due {
     ghost view = { λ d. record {
       pages = d.pages.items;
       above = d.above.items;
+      later = d.later.items;
       begun = d.begun.items;
       marked = d.marked.items;
+      moving = d.moving;
       unfinished = d.unfinished;
     } };
 }
@@ -55,7 +59,7 @@ impl Model for Due {
 impl Due {
     /// No page.
     pub fn new(alloc: Alloc) -> Due
-        ensures { result ≡ record { pages = []; above = []; begun = []; marked = []; unfinished = None } }
+        ensures { result ≡ no_due }
     {
         Due {
             pages: Vec::new(alloc),
@@ -70,31 +74,36 @@ impl Due {
 
     /// These leaves are due and, once they were looked at, these inner pages, and no others any more.
     pub(crate) fn set_pages(&mut self, mut leaves: Vec<PageId, Alloc>, inner: Vec<PageId, Alloc>)
-        ensures pages { self.new.pages ≡ reverse leaves.entry.items }
-        ensures above { self.new.above ≡ inner.entry.items }
-        ensures begun { self.new.begun ≡ self.old.begun }
-        ensures marked { self.new.marked ≡ self.old.marked }
-        ensures unfinished { self.new.unfinished ≡ self.old.unfinished }
+        ensures { self.new ≡ record self.old { pages = reverse leaves.entry.items; above = inner.entry.items } }
     {
         leaves.reverse();
         self.pages = leaves;
         self.above = inner;
     }
 
-    /// Adds pages of the tree that come in the order of the keys at which they begin. Where others are due already all of them
-    /// are sorted, so that they are looked at in that order, each once. It takes no memory where no page is added or none was
-    /// due. After `Memory` all is as before.
-    pub fn add(&mut self, tree: &Tree, pages: Vec<PageId, Alloc>) -> Result<(), Memory>
+    /// Adds pages of the tree that come in the order of the keys at which they begin, and marks leaves that were consolidated:
+    /// where these have few pairs, and a left neighbour under the same page, the next tidying merges them. Where other pages are
+    /// due already all of them are sorted, so that they are looked at in that order, each once. It costs the sorting of the
+    /// leaves, too, with those that were marked since the last tidying. It takes no memory where no page is added or none was
+    /// due, and no leaf is marked. After `Memory` all is as before.
+    pub fn add(
+        &mut self,
+        tree: &Tree,
+        pages: Vec<PageId, Alloc>,
+        consolidated: &[PageId],
+    ) -> Result<(), Memory>
         ensures ok { OnOk result (HasBoth pages.entry.items self.old.pages self.new.pages) }
         ensures alone { self.old.pages ≡ [] → OnOk result (self.new.pages ≡ reverse pages.entry.items) }
-        ensures rest { (self.new.above ≡ self.old.above) × (self.new.unfinished ≡ self.old.unfinished) }
-        ensures err { OnErr result (self.new.pages ≡ self.old.pages) }
+        ensures marked { OnOk result (HasBoth self.old.marked consolidated.now self.new.marked) }
+        ensures rest { self.new ≡ record self.old { pages = self.new.pages; marked = self.new.marked } }
+        ensures err { OnErr result (self.new ≡ self.old) }
     {
         if pages.is_empty() {
-            return Ok(());
+            return self.mark(consolidated);
         }
         let mut pages = self.joined(tree, pages)?;
         pages.reverse();
+        self.mark(consolidated)?;
         self.pages = pages;
         Ok(())
     }
@@ -131,7 +140,8 @@ impl Due {
 
     /// Whether leaves among them were consolidated where tidying stopped before they were split or merged.
     pub fn has_leaves_begun(&self) -> bool
-        ensures { result ≡ false → self.now.begun ≡ [] }
+        ensures none { result ≡ false → self.now.begun ≡ [] }
+        ensures some { result ≡ true → self.now.begun ≡ [] → ⊥ }
     {
         !self.begun.is_empty()
     }
@@ -139,10 +149,8 @@ impl Due {
     /// These pages are due in place of those that were, the next one last. Of them these leaves were consolidated, and are to be
     /// split or merged, if need be: they stand in the same order.
     pub fn keep(&mut self, left: Vec<PageId, Alloc>, begun: Vec<PageId, Alloc>)
-        ensures pages { self.new.pages ≡ left.entry.items }
-        ensures begun { self.new.begun ≡ begun.entry.items }
-        ensures marked { self.new.marked ≡ self.old.marked }
-        ensures rest { (self.new.above ≡ self.old.above) × (self.new.unfinished ≡ self.old.unfinished) }
+        requires { AreAmong begun.items left.items }
+        ensures { self.new ≡ record self.old { pages = left.entry.items; begun = begun.entry.items } }
     {
         self.pages = left;
         self.begun = begun;
@@ -178,11 +186,12 @@ impl Due {
         Ok(Some(next))
     }
 
-    /// The pages that were left for the next time are looked at this time, with those that a stop left, each once. It costs the
-    /// sorting of these pages.
+    /// The pages that were left for the next time are looked at this time, with those that a stop left, each once: of the leaves
+    /// that were marked those that may be merged. It costs the sorting of these pages, and a look at each marked leaf.
     #[tactic(auto, using(crate::proofs::TidyLemmas::kept_alike))]
-    pub(crate) fn begin(&mut self, tree: &Tree) -> Result<(), Memory>
+    pub(crate) fn begin(&mut self, tree: &Tree, limits: &Limits) -> Result<(), Memory>
         ensures within { KeepsWithin tree.now tree.now self.old.pages self.new.pages }
+        ensures none { OnOk result ((self.new.later ≡ []) × (self.new.marked ≡ [])) }
         ensures unfinished { self.new.unfinished ≡ self.old.unfinished }
     {
         self.above.extend_from_slice(&self.later)?;
@@ -192,17 +201,24 @@ impl Due {
         if self.marked.is_empty() {
             return Ok(());
         }
-        self.begin_marked(tree)
+        self.begin_marked(tree, limits)
     }
 
-    // Leaves that were marked are due, if they have few pairs, as those are that were consolidated before a stop. All of these
+    // Leaves that were marked are due, if they may be merged, as those are that were consolidated before a stop. All of these
     // stand in the order of the pages.
     #[tactic(auto, using(crate::proofs::TidyLemmas::kept_more))]
-    fn begin_marked(&mut self, tree: &Tree) -> Result<(), Memory>
+    fn begin_marked(&mut self, tree: &Tree, limits: &Limits) -> Result<(), Memory>
         ensures within { KeepsWithin tree.now tree.now self.old.pages self.new.pages }
+        ensures none { OnOk result (self.new.marked ≡ []) }
+        ensures later { self.new.later ≡ self.old.later }
         ensures unfinished { self.new.unfinished ≡ self.old.unfinished }
     {
-        let mut leaves = Vec::from_slice(self.alloc(), &self.marked)?;
+        let mut leaves = self
+            .marked
+            .iter()
+            .filter(|leaf| may_merge(tree, limits, **leaf))
+            .copied()
+            .collect::<Vec<PageId, Alloc>>(self.alloc())?;
         for leaf in &leaves {
             self.put_among(tree, *leaf)?;
         }
@@ -228,7 +244,7 @@ impl Due {
     // pages for each comparison.
     fn put_among(&mut self, tree: &Tree, leaf: PageId) -> Result<(), Memory>
         ensures kept { (p : ℕ) → Contains self.old.pages p → Contains self.new.pages p }
-        ensures unfinished { self.new.unfinished ≡ self.old.unfinished }
+        ensures rest { self.new ≡ record self.old { pages = self.new.pages } }
     {
         let found = self
             .pages
@@ -239,36 +255,11 @@ impl Due {
         Ok(())
     }
 
-    /// Adds pages to which a batch could post, as `add` does, and marks leaves that were consolidated beside its posting: where
-    /// these have few pairs, and a left neighbour under the same page, the next tidying merges them. It costs the sorting of
-    /// the pages, and of the leaves that were marked since the last one. After `Memory` all is as before.
-    pub fn add_posted(
-        &mut self,
-        tree: &Tree,
-        pages: Vec<PageId, Alloc>,
-        consolidated: &[PageId],
-    ) -> Result<(), Memory>
-        ensures ok { OnOk result (HasBoth pages.entry.items self.old.pages self.new.pages) }
-        ensures marked { OnOk result (HasBoth self.old.marked consolidated.now self.new.marked) }
-        ensures rest { (self.new.above ≡ self.old.above) × (self.new.unfinished ≡ self.old.unfinished) }
-        ensures err { OnErr result (self.new ≡ self.old) }
-    {
-        if pages.is_empty() {
-            return self.mark(consolidated);
-        }
-        let mut pages = self.joined(tree, pages)?;
-        pages.reverse();
-        self.mark(consolidated)?;
-        self.pages = pages;
-        Ok(())
-    }
-
     // These leaves are due the next time, if they have few pairs then.
     fn mark(&mut self, leaves: &[PageId]) -> Result<(), Memory>
         ensures ok { OnOk result (HasBoth self.old.marked leaves.now self.new.marked) }
+        ensures rest { self.new ≡ record self.old { marked = self.new.marked } }
         ensures err { OnErr result (self.new ≡ self.old) }
-        ensures pages { self.new.pages ≡ self.old.pages }
-        ensures rest { (self.new.above ≡ self.old.above) × (self.new.unfinished ≡ self.old.unfinished) }
     {
         if leaves.is_empty() {
             return Ok(());
@@ -283,8 +274,9 @@ impl Due {
     pub(crate) fn put_off(&mut self, page: PageId) -> Result<(), Memory>
         requires { IsNext self.old.pages page }
         ensures ok { OnOk result (self.old.pages ≡ self.new.pages ++ page ∷ []) }
-        ensures err { OnErr result (self.new.pages ≡ self.old.pages) }
-        ensures unfinished { self.new.unfinished ≡ self.old.unfinished }
+        ensures above { OnOk result (self.new.above ≡ self.old.above ++ page ∷ []) }
+        ensures rest { self.new ≡ record self.old { pages = self.new.pages; above = self.new.above } }
+        ensures err { OnErr result (self.new ≡ self.old) }
     {
         self.above.push(page)?;
         self.pages.pop();
@@ -294,9 +286,7 @@ impl Due {
     /// A page is to be merged into its left neighbour. Its first child gets a left neighbour under the same page then, and is
     /// looked at the next time. It costs a search.
     pub(crate) fn mark_later(&mut self, tree: &Tree, page: PageId, level: u32) -> Result<(), Memory>
-        ensures pages { self.new.pages ≡ self.old.pages }
-        ensures above { self.new.above ≡ self.old.above }
-        ensures unfinished { self.new.unfinished ≡ self.old.unfinished }
+        ensures { self.new ≡ record self.old { later = self.new.later; moving = self.new.moving } }
     {
         self.moving = None;
         if level == 0 {
@@ -316,7 +306,7 @@ impl Due {
     /// The next page was looked at.
     pub(crate) fn pass(&mut self)
         ensures pages { (p : ℕ) → IsNext self.old.pages p → self.old.pages ≡ self.new.pages ++ p ∷ [] }
-        ensures unfinished { self.new.unfinished ≡ self.old.unfinished }
+        ensures rest { self.new ≡ record self.old { pages = self.new.pages; begun = self.new.begun } }
     {
         if let Some(page) = self.pages.pop() {
             self.end_leaf(page);
@@ -341,14 +331,17 @@ impl Due {
     }
 
     /// Whether the next page is a leaf that was consolidated before tidying stopped: then it is due still.
-    pub(crate) fn has_begun(&self, page: PageId) -> bool {
+    pub(crate) fn has_begun(&self, page: PageId) -> bool
+        ensures { result ≡ true → IsNext self.now.begun page }
+    {
         self.begun.last().copied() == Some(page)
     }
 
     /// The next page, a leaf, is to be consolidated.
     pub(crate) fn begin_leaf(&mut self, page: PageId) -> Result<(), Memory>
-        ensures pages { self.new.pages ≡ self.old.pages }
-        ensures unfinished { self.new.unfinished ≡ self.old.unfinished }
+        ensures ok { OnOk result (IsNext self.new.begun page) }
+        ensures rest { self.new ≡ record self.old { begun = self.new.begun } }
+        ensures err { OnErr result (self.new ≡ self.old) }
     {
         if !self.has_begun(page) {
             self.begun.push(page)?;
@@ -359,9 +352,7 @@ impl Due {
     /// The page, if it is a leaf that was consolidated, need not be merged any more, and where it is to be split it is over a
     /// limit.
     pub(crate) fn end_leaf(&mut self, page: PageId)
-        ensures pages { self.new.pages ≡ self.old.pages }
-        ensures above { self.new.above ≡ self.old.above }
-        ensures unfinished { self.new.unfinished ≡ self.old.unfinished }
+        ensures { self.new ≡ record self.old { begun = self.new.begun } }
     {
         if self.has_begun(page) {
             self.begun.pop();
@@ -377,9 +368,7 @@ impl Due {
 
     /// The splits or the merge of this page may not be finished yet, or its identifier is left to be given back, or of none.
     pub(crate) fn set_unfinished(&mut self, unfinished: Option<PageId>)
-        ensures pages { self.new.pages ≡ self.old.pages }
-        ensures above { self.new.above ≡ self.old.above }
-        ensures unfinished { self.new.unfinished ≡ unfinished }
+        ensures { self.new ≡ record self.old { unfinished = unfinished } }
     {
         self.unfinished = unfinished;
     }

@@ -52,7 +52,7 @@ fn visit_all(
     ensures all { OnOk result (HasNoneDue due.new) }
 {
     go_on(tree, due)?;
-    due.begin(tree)?;
+    due.begin(tree, limits)?;
     visit_levels(tree, limits, due, counts)?;
     lower(tree, due)?;
     forget_free(tree);

@@ -111,8 +111,8 @@ fn is_due(tree: &Tree, limits: &Limits, page: PageId, begun: bool) -> bool
     is_over(tree, limits, page) || begun && may_merge(tree, limits, page)
 }
 
-// Whether a page has too few entries, and a left neighbour under the same page above. It costs some searches where it has.
-fn may_merge(tree: &Tree, limits: &Limits, page: PageId) -> bool {
+/// Whether a page has too few entries, and a left neighbour under the same page above. It costs some searches where it has.
+pub(crate) fn may_merge(tree: &Tree, limits: &Limits, page: PageId) -> bool {
     (page.0 as usize) < tree.heads().len()
         && (tree.entries(page) as u64) < limits.page_min()
         && has_sibling(tree, page)

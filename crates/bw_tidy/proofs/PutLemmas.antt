@@ -1,6 +1,7 @@
 -- The leaves that were consolidated take the places of their chains, one after another.
 use Rattle.std.proofs.Common.{inl, inr, ◌⊎◌, ◌≡◌, ℕ, zero, suc, ◌<◌, Bool, true, false, List, [], ◌∷◌, ◌++◌, length, map, Option, None, Some, is_some, get_or, take, refl, sym, ap, ◌∙◌, subst, arith}
 use Rattle.std.proofs.lemmas.Bool.{cases_eq}
+use Rattle.std.proofs.lemmas.List.Elements.{Contains-append_cases, Contains-append_left, Contains-append_right}
 use Rattle.std.specs.List.{AllByRecursion, Contains}
 use Rattle.bw_key.specs.Order.{KeyBytes}
 use Rattle.bw_model.specs.Contents.{Contents, pairs_of_range}
@@ -16,7 +17,8 @@ use Rattle.bw_look.specs.PageStates.{leaf_as_of}
 use Rattle.bw_look.specs.View.{TreeView, contents_at}
 use Rattle.bw_shape.specs.Limits.{AreWithinBut, IsWithin, LimitsView}
 use Rattle.bw_shape.specs.Sweeps.{HoldsSame}
-use Rattle.bw_tidy.specs.Findings.{AreListed, ArePut, FitsAt, IsLeafAt, IsFinding, IsPutBy}
+use Rattle.bw_shape.specs.Tidying.{AreAmong}
+use Rattle.bw_tidy.specs.Findings.{AreListed, ArePut, FitsAt, IsLeafAt, IsFinding, IsListed, IsPutBy}
 use Rattle.bw_tidy.specs.declared.findings.Finding.{Finding}
 
 different : true ≡ false → ⊥
@@ -156,21 +158,32 @@ all_next P [] i d lt all next = absurd (omega (arith, lt))
 all_next P (x ∷ xs) zero d lt all next = (next, tt)
 all_next P (x ∷ xs) (suc i) d lt all next = (all.0, all_next P xs i d (omega (arith, lt)) all.1 next)
 
--- a longer list has the pages that are due, too
-pub still_listed : (pages pages' : List ℕ) (findings : List Finding) → ((p : ℕ) → Contains pages p → Contains pages' p) → AreListed pages findings → AreListed pages' findings
-still_listed pages pages' [] more listed = tt
-still_listed pages pages' (x ∷ xs) more listed = ((λ due. more x.page (listed.0 due)), still_listed pages pages' xs more listed.1)
+-- pages of a list are among a longer one, and so are these and the one that was added
+pub among_longer : (begun pages : List ℕ) (page : ℕ) → AreAmong begun pages → AreAmong begun (pages ++ page ∷ [])
+among_longer begun pages page among p has = Contains-append_left pages (page ∷ []) p (among p has)
+
+pub among_both : (begun pages : List ℕ) (page : ℕ) → AreAmong begun pages → AreAmong (begun ++ page ∷ []) (pages ++ page ∷ [])
+among_both begun pages page among p has = elim (Contains-append_cases begun (page ∷ []) p has) [
+  | inl before ↦ among_longer begun pages page among p before
+  | inr last ↦ Contains-append_right pages (page ∷ []) p last
+]
+
+-- longer lists have the pages that are due, too
+pub still_listed : (pages begun pages' begun' : List ℕ) (findings : List Finding) → AreAmong pages pages' → AreAmong begun begun' → AreListed pages begun findings → AreListed pages' begun' findings
+still_listed pages begun pages' begun' [] more more' listed = tt
+still_listed pages begun pages' begun' (x ∷ xs) more more' listed =
+    (record { due = λ due. more x.page (listed.0.due due); leaf = λ due leaf. more' x.page (listed.0.leaf due leaf) }, still_listed pages begun pages' begun' xs more more' listed.1)
 
 module _ (limits : LimitsView) (old new : TreeView) (findings : List Finding) (due due' : List ℕ)
     (of_due : map (λ finding. finding.page) findings ≡ due) (looked : AllByRecursion (IsFinding old limits) findings)
-    (listed : AreListed due' findings)
+    (begun : List ℕ) (listed : AreListed due' begun findings)
     (same : HoldsSame old new) (put : ArePut old new findings) (but : AreWithinBut limits old due) where
   consolidated : (p : ℕ) → Contains (row old.levels 0) p → IsPutBy findings p → Contains due' p ⊎ IsWithin limits (slot_at new.slots p)
   consolidated p leaf at =
       let found = put_by findings p at in
       let finding : Finding = found.0 in
       let is : IsFinding old limits finding = each_of (IsFinding old limits) findings finding looked found.1 in
-      by finding.leaf (subst (λ q. IsLeafAt old q finding.leaf) found.2 is.leaf) (λ none. subst (λ q. FitsAt old limits q finding.leaf) found.2 (is.fits none)) found.3 (λ more. subst (Contains due') found.2 (each_of (λ l. l.is_due ≡ true → Contains due' l.page) findings finding listed found.1 more)) (cases_bool finding.is_due)
+      by finding.leaf (subst (λ q. IsLeafAt old q finding.leaf) found.2 is.leaf) (λ none. subst (λ q. FitsAt old limits q finding.leaf) found.2 (is.fits none)) found.3 (λ more. subst (Contains due') found.2 ((each_of (IsListed due' begun) findings finding listed found.1).due more)) (cases_bool finding.is_due)
     where
       cases_bool : (b : Bool) → (b ≡ true) ⊎ (b ≡ false)
       cases_bool true = inl refl
@@ -189,7 +202,7 @@ module _ (limits : LimitsView) (old new : TreeView) (findings : List Finding) (d
         let found = not_put_by findings p not (subst (λ (l : List ℕ). Contains l p) (sym of_due) has) in
         let finding : Finding = found.0 in
         let is : IsFinding old limits finding = each_of (IsFinding old limits) findings finding looked found.1 in
-        by finding.is_due finding.leaf found.3 (λ more. subst (Contains due') found.2 (each_of (λ l. l.is_due ≡ true → Contains due' l.page) findings finding listed found.1 more)) (λ none. subst (λ q. FitsAt old limits q finding.leaf) found.2 (is.fits none))
+        by finding.is_due finding.leaf found.3 (λ more. subst (Contains due') found.2 ((each_of (IsListed due' begun) findings finding listed found.1).due more)) (λ none. subst (λ q. FitsAt old limits q finding.leaf) found.2 (is.fits none))
   ]
     where
       by : (b : Bool) (o : Option (LeafView ValueBytes)) → o ≡ None → (b ≡ true → Contains due' p) → (b ≡ false → FitsAt old limits p o) → Contains due' p ⊎ IsWithin limits (slot_at new.slots p)

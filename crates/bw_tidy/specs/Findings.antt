@@ -32,9 +32,14 @@ pub record IsFinding (tree : TreeView) (limits : LimitsView) (finding : Finding)
   pub fits : finding.is_due ≡ false → FitsAt tree limits finding.page finding.leaf
   pub lowest : finding.is_due ≡ false → (level : ℕ) → IsInLevel tree finding.page level → level ≡ 0
 
--- the pages at which there is more to do are among these
-abbrev pub AreListed : List ℕ → List Finding → Type 0
-AreListed pages = AllByRecursion (λ finding. finding.is_due ≡ true → Contains pages finding.page)
+-- if there is more to do at the page it is among these, and if it was consolidated also among those
+pub record IsListed (pages begun : List ℕ) (finding : Finding) : Type 0 where
+  pub due : finding.is_due ≡ true → Contains pages finding.page
+  pub leaf : finding.is_due ≡ true → is_some finding.leaf ≡ true → Contains begun finding.page
+
+-- so are all pages
+abbrev pub AreListed : List ℕ → List ℕ → List Finding → Type 0
+AreListed pages begun = AllByRecursion (IsListed pages begun)
 
 -- a leaf of this page was consolidated
 abbrev pub IsPutBy : List Finding → ℕ → Type 0

@@ -1,10 +1,10 @@
 // Workers who look at the pages that are due.
 ghost use Rattle.std.specs.Prelude.{◌≡◌, ℕ, ◌<◌, false, true, None, [], ◌∷◌, length, map, IfOk, OnOk};
-ghost use Rattle.std.specs.List.{AllByRecursion, Contains};
+ghost use Rattle.std.specs.List.{AllByRecursion};
 ghost use Rattle.bw_shape.specs.Limits.{AreWithinBut};
 ghost use Rattle.bw_shape.specs.Sweeps.{HoldsSame};
-ghost use Rattle.bw_shape.specs.Tidying.{HasNoneDue, HoldsAll};
-ghost use Rattle.bw_tidy.specs.Findings.{AreListed, ArePut, IsFinding, IsLeafAt};
+ghost use Rattle.bw_shape.specs.Tidying.{AreAmong, HasNoneDue, HoldsAll};
+ghost use Rattle.bw_tidy.specs.Findings.{AreListed, ArePut, IsFinding, IsLeafAt, IsListed};
 
 use crate::findings::{Finding, inspect};
 use bw_key::Memory;
@@ -72,8 +72,7 @@ fn consolidate_due<R: Threads + Sync>(
     let mut begun = Vec::with_capacity(due.alloc(), due.pages().len())?;
     let mut findings = new_findings(due.alloc(), due.pages())?;
     inspect_all(rt, tree, limits, workers, &mut findings);
-    list_due(&findings, &mut pages)?;
-    list_begun(&findings, &mut begun)?;
+    list_due(&findings, &mut pages, &mut begun)?;
     let consolidated = put_leaves(tree, findings);
     due.keep(pages, begun);
     Ok(consolidated)
@@ -110,33 +109,39 @@ fn inspect_all<R: Threads + Sync>(
     for_each_mut(rt, findings, workers, &look);
 }
 
-// Lists the pages at which there is more to do.
-fn list_due(findings: &[Finding], pages: &mut Vec<PageId, Alloc>) -> Result<(), Memory>
-    ensures { OnOk result (AreListed pages.new.items findings.now) }
+// Lists the pages at which there is more to do, and those of them that were consolidated.
+fn list_due(
+    findings: &[Finding],
+    pages: &mut Vec<PageId, Alloc>,
+    begun: &mut Vec<PageId, Alloc>,
+) -> Result<(), Memory>
+    requires { begun.old.items ≡ [] }
+    ensures listed { OnOk result (AreListed pages.new.items begun.new.items findings.now) }
+    ensures among { AreAmong begun.new.items pages.new.items }
 {
     for finding in findings {
-        add_due(pages, finding)?;
+        add_due(pages, begun, finding)?;
     }
     Ok(())
 }
 
 // Adds the page, if there is more to do.
-fn add_due(pages: &mut Vec<PageId, Alloc>, finding: &Finding) -> Result<(), Memory>
-    ensures due { OnOk result (finding.now.is_due ≡ true → Contains pages.new.items finding.now.page) }
-    ensures kept { (p : ℕ) → Contains pages.old.items p → Contains pages.new.items p }
+fn add_due(
+    pages: &mut Vec<PageId, Alloc>,
+    begun: &mut Vec<PageId, Alloc>,
+    finding: &Finding,
+) -> Result<(), Memory>
+    ensures due { OnOk result (IsListed pages.new.items begun.new.items finding.now) }
+    ensures kept { AreAmong pages.old.items pages.new.items }
+    ensures begun { AreAmong begun.old.items begun.new.items }
+    ensures among { AreAmong begun.old.items pages.old.items → AreAmong begun.new.items pages.new.items }
 {
-    if finding.is_due {
-        pages.push(finding.page)?;
+    if !finding.is_due {
+        return Ok(());
     }
-    Ok(())
-}
-
-// Lists those of them that were consolidated.
-fn list_begun(findings: &[Finding], begun: &mut Vec<PageId, Alloc>) -> Result<(), Memory> {
-    for finding in findings {
-        if finding.is_due && finding.leaf.is_some() {
-            begun.push(finding.page)?;
-        }
+    pages.push(finding.page)?;
+    if finding.leaf.is_some() {
+        begun.push(finding.page)?;
     }
     Ok(())
 }

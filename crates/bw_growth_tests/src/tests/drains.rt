@@ -145,14 +145,19 @@ fn sweeping<R: Abort>(rt: &R) -> Options {
     Options::new(1, 64, 8, 64, 16, 10_000, 10_000).expect(rt, "options")
 }
 
-// Runs a batch of 10,000 scans, before which a sweep is due, and which leaves no record.
-fn sweep<R: Abort + Threads + Sync>(rt: &R, alloc: Alloc, index: &mut Index) {
+// Runs a batch of 10,000 scans.
+fn scan_all<R: Abort + Threads + Sync>(rt: &R, alloc: Alloc, index: &mut Index) {
     let mut ops = Vec::new(alloc);
     for number in 0..10_000u32 {
         ops.push(scan_one(rt, alloc, number)).expect(rt, "memory");
     }
-    assert_that(rt, index.tree().records() > 0);
     index.run(rt, &ops, &OpenGate).expect(rt, "memory");
+}
+
+// Runs such a batch, before which a sweep is due, and which leaves no record.
+fn sweep<R: Abort + Threads + Sync>(rt: &R, alloc: Alloc, index: &mut Index) {
+    assert_that(rt, index.tree().records() > 0);
+    scan_all(rt, alloc, index);
     assert_equal(rt, index.tree().records(), 0);
 }
 
@@ -186,4 +191,25 @@ fn an_index_drained_from_the_left_keeps_little_behind_a_sweep(rt: HostRuntime) -
     sweep(&rt, alloc, &mut index);
     keeps_little(&rt, alloc, &index, new);
     Ok(())
+}
+
+// Options with which no delete makes a leaf due, since a chain may have as many writes as a leaf has pairs, and with which
+// a sweep is due before a batch of 10,000 operations that finds the records of all puts and deletes, and of no more.
+fn long_chains<R: Abort>(rt: &R) -> Options {
+    Options::new(1, 64, 64, 64, 16, 10_000, 215_000).expect(rt, "options")
+}
+
+// No batch writes to the leaves once their keys have gone, so a sweep alone consolidates them; and the tidying behind it
+// merges them.
+#[test]
+fn leaves_that_are_not_due_go_behind_a_sweep(rt: HostRuntime) {
+    let alloc = heap(rt.alloc()).expect(&rt, "a heap");
+    let mut index = filled(&rt, alloc, long_chains(&rt), true);
+    assert_equal(&rt, drain(&rt, alloc, &mut index, 10_000, true), 0);
+    assert_that(&rt, index.is_empty() && index.tree().records() > 200_000);
+    run_empty(&rt, &mut index, 2);
+    assert_that(&rt, pages(&rt, &index) > 1_000);
+    scan_all(&rt, alloc, &mut index);
+    run_empty(&rt, &mut index, 2);
+    is_one_empty_leaf(&rt, &index);
 }

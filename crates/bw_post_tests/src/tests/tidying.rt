@@ -86,7 +86,7 @@ fn due_of<R: Abort>(rt: &R, alloc: Alloc, tree: &Tree, pages: &[PageId]) -> Due
     let mut list = Vec::new(alloc);
     list.extend_from_slice(pages).expect(rt, "a list");
     let mut due = Due::new(alloc);
-    due.add(tree, list).expect(rt, "a list");
+    due.add(tree, list, &[]).expect(rt, "a list");
     due
 }
 

@@ -96,7 +96,7 @@ pub fn due_of<R: Abort>(rt: &R, alloc: Alloc, tree: &Tree, pages: &[PageId]) -> 
     let mut list = Vec::new(alloc);
     list.extend_from_slice(pages).expect(rt, "a list");
     let mut due = Due::new(alloc);
-    due.add(tree, list).expect(rt, "a list");
+    due.add(tree, list, &[]).expect(rt, "a list");
     due
 }
 

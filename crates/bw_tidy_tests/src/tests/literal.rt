@@ -21,7 +21,7 @@ pub struct PlainPage {
     base: usize,
     // whether a split or a merge stands in its chain
     is_changed: bool,
-    // whether the page above a leaf was merged, under which it was the first one
+    // whether a sweep consolidated a leaf's writes, or the page above was merged, under which it was the first one
     is_marked: bool,
 }
 
@@ -179,11 +179,15 @@ impl PlainTree {
         }
     }
 
-    // Consolidates all pages, and starts records and stamps over.
+    // Consolidates all pages, and starts records and stamps over. A leaf that had writes is marked.
     fn sweep<R: Abort>(&mut self, rt: &R) {
         for place in 0..self.pages.len() {
             let page = self.pages.get(place).copied().expect(rt, "a page");
             let entries = self.count_entries(rt, &page);
+            let page = PlainPage {
+                is_marked: page.is_marked || page.writes > 0,
+                ..page
+            };
             self.bare(rt, place, &page, entries);
         }
         self.records = 0;

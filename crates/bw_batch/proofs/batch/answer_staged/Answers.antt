@@ -27,8 +27,8 @@ returns-clause-replies g c =
 pub returns-clause-within : goal.returns-clause-within
 returns-clause-within g c =
     let posting = c.in_ok-homes.field-0 in
-    within_posted c.args.tree.now c.adopt_folded.new.self posting.pages.items posting.closed.heads posting.closed.links c.args.due.now.pages c.add_posted.new.self.pages
-    (subst (λ (l : List ℕ). HasBoth l c.args.due.now.pages c.add_posted.new.self.pages) (c.in_ok-posted.ensures.items ∙ c.deref-2.ensures.value) c.in_ok-add_posted.ensures.ok)
+    within_posted c.args.tree.now c.adopt_folded.new.self posting.pages.items posting.closed.heads posting.closed.links c.args.due.now.pages c.add.new.self.pages
+    (subst (λ (l : List ℕ). HasBoth l c.args.due.now.pages c.add.new.self.pages) (c.in_ok-posted.ensures.items ∙ c.deref-2.ensures.value) c.in_ok-add.ensures.ok)
     posting.folded.items c.in_ok-homes.ensures.posted c.adopt_folded.ensures.levels c.adopt_folded.ensures.pages c.adopt_folded.ensures.writes
 
 pub returns-clause-leaves : goal.returns-clause-leaves

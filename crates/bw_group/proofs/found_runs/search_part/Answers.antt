@@ -7,20 +7,10 @@ use Rattle.bw_group.proofs.found_runs.search_part.Goals as goal
 
 pub loop-start-preserved : goal.loop-start-preserved
 loop-start-preserved c =
-    let tree = c.args.tree.now in
-    let points = c.args.points.now in
-    let run : FoundRun = record { start = c.loop-start.start; page = c.find_run-page.result.0; end = c.find_run-page.result.1 } in
-    let is : IsFoundRun tree points run = record {
-      there = c.find_run-page.ensures.there;
-      leaf = c.find_run-page.ensures.leaf;
-      more = c.find_run-page.ensures.more;
-      bound = c.find_run-page.ensures.bound;
-      homes = c.find_run-page.ensures.homes;
-      whole = c.find_run-page.ensures.whole;
-    } in
+    let is = IsFoundRun c.args.tree.now c.args.points.now in
+    let run : FoundRun = c.find_run-run.result in
     let pushed : c.push.new.self.items ≡ c.loop-start.part.runs.items ++ run ∷ [] = search rules in
     record {
-      found = subst (AllByRecursion (IsFoundRun tree points)) (sym pushed)
-          (all_append (IsFoundRun tree points) c.loop-start.part.runs.items (run ∷ []) c.loop-start.invariant.found (is, tt));
-      tree = c.find_run-page.ensures.tree;
+      found = subst (AllByRecursion is) (sym pushed) (all_append is c.loop-start.part.runs.items (run ∷ []) c.loop-start.invariant.found (c.find_run-run.ensures.found, tt));
+      tree = c.find_run-run.ensures.tree;
     }

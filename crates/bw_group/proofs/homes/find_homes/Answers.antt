@@ -7,7 +7,7 @@ use Rattle.bw_tree.specs.Levels.{IsOneHome}
 use Rattle.bw_tree.specs.Scans.{high_of}
 use Rattle.bw_tree.specs.Slots.{slot_at}
 use Rattle.bw_group.specs.Homes.{with_number}
-use Rattle.bw_group.specs.Points.{GroupingView, IsEntryOf, entries_at, entries_from, entries_of, key_at}
+use Rattle.bw_group.specs.Points.{GroupingView, IsEntryOf, entries_at, entries_in, entries_from, entries_of, key_at}
 use Rattle.bw_group.specs.declared.points.Point.{Point}
 use Rattle.bw_group.proofs.PointGroups.{part_holds, places_within}
 use Rattle.bw_group.proofs.Groups.{point_of}
@@ -27,8 +27,8 @@ pub set_numbers-requires : goal.set_numbers-requires
 set_numbers-requires g c =
     let entries = batch_entries c.batch.inside.ops.now (entries_of c.batch.inside.points.items) c.batch.invariant.grouped.same in
     let size : length c.batch.inside.ops.now ≡ length c.deref_mut.result.now = ap (λ (v : GroupingView). length v.ops) c.batch.view_is ∙ sym c.loop-start.invariant.found.count ∙ sym (ap length c.deref_mut.ensures.value) in
-    subst (λ (l : List Point). AllByRecursion (λ e. e.1 < length c.deref_mut.result.now) (entries_of (take (c.run_at-page.result.1 - c.loop-start.start) (drop c.loop-start.start l)))) (sym c.deref-in-loop-start-2.ensures.value)
-    (places_within c.batch.inside.ops.now _ _ size (part_holds (IsEntryOf c.batch.inside.ops.now) c.batch.inside.points.items c.loop-start.start (c.run_at-page.result.1 - c.loop-start.start) entries))
+    subst (λ (l : List Point). AllByRecursion (λ e. e.1 < length c.deref_mut.result.now) (entries_of (take (c.run_at-run.result.end - c.loop-start.start) (drop c.loop-start.start l)))) (sym c.deref-in-loop-start-2.ensures.value)
+    (places_within c.batch.inside.ops.now _ _ size (part_holds (IsEntryOf c.batch.inside.ops.now) c.batch.inside.points.items c.loop-start.start (c.run_at-run.result.end - c.loop-start.start) entries))
 
 pub loop-start-preserved : goal.loop-start-preserved
 loop-start-preserved g c =
@@ -36,8 +36,8 @@ loop-start-preserved g c =
     let same : ops ≡ c.args.batch.now.ops = ap (λ (v : GroupingView). v.ops) c.batch.view_is in
     let points = c.batch.inside.points.items in
     let n = c.loop-start.start in
-    let m = c.run_at-page.result.1 in
-    let page = c.run_at-page.result.0 in
+    let m = c.run_at-run.result.end in
+    let page = c.run_at-run.result.page in
     let numbers = c.loop-start.numbers.items in
     let numbers' = c.set_numbers.new.numbers in
     let number = length c.loop-start.pages.items in
@@ -51,18 +51,19 @@ loop-start-preserved g c =
     let back : take c.loop-start.numbers.len (numbers' ++ drop (length numbers') numbers) ≡ numbers' = whole c.loop-start.numbers.len numbers' (drop (length numbers') numbers) (omega (arith, size, c.loop-start.numbers.ok)) in
     let entries = batch_entries ops (entries_of points) c.batch.invariant.grouped.same in
     let run : IsRun c.args.tree.now c.args.batch.now.ops points n m page = record {
-      more = c.run_at-page.ensures.more;
-      bound = omega (arith, c.run_at-page.ensures.bound, c.deref-in-loop-start.ensures.len, c.batch.inside.points.ok);
-      there = c.run_at-page.ensures.there;
+      more = omega (arith, c.run_at-run.ensures.found.more, c.run_at-run.ensures.start);
+      bound = omega (arith, c.run_at-run.ensures.found.bound, c.deref-in-loop-start.ensures.len, c.batch.inside.points.ok);
+      there = c.run_at-run.ensures.found.there;
       entries = subst (λ (l : List Op). AllByRecursion (IsEntryOf l) (part points)) same (part_holds (IsEntryOf ops) points n (m - n) entries);
-      at_home = subst (λ (l : List Point). AllByRecursion (λ e. IsOneHome c.args.tree.now.slots c.args.tree.now.levels e.0 page) (part l)) c.deref-in-loop-start.ensures.value c.run_at-page.ensures.homes;
-      sorted = λ d lt. later_above points n m d c.batch.invariant.grouped.sorted (omega (arith, c.run_at-page.ensures.more)) lt;
+      at_home = subst (λ (l : List Point). AllByRecursion (λ e. IsOneHome c.args.tree.now.slots c.args.tree.now.levels e.0 page) (part l)) c.deref-in-loop-start.ensures.value
+          (subst (λ (s : ℕ). AllByRecursion (λ e. IsOneHome c.args.tree.now.slots c.args.tree.now.levels e.0 page) (entries_in c.deref-in-loop-start.result.now s m)) c.run_at-run.ensures.start c.run_at-run.ensures.found.homes);
+      sorted = λ d lt. later_above points n m d c.batch.invariant.grouped.sorted (omega (arith, c.run_at-run.ensures.found.more, c.run_at-run.ensures.start)) lt;
       whole = λ d lt. subst (λ (l : List Point). m < length l → is_below_end (high_of (slot_at c.args.tree.now.slots page)) (key_at l m d) ≡ false) c.deref-in-loop-start.ensures.value
-          (λ (h : m < length c.deref-in-loop-start.result.now). c.run_at-page.ensures.whole h d) lt;
+          (λ (h : m < length c.deref-in-loop-start.result.now). c.run_at-run.ensures.found.whole h d) lt;
     } in
     record {
       found = run_found c.args.tree.now c.args.batch.now.ops points n m page run c.loop-start.pages.items numbers c.push.new.self.items _ any c.loop-start.invariant.found c.in_ok-push.ensures.items (back ∙ listed);
-      tree = c.run_at-page.ensures.tree;
+      tree = c.run_at-run.ensures.tree;
     }
 
 pub returns : goal.returns

@@ -16,19 +16,20 @@ at_home tree routed key page is home = subst (λ (t : TreeView). IsHome t.slots 
 end_is : (tree routed : TreeView) (page : ℕ) (told end : Option KeyBytes) → routed ≡ tree → end ≡ told → told ≡ high_of (slot_at routed.slots page) → end ≡ high_of (slot_at tree.slots page)
 end_is tree routed page told end is read searched = read ∙ searched ∙ ap (λ (t : TreeView). high_of (slot_at t.slots page)) is
 
-pub returns-clause-there : goal.returns-clause-there
-returns-clause-there c = subst (λ (t : TreeView). c.route-page.result < length t.heads) c.requires.tree c.route-page.ensures.there
-
-pub returns-clause-leaf : goal.returns-clause-leaf
-returns-clause-leaf c = (at_home c.args.tree.now c.args.routes.now.tree _ _ c.requires.tree c.route-page.ensures.home).reached.in_level
-
-pub returns-clause-homes : goal.returns-clause-homes
-returns-clause-homes c =
+pub returns-clause-found : goal.returns-clause-found
+returns-clause-found c =
     let tree = c.args.tree.now in
-    run_homes tree.slots tree.levels c.args.points.now c.args.start (c.run_end.result - c.args.start) c.index-points-start.result c.route-page.result _ c.requires.sorted c.requires.start
-    (at_home c.args.tree.now c.args.routes.now.tree _ _ c.requires.tree c.route-page.ensures.home) c.know_homes.ensures.one (end_is tree c.args.routes.now.tree c.route-page.result _ _ c.requires.tree c.end.ensures c.route-page.ensures.end) c.run_end.ensures.below
-
-pub returns-clause-whole : goal.returns-clause-whole
-returns-clause-whole c = λ lt d.
-    subst (λ (end : Option KeyBytes). is_below_end end (key_at c.args.points.now c.run_end.result d) ≡ false)
-    (end_is c.args.tree.now c.args.routes.now.tree c.route-page.result _ _ c.requires.tree c.end.ensures c.route-page.ensures.end) (c.run_end.ensures.whole lt d)
+    let routed = c.args.routes.now.tree in
+    let page = c.route-page.result in
+    let end = c.run_end-end in
+    let home = at_home tree routed _ _ c.requires.tree c.route-page.ensures.home in
+    let told = end_is tree routed page _ _ c.requires.tree c.end.ensures c.route-page.ensures.end in
+    record {
+      there = subst (λ (t : TreeView). page < length t.heads) c.requires.tree c.route-page.ensures.there;
+      leaf = home.reached.in_level;
+      more = end.ensures.more;
+      bound = end.ensures.bound;
+      homes = run_homes tree.slots tree.levels c.args.points.now c.args.start (end.result - c.args.start) c.index-points-start.result page _ c.requires.sorted c.requires.start
+          home c.know_homes.ensures.one told end.ensures.below;
+      whole = λ lt d. subst (λ (o : Option KeyBytes). is_below_end o (key_at c.args.points.now end.result d) ≡ false) told (end.ensures.whole lt d);
+    }

@@ -1,6 +1,7 @@
 use Rattle.std.proofs.Common.{◌∙◌, ◌-◌, sym, subst, ap, arith, length, [], ◌∷◌}
 use Rattle.std.proofs.lemmas.List.{length-append}
 use Rattle.bw_shape.specs.Limits.{AreWithinBut}
+use Rattle.bw_shape.specs.Tidying.{DueView}
 use Rattle.bw_shape.proofs.PartLemmas.{passed_part, stand_first, stand_on}
 use Rattle.bw_shape.proofs.TidyLemmas.{bare_still}
 use Rattle.bw_shape.proofs.halving.part_below.Goals as goal
@@ -10,7 +11,7 @@ part_halves-requires-clause-stand c =
     let tree = c.args.tree.now in
     let due = c.set_unfinished.new.self in
     let next = c.requires.next in
-    let same = c.set_unfinished.ensures.pages in
+    let same = (ap (λ (d : DueView). d.pages) c.set_unfinished.ensures) in
     let others = c.len-others.result - 1 in
     let was = same ∙ next.1 in
     let passed = passed_part tree tree c.part.new.tree due c.part.new.due c.args.page c.args.level c.in_ok-part.field-0 c.requires.page (bare_still tree c.args.page c.requires.none c.requires.plain) c.in_ok-part.ensures.ok in
@@ -23,4 +24,4 @@ returns-in_err-finish-clause-within c = c.in_err-finish.ensures.within c.args.li
 
 pub returns-clause-within : goal.returns-clause-within
 returns-clause-within c =
-    subst (AreWithinBut c.args.limits.now c.finish.new.tree) (sym c.set_unfinished-2.ensures.pages) (c.in_ok-finish.ensures.within c.args.limits.now c.in_ok-part_halves.ensures.within)
+    subst (AreWithinBut c.args.limits.now c.finish.new.tree) (sym (ap (λ (d : DueView). d.pages) c.set_unfinished-2.ensures)) (c.in_ok-finish.ensures.within c.args.limits.now c.in_ok-part_halves.ensures.within)

@@ -1,6 +1,7 @@
 use Rattle.std.proofs.Common.{[], ◌∷◌, length, sym, subst, ap, arith}
 use Rattle.std.proofs.lemmas.List.{length-append}
 use Rattle.bw_shape.specs.Limits.{AreWithinBut}
+use Rattle.bw_shape.specs.Tidying.{DueView}
 use Rattle.bw_shape.proofs.TidyLemmas.{within_bare, within_pass}
 use Rattle.bw_shape.proofs.visits.visit_leaf.Goals as goal
 
@@ -13,7 +14,7 @@ returns-then-not-is_due-clause-less c = omega (arith, ap length (c.pass.ensures.
 
 pub look-requires-clause-within : goal.look-requires-clause-within
 look-requires-clause-within c =
-    subst (AreWithinBut c.args.limits.now c.bare.new.tree) (sym c.in_ok-begin_leaf.ensures.pages)
+    subst (AreWithinBut c.args.limits.now c.bare.new.tree) (sym (ap (λ (d : DueView). d.pages) c.in_ok-begin_leaf.ensures.rest))
     (within_bare c.args.tree.now c.bare.new.tree c.args.due.now.pages c.args.page c.in_ok-bare.ensures.ok c.requires.next c.args.limits.now c.requires.within)
 
 pub look-requires-clause-short : goal.look-requires-clause-short
