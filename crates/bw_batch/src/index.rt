@@ -157,8 +157,8 @@ impl Index {
     /// all else is too, unless a sweep was due.
     ///
     /// A sweep is due where the operations would pass the 2^40th stamp, or with their records more than `record_max`. Before
-    /// the batch it consolidates every page that has records, and starts records and stamps over. Leaves of which it leaves few
-    /// pairs are merged behind the batch, though that doesn't write to them.
+    /// the batch it consolidates every page that has records, and starts records and stamps over. Behind the batch leaves with
+    /// few pairs are merged, those that it doesn't write to among them.
     ///
     /// The writes are posted by up to `workers` threads side by side, which `rt` starts, and `gate` is called round the
     /// posting of each. They are numbered in the order of the batch, from 0. Where the options ask for it

@@ -242,7 +242,8 @@ fn file_argument<'a>(global: Global) -> Arg<'a>
 fn with_limits<'a>(global: Global, command: Command<'a>) -> Result<Command<'a>, AllocError>
     ensures { IfOk result (λ with. app_of with ≡ fold with_rule (app_of command.entry) number_rules) }
 {
-    let workers = "How many threads find the leaves of a batch, post, answer and consolidate, 1 to 64";
+    let workers =
+        "How many threads find the leaves of a batch, post, answer and consolidate, 1 to 64";
     let piece = "How many writes a worker takes at once, 1 to 4096";
     let chain = "How many writes lie over a leaf's base page until it is consolidated, 1 to 1024";
     let page_max = "Above how many entries a page is split, 4 to 4096";

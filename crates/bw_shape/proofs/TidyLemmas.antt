@@ -1,8 +1,9 @@
 -- What tidying keeps, step by step: what the tree holds, and which leaves are within the limits.
-use Rattle.std.proofs.Common.{inl, inr, ◌⊎◌, ◌≡◌, ℕ, zero, suc, ◌+◌, ◌<◌, ◌≤◌, ◌^◌, List, [], ◌∷◌, ◌++◌, length, None, refl, sym, ap, ◌∙◌, subst, arith}
+use Rattle.std.proofs.Common.{inl, inr, ◌⊎◌, ◌≡◌, ℕ, zero, suc, ◌+◌, ◌-◌, ◌<◌, ◌≤◌, ◌^◌, List, [], ◌∷◌, ◌++◌, length, take, drop, None, refl, sym, ap, ◌∙◌, subst, arith}
 use Rattle.std.proofs.lemmas.Bool.{cases_eq, cases_lt}
-use Rattle.std.proofs.lemmas.List.{get_or-set_same, get_or-set_other, length-append}
-use Rattle.std.proofs.lemmas.List.Elements.{Contains-append_left, Contains-append_right, Contains-push, Contains-push_cases}
+use Rattle.std.proofs.Math.Seq.{take-add}
+use Rattle.std.proofs.lemmas.List.{get_or-set_same, get_or-set_other, length-append, take-append-drop}
+use Rattle.std.proofs.lemmas.List.Elements.{Contains-append_cases, Contains-append_left, Contains-append_right, Contains-push, Contains-push_cases}
 use Rattle.std.specs.List.{Contains, insert}
 use Rattle.std.specs.Prelude.{slice_index}
 use Rattle.bw_key.specs.Order.{KeyBytes}
@@ -23,7 +24,7 @@ use Rattle.bw_shape.specs.Limits.{LimitsView, AreWithinBut, IsWithin}
 use Rattle.bw_steps.specs.Naming.{AreFinished}
 use Rattle.bw_steps.specs.Releasing.{AreFreed}
 use Rattle.bw_shape.specs.Sweeps.{HoldsSame}
-use Rattle.bw_shape.specs.Tidying.{HoldsAll, KeepsWithin}
+use Rattle.bw_shape.specs.Tidying.{AreAmong, HoldsAll, KeepsWithin}
 use Rattle.bw_shape.specs.Visits.{IsBare, IsNext, IsSplitNext}
 use Rattle.bw_steps.specs.Steps.{HasLostChain, IsFinishStep, IsFinished, IsRootStep, IsSameOver}
 use Rattle.bw_tree.specs.Consolidation.{IsRebased}
@@ -42,6 +43,34 @@ kept_more tree due due' more limits but = λ p leaf. elim (but p leaf) [
   | inl has ↦ inl (more p has)
   | inr within ↦ inr within
 ]
+
+-- one page more
+pub among_longer : (few pages : List ℕ) (page : ℕ) → AreAmong few pages → AreAmong few (pages ++ page ∷ [])
+among_longer few pages page among p has = Contains-append_left pages (page ∷ []) p (among p has)
+
+-- the next pages of a list are added to those that were
+pub among_block : (pages all all' : List ℕ) (start end : ℕ) → start ≤ end → AreAmong (take start pages) all → all' ≡ all ++ take (end - start) (drop start pages) → AreAmong (take end pages) all'
+among_block pages all all' start end le among is p has =
+    subst (λ (l : List ℕ). Contains l p) (sym is) (by (Contains-append_cases (take start pages) block p (subst (λ (l : List ℕ). Contains l p) parts has)))
+  where
+    block : List ℕ
+    block = take (end - start) (drop start pages)
+
+    parts : take end pages ≡ take start pages ++ block
+    parts = let far : end ≡ start + (end - start) = omega (arith, le) in ap (λ (n : ℕ). take n pages) far ∙ take-add start (end - start) pages
+
+    by : Contains (take start pages) p ⊎ Contains block p → Contains (all ++ block) p
+    by (inl before) = Contains-append_left all block p (among p before)
+    by (inr last) = Contains-append_right all block p last
+
+-- and so are all that are left
+pub among_rest : (pages all all' : List ℕ) (start : ℕ) → AreAmong (take start pages) all → all' ≡ all ++ drop start pages → AreAmong pages all'
+among_rest pages all all' start among is p has =
+    subst (λ (l : List ℕ). Contains l p) (sym is) (by (Contains-append_cases (take start pages) (drop start pages) p (subst (λ (l : List ℕ). Contains l p) (sym (take-append-drop start pages)) has)))
+  where
+    by : Contains (take start pages) p ⊎ Contains (drop start pages) p → Contains (all ++ drop start pages) p
+    by (inl before) = Contains-append_left all (drop start pages) p (among p before)
+    by (inr last) = Contains-append_right all (drop start pages) p last
 
 -- what is put into a list takes nothing out
 pub kept_insert : (ps : List ℕ) (i x p : ℕ) → Contains ps p → Contains (insert ps i x) p

@@ -94,11 +94,3 @@ pub record IsSwept (old new : TreeView) : Type 0 where
   pub records : new.records ≡ 0
   pub next : new.next ≡ 0
   pub staged : new.staged ≡ None
-
--- the page is a leaf with writes over its base page
-abbrev pub HasWrites : TreeView → ℕ → Type 0
-HasWrites tree p = 0 < length (writes_over (slot_at tree.slots p))
-
--- all leaves that have writes are among these
-abbrev pub HasAllWritten : TreeView → List ℕ → Type 0
-HasAllWritten tree leaves = (p : ℕ) → p < length tree.heads → HasWrites tree p → Contains leaves p

@@ -72,14 +72,6 @@ fn absorbing(tree: &Tree, limits: &Limits, page: PageId) -> Result<Option<PageId
     Ok(Some(left))
 }
 
-/// Whether one page of the level above names a page and its left neighbour.
-pub(crate) fn has_sibling(tree: &Tree, page: PageId) -> bool {
-    match tree.left_of(page) {
-        Some(left) => are_under_one(tree, page, left),
-        None => false,
-    }
-}
-
 // Whether a page, as of the next stamp, has room for so many entries more. It costs a look at how many entries and writes it
 // has and, where these leave it open, a copy of the page.
 fn has_room(tree: &Tree, limits: &Limits, page: PageId, more: usize) -> Result<bool, Memory>

@@ -1,5 +1,5 @@
 // The pages that tidying is to look at.
-ghost use Rattle.std.specs.Prelude.{◌≡◌, ℕ, ◌+◌, ◌<◌, ◌≤◌, ◌^◌, true, false, [], ◌∷◌, ◌++◌, None, Some, length, reverse, slice_index, MatchOption, IfOk, OnOk, OnErr};
+ghost use Rattle.std.specs.Prelude.{◌≡◌, ℕ, ◌+◌, ◌<◌, ◌≤◌, ◌^◌, true, false, [], ◌∷◌, ◌++◌, None, Some, length, reverse, slice_index, take, MatchOption, IfOk, OnOk, OnErr};
 ghost use Rattle.std.specs.List.{Contains};
 ghost use Rattle.bw_tree.specs.TreeSplits.{IsSplittable};
 ghost use Rattle.bw_steps.specs.Releasing.{AreFreed, IsLeftOut, IsLeftToFree};
@@ -10,7 +10,7 @@ use crate::limits::Limits;
 use crate::page_lists::{
     by_low_key, first_below, least_level, mark, pages_on, pages_over, sort_by_low_key,
 };
-use crate::visits::may_merge;
+use crate::siblings::may_merge;
 use bw_key::Memory;
 use bw_memory::Alloc;
 use bw_page::PageId;
@@ -31,7 +31,7 @@ pub struct Due {
     // and the first one in the order of keys stands last, since no leaf is looked at before those that are left of it
     begun: Vec<PageId, Alloc>,
     // leaves that are due the next time if they may be merged: the first ones under pages that were merged, which have another
-    // left neighbour then, and those that were consolidated beside the posting of a batch
+    // left neighbour then, those that were consolidated beside the posting of a batch, and behind a sweep all
     marked: Vec<PageId, Alloc>,
     // the first leaf under a page that is to be merged
     moving: Option<PageId>,
@@ -81,8 +81,8 @@ impl Due {
         self.above = inner;
     }
 
-    /// Adds pages of the tree that come in the order of the keys at which they begin, and marks leaves that were consolidated:
-    /// where these have few pairs, and a left neighbour under the same page, the next tidying merges them. Where other pages are
+    /// Adds pages of the tree that come in the order of the keys at which they begin, and marks leaves: where these have few
+    /// pairs then, and a left neighbour under the same page, the next tidying merges them. Where other pages are
     /// due already all of them are sorted, so that they are looked at in that order, each once. It costs the sorting of the
     /// leaves, too, with those that were marked since the last tidying. It takes no memory where no page is added or none was
     /// due, and no leaf is marked. After `Memory` all is as before.
@@ -90,20 +90,20 @@ impl Due {
         &mut self,
         tree: &Tree,
         pages: Vec<PageId, Alloc>,
-        consolidated: &[PageId],
+        leaves: &[PageId],
     ) -> Result<(), Memory>
         ensures ok { OnOk result (HasBoth pages.entry.items self.old.pages self.new.pages) }
         ensures alone { self.old.pages ≡ [] → OnOk result (self.new.pages ≡ reverse pages.entry.items) }
-        ensures marked { OnOk result (HasBoth self.old.marked consolidated.now self.new.marked) }
+        ensures marked { OnOk result (HasBoth self.old.marked leaves.now self.new.marked) }
         ensures rest { self.new ≡ record self.old { pages = self.new.pages; marked = self.new.marked } }
         ensures err { OnErr result (self.new ≡ self.old) }
     {
         if pages.is_empty() {
-            return self.mark(consolidated);
+            return self.mark(leaves);
         }
         let mut pages = self.joined(tree, pages)?;
         pages.reverse();
-        self.mark(consolidated)?;
+        self.mark(leaves)?;
         self.pages = pages;
         Ok(())
     }
@@ -187,46 +187,100 @@ impl Due {
     }
 
     /// The pages that were left for the next time are looked at this time, with those that a stop left, each once: of the leaves
-    /// that were marked those that may be merged. It costs the sorting of these pages, and a look at each marked leaf.
+    /// that were marked those that may be merged. It costs the sorting of these pages, a look at each marked leaf, and where
+    /// there are such leaves a copy of the list of pages. After `Memory` all leaves are marked still.
     #[tactic(auto, using(crate::proofs::TidyLemmas::kept_alike))]
     pub(crate) fn begin(&mut self, tree: &Tree, limits: &Limits) -> Result<(), Memory>
         ensures within { KeepsWithin tree.now tree.now self.old.pages self.new.pages }
         ensures none { OnOk result ((self.new.later ≡ []) × (self.new.marked ≡ [])) }
+        ensures marked { OnErr result (self.new.marked ≡ self.old.marked) }
         ensures unfinished { self.new.unfinished ≡ self.old.unfinished }
     {
         self.above.extend_from_slice(&self.later)?;
         self.later.clear();
         sort_by_low_key(tree, &mut self.above);
         self.above.dedup();
-        if self.marked.is_empty() {
-            return Ok(());
+        let leaves = self.mergeable_leaves(tree, limits)?;
+        if !leaves.is_empty() {
+            self.begin_leaves(tree, leaves)?;
         }
-        self.begin_marked(tree, limits)
+        self.marked.clear();
+        Ok(())
     }
 
-    // Leaves that were marked are due, if they may be merged, as those are that were consolidated before a stop. All of these
-    // stand in the order of the pages.
-    #[tactic(auto, using(crate::proofs::TidyLemmas::kept_more))]
-    fn begin_marked(&mut self, tree: &Tree, limits: &Limits) -> Result<(), Memory>
-        ensures within { KeepsWithin tree.now tree.now self.old.pages self.new.pages }
-        ensures none { OnOk result (self.new.marked ≡ []) }
-        ensures later { self.new.later ≡ self.old.later }
-        ensures unfinished { self.new.unfinished ≡ self.old.unfinished }
-    {
+    // The marked leaves that may be merged, in the order of the pages that are due.
+    fn mergeable_leaves(&self, tree: &Tree, limits: &Limits) -> Result<Vec<PageId, Alloc>, Memory> {
         let mut leaves = self
             .marked
             .iter()
             .filter(|leaf| may_merge(tree, limits, **leaf))
             .copied()
             .collect::<Vec<PageId, Alloc>>(self.alloc())?;
-        for leaf in &leaves {
-            self.put_among(tree, *leaf)?;
-        }
+        sort_by_low_key(tree, &mut leaves);
+        leaves.reverse();
+        Ok(leaves)
+    }
+
+    // These leaves are due, as those are that were consolidated before a stop. All of these stand in the order of the pages.
+    fn begin_leaves(&mut self, tree: &Tree, mut leaves: Vec<PageId, Alloc>) -> Result<(), Memory>
+        ensures kept { AreAmong self.old.pages self.new.pages }
+        ensures rest { self.new ≡ record self.old { pages = self.new.pages; begun = self.new.begun } }
+    {
+        self.pages = self.with_leaves(tree, &leaves)?;
         leaves.extend_from_slice(&self.begun)?;
         leaves.sort_unstable();
         self.begun = self.among(&leaves)?;
-        self.marked.clear();
         Ok(())
+    }
+
+    // The pages that are due and these leaves, which stand in the same order, each once. To sort all of them would look at two
+    // pages for each comparison.
+    fn with_leaves(&self, tree: &Tree, leaves: &[PageId]) -> Result<Vec<PageId, Alloc>, Memory>
+        ensures { IfOk result (λ all. AreAmong self.now.pages all.items) }
+    {
+        let room = self.pages.len().saturating_add(leaves.len());
+        let mut all = Vec::with_capacity(self.alloc(), room)?;
+        let mut start = 0;
+        for leaf in leaves {
+            start = self.add_as_far_as(tree, start, *leaf, &mut all)?;
+        }
+        all.extend_from_slice(&self.pages[start..])?;
+        Ok(all)
+    }
+
+    // Adds the pages from a place on that come before a leaf, and the leaf, if it isn't the next one. Answers the place behind
+    // those pages.
+    fn add_as_far_as(
+        &self,
+        tree: &Tree,
+        start: usize,
+        leaf: PageId,
+        all: &mut Vec<PageId, Alloc>,
+    ) -> Result<usize, Memory>
+        requires { start ≤ length self.now.pages }
+        ensures bound { IfOk result (λ end. end ≤ length self.now.pages) }
+        ensures among { AreAmong (take start self.now.pages) all.old.items →
+            IfOk result (λ end. AreAmong (take end self.now.pages) all.new.items) }
+    {
+        let end = self.place_before(tree, start, leaf);
+        all.extend_from_slice(&self.pages[start..end])?;
+        if self.pages.get(end).copied() != Some(leaf) {
+            all.push(leaf)?;
+        }
+        Ok(end)
+    }
+
+    // The place behind those of the pages from a place on that come before a leaf.
+    fn place_before(&self, tree: &Tree, start: usize, leaf: PageId) -> usize
+        requires { start ≤ length self.now.pages }
+        ensures more { start ≤ result }
+        ensures bound { result ≤ length self.now.pages }
+    {
+        let found = self.pages[start..].binary_search_by(|page| by_low_key(tree, leaf, *page));
+        match found {
+            Ok(count) => start + count,
+            Err(count) => start + count,
+        }
     }
 
     // Those of the pages that are among these, which are sorted.
@@ -238,21 +292,6 @@ impl Due {
             .copied()
             .collect::<Vec<PageId, Alloc>>(self.alloc())?;
         Ok(pages)
-    }
-
-    // Puts a leaf among the pages that are due, in the order of keys, unless it is there. To sort all of them would look at two
-    // pages for each comparison.
-    fn put_among(&mut self, tree: &Tree, leaf: PageId) -> Result<(), Memory>
-        ensures kept { (p : ℕ) → Contains self.old.pages p → Contains self.new.pages p }
-        ensures rest { self.new ≡ record self.old { pages = self.new.pages } }
-    {
-        let found = self
-            .pages
-            .binary_search_by(|page| by_low_key(tree, leaf, *page));
-        if let Err(place) = found {
-            self.pages.insert(place, leaf)?;
-        }
-        Ok(())
     }
 
     // These leaves are due the next time, if they have few pairs then.

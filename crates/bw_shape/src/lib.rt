@@ -8,6 +8,7 @@ mod halving;
 mod limits;
 mod outcome;
 mod page_lists;
+mod siblings;
 mod sweeps;
 mod tidying;
 mod visits;

@@ -2,9 +2,8 @@
 ghost use Rattle.std.specs.Prelude.{◌≡◌, ℕ, ◌+◌, ◌<◌, ◌≤◌, ◌^◌, drop, length, IfOk, IfSome, OnOk, vec_capacity, true};
 ghost use Rattle.std.specs.List.{Contains, concat};
 ghost use Rattle.bw_level.specs.Levels.{row};
-ghost use Rattle.bw_shape.specs.Sweeps.{HasAllRecorded, HasAllWritten, HasWrites};
+ghost use Rattle.bw_shape.specs.Sweeps.{HasAllRecorded};
 
-use crate::visits::has_writes;
 use bw_chain::FLOOR;
 use bw_key::Memory;
 use bw_memory::Alloc;
@@ -53,31 +52,6 @@ fn add_recorded(pages: &mut Vec<PageId, Alloc>, page: PageId, head: u64) -> Resu
 {
     if head >= FLOOR {
         pages.push(page)?;
-    }
-    Ok(())
-}
-
-/// The leaves that have writes, by their identifiers. It costs a look at each mapping word, and a walk along the chain of each
-/// such leaf.
-pub(crate) fn written_leaves(alloc: Alloc, tree: &Tree) -> Result<Vec<PageId, Alloc>, Memory>
-    ensures { IfOk result (λ leaves. HasAllWritten tree.now leaves.items) }
-{
-    tree.know_records();
-    let mut leaves = Vec::new(alloc);
-    for place in 0..tree.heads().len() {
-        add_written(&mut leaves, tree, PageId(place as u32))?;
-    }
-    Ok(leaves)
-}
-
-// Adds a page, if it is a leaf that has writes.
-fn add_written(leaves: &mut Vec<PageId, Alloc>, tree: &Tree, page: PageId) -> Result<(), Memory>
-    requires { page < length tree.now.heads }
-    ensures here { OnOk result (HasWrites tree.now page → Contains leaves.new.items page) }
-    ensures kept { (p : ℕ) → Contains leaves.old.items p → Contains leaves.new.items p }
-{
-    if has_writes(tree, page) {
-        leaves.push(page)?;
     }
     Ok(())
 }

@@ -1,11 +1,12 @@
 // A sweep: every chain is consolidated, identifiers to which nothing leads are given back, and records and stamps start over.
-ghost use Rattle.std.specs.Prelude.{◌≡◌, ℕ, ◌<◌, None, OnOk, OnErr, length};
+ghost use Rattle.std.specs.Prelude.{◌≡◌, ℕ, ◌<◌, ◌⊎◌, None, OnOk, OnErr, length};
 ghost use Rattle.std.specs.List.{Contains};
-ghost use Rattle.bw_shape.specs.Tidying.{KeepsWithin};
-ghost use Rattle.bw_shape.specs.Sweeps.{ArePlainBelow, HasAllWritten, HoldsButFreed, HoldsSame, IsPlainAt, IsSwept, KeepsPlain, KeepsPlainTaken};
+ghost use Rattle.bw_level.specs.Levels.{row};
+ghost use Rattle.bw_shape.specs.Tidying.{HasBoth, KeepsWithin};
+ghost use Rattle.bw_shape.specs.Sweeps.{ArePlainBelow, HoldsButFreed, HoldsSame, IsPlainAt, IsSwept, KeepsPlain, KeepsPlainTaken};
 
 use crate::due::Due;
-use crate::page_lists::{recorded_pages, written_leaves};
+use crate::page_lists::{leaf_pages, recorded_pages};
 use bw_key::Memory;
 use bw_page::PageId;
 use bw_steps::{consolidate, release_all};
@@ -32,21 +33,22 @@ pub fn sweep(tree: &mut Tree) -> Result<(), Memory>
 }
 
 /// The same, with the pages due that had records, beside those that were due before: a consolidated leaf may have too many
-/// pairs, or too few. So leaves that had writes are marked, and the next tidying merges those that have few pairs, though no
-/// batch writes to them. It costs lists of these pages and leaves, too, which are sorted. After `Memory` they may be due and
-/// marked already.
+/// pairs. All leaves are marked, so that the next tidying merges each that has few pairs, though no batch writes to it. It costs
+/// lists of these pages and of all leaves, which are sorted, too. After `Memory` the pages are due and the leaves marked where
+/// any page was consolidated.
 pub fn sweep_due(tree: &mut Tree, due: &mut Due) -> Result<(), Memory>
     requires { tree.old.staged ≡ None }
     ensures ok { OnOk result (IsSwept tree.old tree.new) }
     ensures err { OnErr result (HoldsButFreed tree.old tree.new) }
     ensures within { KeepsWithin tree.old tree.new due.old.pages due.new.pages }
     ensures kept { (p : ℕ) → Contains due.old.pages p → Contains due.new.pages p }
-    ensures marked { OnOk result (HasAllWritten tree.old due.new.marked) }
+    ensures marked { OnOk result (HasBoth due.old.marked (row tree.old.levels 0) due.new.marked) }
+    ensures before { HasBoth due.old.marked (row tree.old.levels 0) due.new.marked ⊎ (tree.new ≡ tree.old) }
     ensures rest { due.new ≡ record due.old { pages = due.new.pages; marked = due.new.marked } }
 {
     tree.know_records();
     let pages = recorded_pages(due.alloc(), tree)?;
-    let leaves = written_leaves(due.alloc(), tree)?;
+    let leaves = leaf_pages(tree)?;
     due.add(tree, pages, &leaves)?;
     sweep(tree)
 }

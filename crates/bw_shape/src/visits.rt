@@ -10,11 +10,12 @@ ghost use Rattle.bw_shape.specs.Limits.{AreWithinBut, IsWithin};
 ghost use Rattle.bw_shape.specs.Tidying.{HoldsAll};
 ghost use Rattle.bw_shape.specs.Visits.{HasShortChain, IsNext, IsOver, IsSmall};
 
-use crate::absorbing::{has_sibling, merge};
+use crate::absorbing::merge;
 use crate::due::Due;
 use crate::halving::{bare, part_all};
 use crate::limits::Limits;
 use crate::outcome::Tidy;
+use crate::siblings::may_merge;
 use bw_key::Memory;
 use bw_page::PageId;
 use bw_tree::Tree;
@@ -109,13 +110,6 @@ fn is_due(tree: &Tree, limits: &Limits, page: PageId, begun: bool) -> bool
         IsWithin limits.now (slot_at tree.now.slots page) }
 {
     is_over(tree, limits, page) || begun && may_merge(tree, limits, page)
-}
-
-/// Whether a page has too few entries, and a left neighbour under the same page above. It costs some searches where it has.
-pub(crate) fn may_merge(tree: &Tree, limits: &Limits, page: PageId) -> bool {
-    (page.0 as usize) < tree.heads().len()
-        && (tree.entries(page) as u64) < limits.page_min()
-        && has_sibling(tree, page)
 }
 
 // Looks at the next page, by how many entries it has: with too few it's merged into its left neighbour, and with too many

@@ -1,7 +1,7 @@
 -- The leaves that were consolidated take the places of their chains, one after another.
 use Rattle.std.proofs.Common.{inl, inr, ◌⊎◌, ◌≡◌, ℕ, zero, suc, ◌<◌, Bool, true, false, List, [], ◌∷◌, ◌++◌, length, map, Option, None, Some, is_some, get_or, take, refl, sym, ap, ◌∙◌, subst, arith}
 use Rattle.std.proofs.lemmas.Bool.{cases_eq}
-use Rattle.std.proofs.lemmas.List.Elements.{Contains-append_cases, Contains-append_left, Contains-append_right}
+use Rattle.std.proofs.lemmas.List.Elements.{Contains-append_cases, Contains-append_right}
 use Rattle.std.specs.List.{AllByRecursion, Contains}
 use Rattle.bw_key.specs.Order.{KeyBytes}
 use Rattle.bw_model.specs.Contents.{Contents, pairs_of_range}
@@ -18,6 +18,7 @@ use Rattle.bw_look.specs.View.{TreeView, contents_at}
 use Rattle.bw_shape.specs.Limits.{AreWithinBut, IsWithin, LimitsView}
 use Rattle.bw_shape.specs.Sweeps.{HoldsSame}
 use Rattle.bw_shape.specs.Tidying.{AreAmong}
+use Rattle.bw_shape.proofs.TidyLemmas.{among_longer}
 use Rattle.bw_tidy.specs.Findings.{AreListed, ArePut, FitsAt, IsLeafAt, IsFinding, IsListed, IsPutBy}
 use Rattle.bw_tidy.specs.declared.findings.Finding.{Finding}
 
@@ -158,10 +159,7 @@ all_next P [] i d lt all next = absurd (omega (arith, lt))
 all_next P (x ∷ xs) zero d lt all next = (next, tt)
 all_next P (x ∷ xs) (suc i) d lt all next = (all.0, all_next P xs i d (omega (arith, lt)) all.1 next)
 
--- pages of a list are among a longer one, and so are these and the one that was added
-pub among_longer : (begun pages : List ℕ) (page : ℕ) → AreAmong begun pages → AreAmong begun (pages ++ page ∷ [])
-among_longer begun pages page among p has = Contains-append_left pages (page ∷ []) p (among p has)
-
+-- a page that is added to both lists
 pub among_both : (begun pages : List ℕ) (page : ℕ) → AreAmong begun pages → AreAmong (begun ++ page ∷ []) (pages ++ page ∷ [])
 among_both begun pages page among p has = elim (Contains-append_cases begun (page ∷ []) p has) [
   | inl before ↦ among_longer begun pages page among p before

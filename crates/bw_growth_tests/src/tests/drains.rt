@@ -145,10 +145,10 @@ fn sweeping<R: Abort>(rt: &R) -> Options {
     Options::new(1, 64, 8, 64, 16, 10_000, 10_000).expect(rt, "options")
 }
 
-// Runs a batch of 10,000 scans.
-fn scan_all<R: Abort + Threads + Sync>(rt: &R, alloc: Alloc, index: &mut Index) {
+// Runs a batch of so many scans.
+fn scan_some<R: Abort + Threads + Sync>(rt: &R, alloc: Alloc, index: &mut Index, scans: u32) {
     let mut ops = Vec::new(alloc);
-    for number in 0..10_000u32 {
+    for number in 0..scans {
         ops.push(scan_one(rt, alloc, number)).expect(rt, "memory");
     }
     index.run(rt, &ops, &OpenGate).expect(rt, "memory");
@@ -157,7 +157,7 @@ fn scan_all<R: Abort + Threads + Sync>(rt: &R, alloc: Alloc, index: &mut Index) 
 // Runs such a batch, before which a sweep is due, and which leaves no record.
 fn sweep<R: Abort + Threads + Sync>(rt: &R, alloc: Alloc, index: &mut Index) {
     assert_that(rt, index.tree().records() > 0);
-    scan_all(rt, alloc, index);
+    scan_some(rt, alloc, index, 10_000);
     assert_equal(rt, index.tree().records(), 0);
 }
 
@@ -209,7 +209,46 @@ fn leaves_that_are_not_due_go_behind_a_sweep(rt: HostRuntime) {
     assert_that(&rt, index.is_empty() && index.tree().records() > 200_000);
     run_empty(&rt, &mut index, 2);
     assert_that(&rt, pages(&rt, &index) > 1_000);
-    scan_all(&rt, alloc, &mut index);
+    scan_some(&rt, alloc, &mut index, 10_000);
     run_empty(&rt, &mut index, 2);
+    is_one_empty_leaf(&rt, &index);
+}
+
+// Upserts of these numbers, and then deletes of those, in one batch.
+fn write<R: Abort + Threads + Sync>(
+    rt: &R,
+    alloc: Alloc,
+    index: &mut Index,
+    put: &[u32],
+    gone: &[u32],
+) {
+    let mut ops = Vec::new(alloc);
+    for number in put {
+        ops.push(upsert(rt, alloc, *number, *number))
+            .expect(rt, "memory");
+    }
+    for number in gone {
+        ops.push(delete(rt, alloc, *number)).expect(rt, "memory");
+    }
+    assert_that(rt, index.run(rt, &ops, &OpenGate).is_ok());
+}
+
+// The right leaf of two loses its pairs while the left one has no room: four pairs, and one more in its chain. Then the left
+// one loses its own. Nothing is written to the right one any more, and no sweep consolidates it, but the tidying behind one
+// looks at all leaves.
+#[test]
+fn a_leaf_that_found_no_room_goes_behind_a_sweep(rt: HostRuntime) {
+    let alloc = heap(rt.alloc()).expect(&rt, "a heap");
+    let options = Options::new(1, 64, 1, 4, 2, 16, 30).expect(&rt, "options");
+    let mut index = Index::new(alloc, options).expect(&rt, "an index");
+    write(&rt, alloc, &mut index, &[0, 10, 20, 30, 40, 50], &[]);
+    write(&rt, alloc, &mut index, &[5, 0, 30], &[50]);
+    write(&rt, alloc, &mut index, &[7], &[30, 40]);
+    write(&rt, alloc, &mut index, &[], &[0, 5, 7, 10, 20]);
+    run_empty(&rt, &mut index, 2);
+    assert_that(&rt, index.is_empty());
+    assert_equal(&rt, pages(&rt, &index), 3);
+    scan_some(&rt, alloc, &mut index, 16);
+    run_empty(&rt, &mut index, 1);
     is_one_empty_leaf(&rt, &index);
 }

@@ -1,5 +1,5 @@
-// Tidying as a plain program. It knows all keys and all pages, and has no list of pages that are due, but of the first
-// leaves under pages that were merged, at which it looks once more, as the index does.
+// Tidying as a plain program. It knows all keys and all pages, and has no list of pages that are due, but marks on the first
+// leaves under pages that were merged, and behind a sweep on all, at which it looks once more, as the index does.
 use bw_batch::{Key, Op, Tidy};
 use bw_memory::Alloc;
 use std::process::Abort;
@@ -21,7 +21,7 @@ pub struct PlainPage {
     base: usize,
     // whether a split or a merge stands in its chain
     is_changed: bool,
-    // whether a sweep consolidated a leaf's writes, or the page above was merged, under which it was the first one
+    // whether there was a sweep, or the page above a leaf was merged, under which it was the first one
     is_marked: bool,
 }
 
@@ -179,13 +179,13 @@ impl PlainTree {
         }
     }
 
-    // Consolidates all pages, and starts records and stamps over. A leaf that had writes is marked.
+    // Consolidates all pages, and starts records and stamps over. All leaves are marked.
     fn sweep<R: Abort>(&mut self, rt: &R) {
         for place in 0..self.pages.len() {
             let page = self.pages.get(place).copied().expect(rt, "a page");
             let entries = self.count_entries(rt, &page);
             let page = PlainPage {
-                is_marked: page.is_marked || page.writes > 0,
+                is_marked: page.level == 0,
                 ..page
             };
             self.bare(rt, place, &page, entries);

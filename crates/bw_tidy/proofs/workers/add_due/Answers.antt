@@ -1,6 +1,7 @@
 use Rattle.std.proofs.Common.{ℕ, List, ◌++◌, ◌∷◌, [], subst, sym}
 use Rattle.bw_shape.specs.Tidying.{AreAmong}
-use Rattle.bw_tidy.proofs.PutLemmas.{among_both, among_longer}
+use Rattle.bw_shape.proofs.TidyLemmas.{among_longer}
+use Rattle.bw_tidy.proofs.PutLemmas.{among_both}
 use Rattle.bw_tidy.proofs.workers.add_due.Goals as goal
 
 pub returns-in_err-push-clause-among : goal.returns-in_err-push-clause-among

@@ -11,7 +11,7 @@ loop-finding-preserved c =
     let is : IsListed added.pages.items added.begun.items c.finding-item.result = c.in_ok-add_due.ensures.due in
     record {
       listed = simp unary_clauses (all_next (IsListed added.pages.items added.begun.items) c.args.findings.now c.loop-finding.finding-index c.finding-item.result within
-      (still_listed c.loop-finding.pages.items c.loop-finding.begun.items added.pages.items added.begun.items (take c.loop-finding.finding-index c.args.findings.now) c.add_due.ensures.kept c.add_due.ensures.begun c.loop-finding.invariant.listed)
-      (subst (IsListed added.pages.items added.begun.items) c.finding-item.is is));
+          (still_listed c.loop-finding.pages.items c.loop-finding.begun.items added.pages.items added.begun.items (take c.loop-finding.finding-index c.args.findings.now) c.add_due.ensures.kept c.add_due.ensures.begun c.loop-finding.invariant.listed)
+          (subst (IsListed added.pages.items added.begun.items) c.finding-item.is is));
       among = c.add_due.ensures.among c.loop-finding.invariant.among;
     }
