@@ -204,7 +204,8 @@ impl Due {
         if !leaves.is_empty() {
             self.begin_leaves(tree, leaves)?;
         }
-        self.marked.clear();
+        // Behind a sweep all leaves stood there, and there is no need of the room.
+        self.marked = Vec::new(self.alloc());
         Ok(())
     }
 

@@ -1,5 +1,5 @@
 // Indexes that lose all their keys.
-use super::numbers::{count_absent, delete, held, run, scan_one, upsert};
+use super::numbers::{count_absent, delete, get, held, run, upsert};
 use super::trees::working;
 use crate::tests::assertions::{assert_equal, assert_that};
 use bw_batch::{Index, Op, OpenGate, Options};
@@ -145,19 +145,19 @@ fn sweeping<R: Abort>(rt: &R) -> Options {
     Options::new(1, 64, 8, 64, 16, 10_000, 10_000).expect(rt, "options")
 }
 
-// Runs a batch of so many scans.
-fn scan_some<R: Abort + Threads + Sync>(rt: &R, alloc: Alloc, index: &mut Index, scans: u32) {
+// Runs a batch of so many reads.
+fn read_some<R: Abort + Threads + Sync>(rt: &R, alloc: Alloc, index: &mut Index, reads: u32) {
     let mut ops = Vec::new(alloc);
-    for number in 0..scans {
-        ops.push(scan_one(rt, alloc, number)).expect(rt, "memory");
+    for number in 0..reads {
+        ops.push(get(rt, alloc, number)).expect(rt, "memory");
     }
     index.run(rt, &ops, &OpenGate).expect(rt, "memory");
 }
 
-// Runs such a batch, before which a sweep is due, and which leaves no record.
+// Runs 10,000 of them, before which a sweep is due, and which leave no record.
 fn sweep<R: Abort + Threads + Sync>(rt: &R, alloc: Alloc, index: &mut Index) {
     assert_that(rt, index.tree().records() > 0);
-    scan_some(rt, alloc, index, 10_000);
+    read_some(rt, alloc, index, 10_000);
     assert_equal(rt, index.tree().records(), 0);
 }
 
@@ -209,7 +209,7 @@ fn leaves_that_are_not_due_go_behind_a_sweep(rt: HostRuntime) {
     assert_that(&rt, index.is_empty() && index.tree().records() > 200_000);
     run_empty(&rt, &mut index, 2);
     assert_that(&rt, pages(&rt, &index) > 1_000);
-    scan_some(&rt, alloc, &mut index, 10_000);
+    read_some(&rt, alloc, &mut index, 10_000);
     run_empty(&rt, &mut index, 2);
     is_one_empty_leaf(&rt, &index);
 }
@@ -248,7 +248,7 @@ fn a_leaf_that_found_no_room_goes_behind_a_sweep(rt: HostRuntime) {
     run_empty(&rt, &mut index, 2);
     assert_that(&rt, index.is_empty());
     assert_equal(&rt, pages(&rt, &index), 3);
-    scan_some(&rt, alloc, &mut index, 16);
+    read_some(&rt, alloc, &mut index, 16);
     run_empty(&rt, &mut index, 1);
     is_one_empty_leaf(&rt, &index);
 }

@@ -24,6 +24,11 @@ pub fn delete<R: Abort>(rt: &R, alloc: Alloc, key: u32) -> Op {
     Op::Delete(key_of(rt, alloc, key))
 }
 
+/// A get of the key of a number.
+pub fn get<R: Abort>(rt: &R, alloc: Alloc, key: u32) -> Op {
+    Op::Get(key_of(rt, alloc, key))
+}
+
 /// A scan for the pair at the key of a number.
 pub fn scan_one<R: Abort>(rt: &R, alloc: Alloc, key: u32) -> Op {
     Op::Scan {
