@@ -1,17 +1,17 @@
 //! An index whose leaves are consolidated beside the posting of a batch, and one whose leaves are not.
 ghost use Rattle.std.specs.Prelude.{◌<◌};
 
+use crate::kinds::print_kind;
+use crate::load::{BRIEF, LARGE, Load, SEED, SMALL};
+use crate::rivals::{Rivals, one_heap, options_of, run_index};
+use crate::runs::{Runs, cost_of};
 use crate::workload::{Draw, Kind, Random, drawn};
-use crate::{
-    BRIEF, Both, LARGE, Load, Runs, SEED, SMALL, filled, nanoseconds, no_runs, one_heap,
-    options_of, print_kind,
-};
 use anyhow::Result;
-use bw_batch::{Index, Op, OpenGate, Options};
+use bw_batch::{Index, Options};
 use bw_memory::Alloc;
 use std::num::nearest_u64_to_f64;
 use std::thread::Threads;
-use std::time::{Clock, Instant};
+use std::time::Clock;
 
 /// Compares the replies of an index with consolidation beside the posting and of a map over few keys.
 pub fn print_checked_beside<R: Threads + Clock + Sync + Print>(rt: &R, alloc: Alloc) -> Result<()> {
@@ -20,50 +20,58 @@ pub fn print_checked_beside<R: Threads + Clock + Sync + Print>(rt: &R, alloc: Al
         ..BRIEF
     };
     let options = options_of(4)?.with_beside(true);
-    println!(rt; "{} keys, skewed, workers 4, beside:", load.keys)?;
-    let mut both = filled(rt, one_heap(alloc), options, load.keys)?;
-    print_kind(rt, alloc, &mut both, load, Kind::GetsAndUpserts, false)
+    let keys = load.keys;
+    println!(rt; "{keys} keys, skewed, workers 4, beside:")?;
+    let mut rivals = Rivals::filled(rt, one_heap(alloc), options, keys)?;
+    print_kind(rt, alloc, &mut rivals, load, Kind::GetsAndUpserts, false)
 }
 
-// Runs a batch on an index, and times it.
-fn run_timed<R: Threads + Clock + Sync>(
+// Runs a batch of half gets and half upserts on an index.
+fn run_one<R: Threads + Clock + Sync>(
     rt: &R,
+    alloc: Alloc,
     index: &mut Index,
-    ops: &[Op],
+    random: &mut Random,
+    load: Load,
     runs: &mut Runs,
-) -> Result<()> {
-    let start = Instant::now(rt)?;
-    let done = index.run(rt, ops, &OpenGate)?;
-    runs.index.push(start.elapsed(rt)?)?;
-    runs.replaced = runs.replaced.saturating_add(done.replaced);
+) -> Result<()>
+    requires { 0 < load.keys }
+{
+    let ops = drawn(alloc, random, load, Kind::GetsAndUpserts)?;
+    run_index(rt, index, &ops, runs)?;
     Ok(())
 }
 
-// Runs batches of half gets and half upserts on an index of all keys.
-fn runs_alone<R: Threads + Clock + Sync>(
+// Runs such batches, as many as a load has.
+fn run_all<R: Threads + Clock + Sync>(
+    rt: &R,
+    alloc: Alloc,
+    index: &mut Index,
+    load: Load,
+    runs: &mut Runs,
+) -> Result<()>
+    requires { 0 < load.keys }
+{
+    let mut random = Random { state: SEED };
+    for _ in 0..load.rounds {
+        run_one(rt, alloc, index, &mut random, load, runs)?;
+    }
+    Ok(())
+}
+
+// Runs such batches on an index of all keys.
+fn run_alone<R: Threads + Clock + Sync>(
     rt: &R,
     alloc: Alloc,
     options: Options,
     load: Load,
-) -> Result<Runs>
+    runs: &mut Runs,
+) -> Result<()>
     requires { 0 < load.keys }
 {
-    let Both { mut index, map } = filled(rt, one_heap(alloc), options, load.keys)?;
-    drop(map);
-    let mut random = Random { state: SEED };
-    let mut runs = no_runs(alloc);
-    for _ in 0..load.rounds {
-        let ops = drawn(
-            alloc,
-            &mut random,
-            load.draw,
-            load.keys,
-            load.operations,
-            Kind::GetsAndUpserts,
-        )?;
-        run_timed(rt, &mut index, &ops, &mut runs)?;
-    }
-    Ok(runs)
+    let rivals = Rivals::filled(rt, one_heap(alloc), options, load.keys)?;
+    let mut index = rivals.into_index();
+    run_all(rt, alloc, &mut index, load, runs)
 }
 
 // Prints what an operation costs with these options, in nanoseconds, and how many leaves were replaced a batch.
@@ -75,8 +83,14 @@ fn print_alone<R: Threads + Clock + Sync + Print>(
 ) -> Result<()>
     requires { 0 < load.keys }
 {
-    let mut runs = runs_alone(rt, alloc, options, load)?;
-    let (middle, mean) = nanoseconds(&mut runs.index, load.operations)?;
+    let mut runs = Runs::new(alloc);
+    run_alone(rt, alloc, options, load, &mut runs)?;
+    print_runs(rt, options, load, &mut runs)
+}
+
+fn print_runs<R: Print>(rt: &R, options: Options, load: Load, runs: &mut Runs) -> Result<()> {
+    let cost = cost_of(&mut runs.index, load.operations)?;
+    let (middle, mean) = (cost.middle, cost.mean);
     let replaced = nearest_u64_to_f64(runs.replaced) / nearest_u64_to_f64(load.rounds);
     let words = match options.beside() {
         true => "beside ",
@@ -92,9 +106,9 @@ fn print_alone<R: Threads + Clock + Sync + Print>(
 fn print_both<R: Threads + Clock + Sync + Print>(rt: &R, alloc: Alloc, load: Load) -> Result<()>
     requires { 0 < load.keys }
 {
+    let (keys, draw) = (load.keys, load.draw.words());
     for workers in [1, 2, 4] {
-        let draw = load.draw.words();
-        println!(rt; "{} keys, {draw}, workers {workers}:", load.keys)?;
+        println!(rt; "{keys} keys, {draw}, workers {workers}:")?;
         let options = options_of(workers)?;
         print_alone(rt, alloc, options, load)?;
         print_alone(rt, alloc, options.with_beside(true), load)?;

@@ -2,6 +2,7 @@
 
 use crate::request::By;
 use anyhow::Result;
+use std::fmt::Display;
 use std::num::nearest_u64_to_f64;
 
 // What says that a text is SVG.
@@ -34,7 +35,12 @@ pub struct Column {
 }
 
 /// Prints the picture of some columns.
-pub fn print_chart<R: Print>(rt: &R, heading: &str, by: By, columns: &[Column]) -> Result<()> {
+pub fn print_chart<R: Print>(
+    rt: &R,
+    heading: impl Display + Drop,
+    by: By,
+    columns: &[Column],
+) -> Result<()> {
     let wide = COLUMN.saturating_mul(columns.len() as u64);
     let scale = scale_of(columns);
     print_head(rt, heading, wide)?;
@@ -78,7 +84,7 @@ fn scale_of(columns: &[Column]) -> Scale {
 }
 
 // The heading, and which bars are whose.
-fn print_head<R: Print>(rt: &R, heading: &str, wide: u64) -> Result<()> {
+fn print_head<R: Print>(rt: &R, heading: impl Display + Drop, wide: u64) -> Result<()> {
     let width = wide.saturating_add(LEFT + 30).max(620);
     let height = BOTTOM + 60;
     println!(rt;

@@ -1,16 +1,16 @@
 //! An index and a map that lose all their keys.
 ghost use Rattle.std.specs.Prelude.{◌<◌};
 
-use crate::workload::{Draw, Kind, Order, Random, deletes, drawn, numbers, upserts};
-use crate::{
-    BATCH, Both, Heaps, Load, RECORDS_DEFAULT, Runs, SEED, counting_heap, no_runs, one_heap,
-    print_longest, run_batch,
-};
+use crate::insertion::FRESH;
+use crate::load::{BATCH, Load, SEED, fresh};
+use crate::memory::{counting_heap, own_heaps};
+use crate::rivals::{Heaps, Rivals, one_heap, options, options_of};
+use crate::runs::Runs;
+use crate::workload::{Draw, Kind, Order, Random, deletes, numbers};
 use anyhow::Result;
-use bw_batch::{Index, OpenGate, Options};
+use bw_batch::{Index, OpenGate};
 use bw_memory::Alloc;
 use std::alloc::Global;
-use std::collections::BTreeMap;
 use std::thread::Threads;
 use std::time::Clock;
 
@@ -22,48 +22,48 @@ pub struct Drain {
     pub workers: u64,
 }
 
-fn options(workers: u64, record_max: u64) -> Result<Options> {
-    Ok(Options::new(workers, 64, 8, 64, 16, BATCH, record_max)?)
-}
-
-// An index and a map that got so many keys, scattered ones.
-fn grown<R: Threads + Clock + Sync>(
+// Deletes all keys of both.
+fn run_drain<R: Threads + Clock + Sync>(
     rt: &R,
-    heaps: Heaps,
-    options: Options,
-    keys: u64,
-) -> Result<Both> {
-    let mut both = Both {
-        index: Index::new(heaps.index, options)?,
-        map: BTreeMap::new(heaps.map),
-    };
-    let mut runs = no_runs(heaps.ops);
-    for place in 0..keys.div_ceil(BATCH) {
-        let from = place.saturating_mul(BATCH);
-        let to = from.saturating_add(BATCH).min(keys);
-        let ops = upserts(heaps.ops, Order::Scattered, from, to)?;
-        run_batch(rt, heaps.ops, &mut both, &ops, &mut runs)?;
-    }
-    Ok(both)
-}
-
-// Deletes all keys of both, and answers what came of that.
-fn drained<R: Threads + Clock + Sync>(
-    rt: &R,
-    heaps: Heaps,
-    both: &mut Both,
+    alloc: Alloc,
+    rivals: &mut Rivals,
     drain: Drain,
-) -> Result<Runs>
+    runs: &mut Runs,
+) -> Result<()>
     requires { 0 < drain.load.operations }
 {
     let mut random = Random { state: SEED };
-    let numbers = numbers(heaps.ops, &mut random, drain.order, drain.load.keys)?;
-    let mut runs = no_runs(heaps.ops);
-    for some in numbers.chunks(drain.load.operations as usize) {
-        let ops = deletes(heaps.ops, some)?;
-        run_batch(rt, heaps.ops, both, &ops, &mut runs)?;
+    let numbers = numbers(alloc, &mut random, drain.order, drain.load.keys)?;
+    delete(rt, alloc, rivals, &numbers, drain.load.operations, runs)
+}
+
+// Deletes the keys of these numbers from both, by batches of so many operations.
+fn delete<R: Threads + Clock + Sync>(
+    rt: &R,
+    alloc: Alloc,
+    rivals: &mut Rivals,
+    numbers: &[u64],
+    operations: u64,
+    runs: &mut Runs,
+) -> Result<()>
+    requires { 0 < operations }
+{
+    for some in numbers.chunks(operations as usize) {
+        delete_some(rt, alloc, rivals, some, runs)?;
     }
-    Ok(runs)
+    Ok(())
+}
+
+// By one batch.
+fn delete_some<R: Threads + Clock + Sync>(
+    rt: &R,
+    alloc: Alloc,
+    rivals: &mut Rivals,
+    numbers: &[u64],
+    runs: &mut Runs,
+) -> Result<()> {
+    let ops = deletes(alloc, numbers)?;
+    rivals.run(rt, alloc, &ops, runs)
 }
 
 // Runs two batches of no operation, behind which leaves without pairs are merged that had no left neighbour under their page.
@@ -88,25 +88,41 @@ pub fn print_drain<R: Threads + Clock + Sync + Print>(
         operations,
         ..
     } = drain.load;
-    let words = drain.order.words();
-    println!(rt;
-        "{keys} keys go, {words}, batches of {operations}, workers {}:",
-        drain.workers
-    )?;
-    let options = options(drain.workers, RECORDS_DEFAULT)?;
-    let mut both = grown(rt, one_heap(alloc), options, keys)?;
-    let mut runs = drained(rt, one_heap(alloc), &mut both, drain)?;
-    let pages = both.index.shape()?.len();
-    run_empty(rt, &mut both.index)?;
-    let behind = both.index.shape()?.len();
-    println!(rt;
-        "  {} of {keys} replies are the map's; pages left: {pages}, behind two more batches {behind}",
-        runs.same
-    )?;
+    let (words, workers) = (drain.order.words(), drain.workers);
+    println!(rt; "{keys} keys go, {words}, batches of {operations}, workers {workers}:")?;
+    let mut runs = Runs::new(alloc);
+    print_pages(rt, alloc, drain, &mut runs)?;
     if is_timed {
-        print_longest(rt, &mut runs, operations)?;
+        runs.print_longest(rt, operations)?;
     }
     Ok(())
+}
+
+// Prints how many pages are left of an index that loses all its keys.
+fn print_pages<R: Threads + Clock + Sync + Print>(
+    rt: &R,
+    alloc: Alloc,
+    drain: Drain,
+    runs: &mut Runs,
+) -> Result<()>
+    requires { 0 < drain.load.operations }
+{
+    let keys = drain.load.keys;
+    let options = options_of(drain.workers)?;
+    let mut rivals = Rivals::grown(rt, one_heap(alloc), options, keys)?;
+    run_drain(rt, alloc, &mut rivals, drain, runs)?;
+    let pages = pages_of(&rivals.index)?;
+    run_empty(rt, &mut rivals.index)?;
+    let behind = pages_of(&rivals.index)?;
+    let same = runs.same;
+    println!(rt;
+        "  {same} of {keys} replies are the map's; pages left: {pages}, behind two more batches {behind}"
+    )?;
+    Ok(())
+}
+
+fn pages_of(index: &Index) -> Result<usize> {
+    Ok(index.shape()?.len())
 }
 
 // The bytes that an index without keys has in use at first.
@@ -119,11 +135,15 @@ fn bytes_of_new(global: Global, workers: u64) -> Result<u64> {
 }
 
 // Runs a batch of reads, before which an index sweeps whose records are to be no more than one batch has.
-fn sweep<R: Threads + Clock + Sync>(rt: &R, heaps: Heaps, both: &mut Both) -> Result<()> {
-    let mut random = Random { state: SEED };
-    let ops = drawn(heaps.ops, &mut random, Draw::Uniform, 1, BATCH, Kind::Gets)?;
-    let mut runs = no_runs(heaps.ops);
-    run_batch(rt, heaps.ops, both, &ops, &mut runs)
+fn sweep<R: Threads + Clock + Sync>(rt: &R, alloc: Alloc, rivals: &mut Rivals) -> Result<()> {
+    let load = Load {
+        keys: 1,
+        draw: Draw::Uniform,
+        operations: BATCH,
+        rounds: 1,
+    };
+    let mut runs = Runs::new(alloc);
+    rivals.run_drawn(rt, alloc, load, Kind::Gets, SEED, &mut runs)
 }
 
 /// Deletes all keys of an index and a map, each with a heap of its own, and prints how many bytes they have in use before
@@ -136,28 +156,68 @@ pub fn print_left<R: Threads + Clock + Sync + Print>(
 ) -> Result<()>
     requires { 0 < drain.load.operations }
 {
-    let heaps = Heaps {
-        ops: alloc,
-        index: counting_heap(global)?,
-        map: counting_heap(global)?,
-    };
+    let heaps = own_heaps(global, alloc)?;
     let new = bytes_of_new(global, drain.workers)?;
     let options = options(drain.workers, BATCH)?;
-    let mut both = grown(rt, heaps, options, drain.load.keys)?;
+    let mut rivals = Rivals::grown(rt, heaps, options, drain.load.keys)?;
+    let (index, map) = (heaps.index.used(), heaps.map.used());
+    println!(rt; "    bytes before: index {index}, map {map}")?;
+    let mut runs = Runs::new(alloc);
+    run_drain(rt, alloc, &mut rivals, drain, &mut runs)?;
+    print_bytes_left(rt, heaps, &mut rivals, new)
+}
+
+// Prints how many bytes an index and a map have in use that lost their keys, and behind a sweep.
+fn print_bytes_left<R: Threads + Clock + Sync + Print>(
+    rt: &R,
+    heaps: Heaps,
+    rivals: &mut Rivals,
+    new: u64,
+) -> Result<()> {
+    let (index, map) = (heaps.index.used(), heaps.map.used());
+    let records = rivals.index.tree().records();
     println!(rt;
-        "    bytes before: index {}, map {}",
-        heaps.index.used(),
-        heaps.map.used()
+        "    bytes after: index {index} with {records} records, map {map}; a new index has {new}"
     )?;
-    drained(rt, heaps, &mut both, drain)?;
-    println!(rt;
-        "    bytes after: index {} with {} records, map {}; a new index has {new}",
-        heaps.index.used(),
-        both.index.tree().records(),
-        heaps.map.used()
-    )?;
-    sweep(rt, heaps, &mut both)?;
-    run_empty(rt, &mut both.index)?;
-    println!(rt; "    behind a sweep: index {}", heaps.index.used())?;
+    sweep(rt, heaps.ops, rivals)?;
+    run_empty(rt, &mut rivals.index)?;
+    let swept = heaps.index.used();
+    println!(rt; "    behind a sweep: index {swept}")?;
+    Ok(())
+}
+
+/// Deletes all keys of an index and a map of many keys, in both orders.
+pub fn print_all_drains<R: Threads + Clock + Sync + Print>(
+    rt: &R,
+    global: Global,
+    alloc: Alloc,
+) -> Result<()> {
+    for load in [fresh(FRESH, BATCH), fresh(FRESH, 64)] {
+        for order in [Order::Rising, Order::Scattered] {
+            print_drains(rt, global, alloc, order, load)?;
+        }
+    }
+    Ok(())
+}
+
+// In one order, with 1 worker and with 4.
+fn print_drains<R: Threads + Clock + Sync + Print>(
+    rt: &R,
+    global: Global,
+    alloc: Alloc,
+    order: Order,
+    load: Load,
+) -> Result<()>
+    requires { 0 < load.operations }
+{
+    for workers in [1, 4] {
+        let drain = Drain {
+            order,
+            load,
+            workers,
+        };
+        print_drain(rt, alloc, drain, true)?;
+        print_left(rt, global, alloc, drain)?;
+    }
     Ok(())
 }

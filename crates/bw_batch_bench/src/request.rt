@@ -1,9 +1,13 @@
 //! What the words of the command line ask for.
+ghost use Rattle.std.specs.Prelude.{◌<◌};
 
+use crate::command_line::program;
+use crate::load::{BATCH, Load};
+use crate::word_fault::{Unread, WordFault};
 use crate::workload::{Draw, Kind};
-use clap::error::Error;
-use clap::{Arg, ArgAction, ArgMatches, Command, value_parser};
-use std::alloc::{AllocError, Global};
+use clap::ArgMatches;
+use clap::parser::ValueSource;
+use std::alloc::Global;
 
 /// What is done.
 #[derive(Clone, Copy, Debug, PartialEq, Eq)]
@@ -17,6 +21,78 @@ pub enum Job {
     Drain,
     Beside,
     Picture,
+}
+
+impl Job {
+    /// Its word on the command line.
+    pub fn word(self) -> &'static str {
+        match self {
+            Job::Check => "check",
+            Job::Run => "run",
+            Job::Bytes => "bytes",
+            Job::Time => "time",
+            Job::Small => "small",
+            Job::Insert => "insert",
+            Job::Drain => "drain",
+            Job::Beside => "beside",
+            Job::Picture => "picture",
+        }
+    }
+
+    // Whether it does something else where the option says something else.
+    fn reads(self, setting: Setting) -> bool {
+        match setting {
+            Setting::Keys | Setting::Workers | Setting::Beside => {
+                self == Job::Run || self == Job::Bytes || self == Job::Picture
+            }
+            Setting::Kind | Setting::Skewed | Setting::Batch | Setting::Batches | Setting::Seed =>
+                self == Job::Run || self == Job::Picture,
+            Setting::By => self == Job::Picture,
+        }
+    }
+}
+
+/// An option.
+#[derive(Clone, Copy, Debug, PartialEq, Eq)]
+pub enum Setting {
+    Kind,
+    Skewed,
+    Beside,
+    Keys,
+    Workers,
+    Batch,
+    Batches,
+    Seed,
+    By,
+}
+
+static SETTINGS: [Setting; 9] = [
+    Setting::Kind,
+    Setting::Skewed,
+    Setting::Beside,
+    Setting::Keys,
+    Setting::Workers,
+    Setting::Batch,
+    Setting::Batches,
+    Setting::Seed,
+    Setting::By,
+];
+
+impl Setting {
+    /// Its name behind `--`.
+    pub fn name(self) -> &'static str {
+        match self {
+            Setting::Kind => "kind",
+            Setting::Skewed => "skewed",
+            Setting::Beside => "beside",
+            Setting::Keys => "keys",
+            Setting::Workers => "workers",
+            Setting::Batch => "batch",
+            Setting::Batches => "batches",
+            Setting::Seed => "seed",
+            Setting::By => "by",
+        }
+    }
 }
 
 /// What has several values in a picture.
@@ -43,6 +119,15 @@ impl By {
             By::Workers => &WORKERS,
             By::Batch => &SIZES,
             By::Keys => &KEYS,
+        }
+    }
+
+    /// The option that says it where it has one value.
+    pub fn setting(self) -> Setting {
+        match self {
+            By::Workers => Setting::Workers,
+            By::Batch => Setting::Batch,
+            By::Keys => Setting::Keys,
         }
     }
 }
@@ -86,52 +171,76 @@ impl Request {
             },
         }
     }
+
+    /// The same with so many batches, where it has fewer, that they have so many operations.
+    pub fn with_operations(&self, operations: u64) -> Request {
+        let enough = operations.checked_div(self.batch).unwrap_or(0);
+        Request {
+            batches: self.batches.max(enough),
+            ..*self
+        }
+    }
+
+    // Whether an option is read for it.
+    fn check_read(&self, setting: Setting) -> Result<(), Unread> {
+        let job = self.job;
+        if !job.reads(setting) {
+            return Err(Unread::ByJob { setting, job });
+        }
+        if job == Job::Picture && setting == self.by.setting() {
+            return Err(Unread::ByPicture { setting });
+        }
+        Ok(())
+    }
+
+    /// The batches that it asks for. The command line takes no number that is changed here.
+    pub fn load(&self) -> Load
+        ensures { 0 < result.keys }
+    {
+        Load {
+            keys: self.keys.max(1),
+            draw: self.draw,
+            operations: self.batch.min(BATCH),
+            rounds: self.batches,
+        }
+    }
 }
 
-static JOBS: [&str; 9] = [
-    "check", "run", "bytes", "time", "small", "insert", "drain", "beside", "picture",
-];
-
-static BYS: [&str; 3] = ["workers", "batch", "keys"];
-
-static KINDS: [&str; 3] = ["gets", "upserts", "scans"];
-
-const AFTER: &str = "The jobs:
-  check   compares the replies of an index and of a map over few keys, and times nothing
-  run     times the batches that the options describe, and then does what `bytes` does
-  bytes   prints how many bytes a key an index and a map of so many keys have in use
-  time    times all kinds of batches of 65536, over 10000 keys and 1000000, with 1, 2 and 4 workers
-  small   times batches of 1, 8, 64 and 1024 gets, and of gets and upserts
-  insert  times an empty index and an empty map that get 1048576 keys
-  drain   times an index and a map of 1048576 keys that lose them all, with 1 and 4 workers, and
-          prints what bytes they have in use then
-  beside  times batches of gets and upserts on an index alone, without and with --beside, over 10000
-          keys and 1000000, uniform and skewed, with 1, 2 and 4 workers
-  picture writes a picture of times to standard output, an SVG text: what `run` times with 1, 2
-          and 4 workers, by batches of 1, 8, 64, 1024 and 65536 operations, or over 10000, 100000
-          and 1000000 keys, as --by says; of small batches as many as have 8192 operations
-
---keys, --workers, --kind and --beside are read by `run`, `bytes` and `picture`, --skewed, --batch,
---batches and --seed by `run` and `picture`, and --by by `picture`.
-
-The kinds: gets; upserts, half of them gets; scans, of 32 pairs, half of them upserts.";
-
-/// What the words ask for, the name of the program left out. The error is a text for the user: what is wrong with the words,
-/// or help where they ask for it.
-pub fn request_in(global: Global, words: &[&str]) -> Result<Request, Error> {
+/// What the words ask for, the name of the program left out.
+pub fn request_in(global: Global, words: &[&str]) -> Result<Request, WordFault> {
     let matches = program(global)?.try_get_matches_from(words)?;
-    Ok(Request {
+    Ok(read(&matches)?)
+}
+
+// What the arguments' values ask for, or the first option among the words that isn't read.
+fn read(matches: &ArgMatches<'_>) -> Result<Request, Unread> {
+    let request = request_of(matches);
+    for setting in &SETTINGS {
+        if is_given(matches, *setting) {
+            request.check_read(*setting)?;
+        }
+    }
+    Ok(request)
+}
+
+// Whether an option stands among the words.
+fn is_given(matches: &ArgMatches<'_>, setting: Setting) -> bool {
+    matches.value_source(setting.name()) == Some(ValueSource::CommandLine)
+}
+
+fn request_of(matches: &ArgMatches<'_>) -> Request {
+    Request {
         job: job_named(matches.get_str("JOB")),
         kind: kind_named(matches.get_str("kind")),
         draw: draw_of(matches.get_flag("skewed")),
         beside: matches.get_flag("beside"),
-        keys: number_in(&matches, "keys"),
-        workers: number_in(&matches, "workers"),
-        batch: number_in(&matches, "batch"),
-        batches: number_in(&matches, "batches"),
-        seed: number_in(&matches, "seed"),
+        keys: number_in(matches, "keys"),
+        workers: number_in(matches, "workers"),
+        batch: number_in(matches, "batch"),
+        batches: number_in(matches, "batches"),
+        seed: number_in(matches, "seed"),
         by: by_named(matches.get_str("by")),
-    })
+    }
 }
 
 fn job_named(word: Option<&str>) -> Job {
@@ -174,77 +283,4 @@ fn by_named(word: Option<&str>) -> By {
 // Each option has a default, so that none is missing; a missing one would be 0.
 fn number_in(matches: &ArgMatches<'_>, id: &str) -> u64 {
     matches.get_one::<u64>(id).unwrap_or(0)
-}
-
-// The command line as clap knows it.
-fn program<'a>(global: Global) -> Result<Command<'a>, AllocError> {
-    let command = Command::new(global, "bw_batch_bench")
-        .about("Times batches on an index of many leaves beside an ordered map.")
-        .after_help(AFTER)
-        .no_binary_name(true)
-        .arg(job_argument(global))?
-        .arg(kind_option(global))?
-        .arg(flag(
-            global,
-            "skewed",
-            "Draw some keys more often than others, as by Zipf's law",
-        ))?
-        .arg(flag(
-            global,
-            "beside",
-            "Consolidate leaves beside the posting of a batch",
-        ))?;
-    with_numbers(global, command)?.arg(by_option(global))
-}
-
-fn job_argument<'a>(global: Global) -> Arg<'a> {
-    Arg::new(global, "JOB")
-        .default_value("check")
-        .value_parser(JOBS.as_slice())
-        .help("What is done")
-}
-
-fn kind_option<'a>(global: Global) -> Arg<'a> {
-    Arg::new(global, "kind")
-        .long("kind")
-        .default_value("gets")
-        .value_parser(KINDS.as_slice())
-        .help("What a batch is made of")
-}
-
-fn by_option<'a>(global: Global) -> Arg<'a> {
-    Arg::new(global, "by")
-        .long("by")
-        .default_value("workers")
-        .value_parser(BYS.as_slice())
-        .help("What has several values in a picture")
-}
-
-fn with_numbers<'a>(global: Global, command: Command<'a>) -> Result<Command<'a>, AllocError> {
-    let workers = "How many workers the index has, 1 to 64";
-    let batch = "How many operations a batch has, 1 to 65536";
-    command
-        .arg(number(global, "keys", "1000000", "How many keys there are"))?
-        .arg(number(global, "workers", "1", workers))?
-        .arg(number(global, "batch", "65536", batch))?
-        .arg(number(global, "batches", "15", "How many batches are timed"))?
-        .arg(number(global, "seed", "20130408", "Where drawn numbers begin"))
-}
-
-// An option that has no value.
-fn flag<'a>(global: Global, id: &'a str, help: &'a str) -> Arg<'a> {
-    Arg::new(global, id)
-        .long(id)
-        .action(ArgAction::SetTrue)
-        .help(help)
-}
-
-// An option whose value is a number.
-fn number<'a>(global: Global, id: &'a str, default: &'a str, help: &'a str) -> Arg<'a> {
-    Arg::new(global, id)
-        .long(id)
-        .value_name("N")
-        .value_parser(value_parser!(u64))
-        .default_value(default)
-        .help(help)
 }

@@ -2,6 +2,7 @@
 ghost use Rattle.std.specs.Prelude.{◌≡◌, ◌<◌, [], IfOk};
 ghost use Rattle.bw_tree.specs.Making.{AreAbutting};
 
+use crate::load::Load;
 use anyhow::{Result, bail};
 use bw_batch::{Key, Leaf, Op, PageId, Pairs, Reply, Value};
 use bw_memory::Alloc;
@@ -121,7 +122,7 @@ impl Order {
 pub fn upserts(alloc: Alloc, order: Order, from: u64, to: u64) -> Result<Vec<Op, Alloc>> {
     let mut ops = Vec::new(alloc);
     for place in from..to {
-        ops.push(upsert(alloc, order.number(place), place)?)?;
+        put(&mut ops, upsert(alloc, order.number(place), place)?)?;
     }
     Ok(ops)
 }
@@ -156,7 +157,7 @@ pub fn numbers(
 pub fn deletes(alloc: Alloc, numbers: &[u64]) -> Result<Vec<Op, Alloc>> {
     let mut ops = Vec::new(alloc);
     for number in numbers {
-        ops.push(Op::Delete(key(alloc, *number)?))?;
+        put(&mut ops, Op::Delete(key(alloc, *number)?))?;
     }
     Ok(ops)
 }
@@ -220,28 +221,30 @@ impl Kind {
     }
 }
 
-/// So many operations of a kind, on keys that are drawn.
-pub fn drawn(
-    alloc: Alloc,
-    random: &mut Random,
-    draw: Draw,
-    keys: u64,
-    operations: u64,
-    kind: Kind,
-) -> Result<Vec<Op, Alloc>>
-    requires { 0 < keys }
+/// The operations of a batch of a kind, on keys that are drawn.
+pub fn drawn(alloc: Alloc, random: &mut Random, load: Load, kind: Kind) -> Result<Vec<Op, Alloc>>
+    requires { 0 < load.keys }
 {
     let mut ops = Vec::new(alloc);
-    for number in 0..operations {
-        let drawn = draw.number(random, keys);
+    for number in 0..load.operations {
+        let drawn = load.draw.number(random, load.keys);
         let is_write = kind != Kind::Gets && random.below(2) == 0;
-        ops.push(if is_write {
-            upsert(alloc, drawn, number)?
-        } else {
-            read(key(alloc, drawn)?, kind)
-        })?;
+        put(&mut ops, op_at(alloc, drawn, kind, is_write, number)?)?;
     }
     Ok(ops)
+}
+
+// The operation at a key that stands in a batch of a kind.
+fn op_at(alloc: Alloc, number: u64, kind: Kind, is_write: bool, value: u64) -> Result<Op> {
+    if is_write {
+        return upsert(alloc, number, value);
+    }
+    Ok(read(key(alloc, number)?, kind))
+}
+
+fn put(ops: &mut Vec<Op, Alloc>, op: Op) -> Result<()> {
+    ops.push(op)?;
+    Ok(())
 }
 
 // The read at a key that stands in a batch of a kind.
@@ -275,24 +278,38 @@ fn scanned(
 
 /// What the map answers to a get, an upsert, a delete or a scan without an end, after which it is changed.
 pub fn answer(alloc: Alloc, map: &mut BTreeMap<Key, Value, Alloc>, op: &Op) -> Result<Reply> {
-    Ok(match op {
-        Op::Get(key) => match map.get(key) {
-            Some(value) => Reply::Found(value.copy()?),
-            None => Reply::Absent,
-        },
-        Op::Upsert(key, value) => match map.insert(key.copy()?, value.copy()?)? {
-            Some(value) => Reply::Was(value),
-            None => Reply::New,
-        },
-        Op::Delete(key) => match map.remove(key) {
-            Some(value) => Reply::Was(value),
-            None => Reply::Absent,
-        },
+    match op {
+        Op::Get(key) => found(map, key),
+        Op::Upsert(key, value) => put_in(map, key, value),
+        Op::Delete(key) => Ok(removed(map, key)),
         Op::Scan {
             from,
             to: None,
             most,
-        } => Reply::Pairs(scanned(alloc, map, from, *most)?),
-        _ => bail!("no get, no upsert, no delete, and no scan without an end"),
-    })
+        } => Ok(Reply::Pairs(scanned(alloc, map, from, *most)?)),
+        Op::Scan { .. } | Op::Rscan { .. } | Op::Insert(..) | Op::Update(..) | Op::SwapIf(..) => {
+            bail!("no get, no upsert, no delete, and no scan without an end")
+        }
+    }
+}
+
+fn found(map: &BTreeMap<Key, Value, Alloc>, key: &Key) -> Result<Reply> {
+    match map.get(key) {
+        Some(value) => Ok(Reply::Found(value.copy()?)),
+        None => Ok(Reply::Absent),
+    }
+}
+
+fn put_in(map: &mut BTreeMap<Key, Value, Alloc>, key: &Key, value: &Value) -> Result<Reply> {
+    match map.insert(key.copy()?, value.copy()?)? {
+        Some(value) => Ok(Reply::Was(value)),
+        None => Ok(Reply::New),
+    }
+}
+
+fn removed(map: &mut BTreeMap<Key, Value, Alloc>, key: &Key) -> Reply {
+    match map.remove(key) {
+        Some(value) => Reply::Was(value),
+        None => Reply::Absent,
+    }
 }
