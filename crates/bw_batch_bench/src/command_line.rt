@@ -50,17 +50,21 @@ other words.";
 
 /// The command line.
 pub fn program<'a>(global: Global) -> Result<Command<'a>, AllocError> {
-    let skewed = "Draw some keys more often than others, as by Zipf's law";
-    let beside = "Consolidate leaves beside the posting of a batch";
     let command = Command::new(global, "bw_batch_bench")
         .about("Times batches on an index of many leaves beside an ordered map.")
         .after_help(AFTER)
         .no_binary_name(true)
         .arg(job_argument(global))?
-        .arg(kind_option(global))?
+        .arg(kind_option(global))?;
+    with_numbers(global, with_flags(global, command)?)?.arg(by_option(global))
+}
+
+fn with_flags<'a>(global: Global, command: Command<'a>) -> Result<Command<'a>, AllocError> {
+    let skewed = "Draw some keys more often than others, as by Zipf's law";
+    let beside = "Consolidate leaves beside the posting of a batch";
+    command
         .arg(flag(global, "skewed", skewed))?
-        .arg(flag(global, "beside", beside))?;
-    with_numbers(global, command)?.arg(by_option(global))
+        .arg(flag(global, "beside", beside))
 }
 
 fn job_argument<'a>(global: Global) -> Arg<'a> {

@@ -10,7 +10,7 @@ use clap::parser::ValueSource;
 use std::alloc::Global;
 
 /// What is done.
-#[derive(Clone, Copy, Debug, PartialEq, Eq)]
+#[derive(Clone, Copy, PartialEq, Eq)]
 pub enum Job {
     Check,
     Run,
@@ -53,7 +53,7 @@ impl Job {
 }
 
 /// An option.
-#[derive(Clone, Copy, Debug, PartialEq, Eq)]
+#[derive(Clone, Copy, PartialEq, Eq)]
 pub enum Setting {
     Kind,
     Skewed,
@@ -96,7 +96,7 @@ impl Setting {
 }
 
 /// What has several values in a picture.
-#[derive(Clone, Copy, Debug, PartialEq, Eq)]
+#[derive(Clone, Copy, PartialEq, Eq)]
 pub enum By {
     Workers,
     Batch,

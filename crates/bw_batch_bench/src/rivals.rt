@@ -5,7 +5,7 @@ use crate::load::{BATCH, Load, fresh};
 use crate::runs::Runs;
 use crate::workload::{Kind, Order, Random, answer, drawn, leaves_for, upserts};
 use anyhow::Result;
-use bw_batch::{Done, Index, Key, Op, OpenGate, Options, Reply, Tree, Value};
+use bw_batch::{Index, Key, Op, OpenGate, Options, Replies, Reply, Tree, Value};
 use bw_memory::Alloc;
 use std::collections::BTreeMap;
 use std::thread::Threads;
@@ -185,9 +185,9 @@ impl Rivals {
         ops: &[Op],
         runs: &mut Runs,
     ) -> Result<()> {
-        let done = run_index(rt, &mut self.index, ops, runs)?;
+        let replies = run_index(rt, &mut self.index, ops, runs)?;
         let expected = self.run_map(rt, alloc, ops, runs)?;
-        runs.count_same(done.replies.as_slice(), &expected);
+        runs.count_same(replies.as_slice(), &expected);
         Ok(())
     }
 
@@ -218,12 +218,23 @@ pub fn run_index<R: Threads + Clock + Sync>(
     index: &mut Index,
     ops: &[Op],
     runs: &mut Runs,
-) -> Result<Done> {
+) -> Result<Replies> {
     let start = Instant::now(rt)?;
-    let done = index.run(rt, ops, &OpenGate)?;
+    let replies = replies_of(rt, index, ops, runs)?;
     runs.index.push(start.elapsed(rt)?)?;
+    Ok(replies)
+}
+
+// Runs a batch on an index, and counts the leaves that were replaced.
+fn replies_of<R: Threads + Sync>(
+    rt: &R,
+    index: &mut Index,
+    ops: &[Op],
+    runs: &mut Runs,
+) -> Result<Replies> {
+    let done = index.run(rt, ops, &OpenGate)?;
     runs.replaced = runs.replaced.saturating_add(done.replaced);
-    Ok(done)
+    Ok(done.replies)
 }
 
 // What a map answers to the operations of a batch, one after another.

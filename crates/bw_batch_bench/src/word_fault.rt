@@ -7,7 +7,7 @@ use std::fmt::{self, Display, Formatter, Write};
 use std::io;
 
 /// An option among the words that isn't read.
-#[derive(Clone, Copy, Debug)]
+#[derive(Clone, Copy)]
 pub enum Unread {
     /// The job reads others alone.
     ByJob { setting: Setting, job: Job },
@@ -31,7 +31,7 @@ impl Display for Unread {
 }
 
 /// Why the words ask for nothing, or help where they ask for it.
-#[derive(Debug, Drop)]
+#[derive(Drop)]
 pub enum WordFault {
     /// What clap says of them.
     Words(Error),

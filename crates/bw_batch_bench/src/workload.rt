@@ -76,8 +76,7 @@ pub fn leaves_for(alloc: Alloc, keys: u64) -> Result<Vec<Leaf, Alloc>>
     let mut place = (keys.saturating_sub(1) / LEAF).min(PLACE_MAX) as u32;
     let mut low = low_of(alloc, place)?;
     let mut leaves = Vec::new(alloc);
-    let none = Pairs::new(alloc);
-    leaves.push(Leaf::from_pairs(low.copy()?, None, None, none))?;
+    leaves.push(Leaf::from_pairs(low.copy()?, None, None, Pairs::new(alloc)))?;
     while place > 0 {
         let side = Some(PageId(place));
         let high = low;
@@ -86,8 +85,7 @@ pub fn leaves_for(alloc: Alloc, keys: u64) -> Result<Vec<Leaf, Alloc>>
         if !(low < high) {
             bail!("leaves out of order");
         }
-        let none = Pairs::new(alloc);
-        leaves.push(Leaf::from_pairs(low.copy()?, Some(high), side, none))?;
+        leaves.push(Leaf::from_pairs(low.copy()?, Some(high), side, Pairs::new(alloc)))?;
     }
     leaves.reverse();
     Ok(leaves)
@@ -163,7 +161,7 @@ pub fn deletes(alloc: Alloc, numbers: &[u64]) -> Result<Vec<Op, Alloc>> {
 }
 
 /// How often the keys of batches come.
-#[derive(Clone, Copy, Debug, PartialEq, Eq)]
+#[derive(Clone, Copy, PartialEq, Eq)]
 pub enum Draw {
     /// Each as often as each other one.
     Uniform,
