@@ -37,8 +37,8 @@ const AFTER: &str = "The jobs:
           and 4 workers, by batches of 1, 8, 64, 1024 and 65536 operations, or over 10000, 100000
           and 1000000 keys, as --by says; of small batches as many as have 8192 operations
 
---keys, --workers and --beside are read by `run`, `bytes` and `picture`, --kind, --skewed, --batch,
---batches and --seed by `run` and `picture`, and --by by `picture`, which doesn't read the option
+--keys, --workers, --beside and --eager are read by `run`, `bytes` and `picture`, --kind, --skewed,
+--batch, --batches and --seed by `run` and `picture`, and --by by `picture`, which doesn't read the option
 that --by names. An option that isn't read is refused.
 
 The kinds: gets; upserts, half of them gets; scans, of 32 pairs, half of them upserts.
@@ -62,9 +62,11 @@ pub fn program<'a>(global: Global) -> Result<Command<'a>, AllocError> {
 fn with_flags<'a>(global: Global, command: Command<'a>) -> Result<Command<'a>, AllocError> {
     let skewed = "Draw some keys more often than others, as by Zipf's law";
     let beside = "Consolidate leaves beside the posting of a batch";
+    let eager = "Consolidate each leaf that a batch wrote to behind it";
     command
         .arg(flag(global, "skewed", skewed))?
-        .arg(flag(global, "beside", beside))
+        .arg(flag(global, "beside", beside))?
+        .arg(flag(global, "eager", eager))
 }
 
 fn job_argument<'a>(global: Global) -> Arg<'a> {

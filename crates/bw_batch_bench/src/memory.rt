@@ -1,7 +1,7 @@
 //! How many bytes an index and a map have in use.
 
 use crate::request::Request;
-use crate::rivals::{Heaps, Rivals, options_of};
+use crate::rivals::{Heaps, Rivals};
 use anyhow::Result;
 use bw_memory::{Alloc, Heap, LIMIT_MAX};
 use std::alloc::Global;
@@ -32,7 +32,7 @@ pub fn print_bytes<R: Threads + Clock + Sync + Print>(
 ) -> Result<()> {
     let heaps = own_heaps(global, alloc)?;
     let keys = request.keys;
-    let options = options_of(request.workers)?.with_beside(request.beside);
+    let options = request.options()?;
     let rivals = Rivals::filled(rt, heaps, options, keys)?;
     let index = bytes_each(heaps.index.used(), keys);
     let map = bytes_each(heaps.map.used(), keys);

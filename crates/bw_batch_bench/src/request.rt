@@ -3,8 +3,11 @@ ghost use Rattle.std.specs.Prelude.{◌<◌};
 
 use crate::command_line::program;
 use crate::load::{BATCH, Load};
+use crate::rivals::options_of;
 use crate::word_fault::{Unread, WordFault};
 use crate::workload::{Draw, Kind};
+use anyhow::Result;
+use bw_batch::Options;
 use clap::ArgMatches;
 use clap::parser::ValueSource;
 use std::alloc::Global;
@@ -42,7 +45,7 @@ impl Job {
     // Whether it does something else where the option says something else.
     fn reads(self, setting: Setting) -> bool {
         match setting {
-            Setting::Keys | Setting::Workers | Setting::Beside => {
+            Setting::Keys | Setting::Workers | Setting::Beside | Setting::Eager => {
                 self == Job::Run || self == Job::Bytes || self == Job::Picture
             }
             Setting::Kind | Setting::Skewed | Setting::Batch | Setting::Batches | Setting::Seed =>
@@ -58,6 +61,7 @@ pub enum Setting {
     Kind,
     Skewed,
     Beside,
+    Eager,
     Keys,
     Workers,
     Batch,
@@ -66,10 +70,11 @@ pub enum Setting {
     By,
 }
 
-static SETTINGS: [Setting; 9] = [
+static SETTINGS: [Setting; 10] = [
     Setting::Kind,
     Setting::Skewed,
     Setting::Beside,
+    Setting::Eager,
     Setting::Keys,
     Setting::Workers,
     Setting::Batch,
@@ -85,6 +90,7 @@ impl Setting {
             Setting::Kind => "kind",
             Setting::Skewed => "skewed",
             Setting::Beside => "beside",
+            Setting::Eager => "eager",
             Setting::Keys => "keys",
             Setting::Workers => "workers",
             Setting::Batch => "batch",
@@ -145,6 +151,7 @@ pub struct Request {
     pub kind: Kind,
     pub draw: Draw,
     pub beside: bool,
+    pub eager: bool,
     pub keys: u64,
     pub workers: u64,
     pub batch: u64,
@@ -154,6 +161,12 @@ pub struct Request {
 }
 
 impl Request {
+    /// The options of the index.
+    pub fn options(&self) -> Result<Options> {
+        let options = options_of(self.workers)?;
+        Ok(options.with_beside(self.beside).with_eager(self.eager))
+    }
+
     /// The same with another value of what has several in a picture.
     pub fn with_value(&self, value: u64) -> Request {
         match self.by {
@@ -234,6 +247,7 @@ fn request_of(matches: &ArgMatches<'_>) -> Request {
         kind: kind_named(matches.get_str("kind")),
         draw: draw_of(matches.get_flag("skewed")),
         beside: matches.get_flag("beside"),
+        eager: matches.get_flag("eager"),
         keys: number_in(matches, "keys"),
         workers: number_in(matches, "workers"),
         batch: number_in(matches, "batch"),

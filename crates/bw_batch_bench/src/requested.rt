@@ -1,7 +1,7 @@
 //! The batches that a request describes.
 
 use crate::request::Request;
-use crate::rivals::{Rivals, one_heap, options_of};
+use crate::rivals::{Rivals, one_heap};
 use crate::runs::Runs;
 use anyhow::Result;
 use bw_memory::Alloc;
@@ -15,7 +15,7 @@ pub fn run_requested<R: Threads + Clock + Sync>(
     request: &Request,
     runs: &mut Runs,
 ) -> Result<()> {
-    let options = options_of(request.workers)?.with_beside(request.beside);
+    let options = request.options()?;
     let mut rivals = Rivals::filled(rt, one_heap(alloc), options, request.keys)?;
     rivals.run_drawn(rt, alloc, request.load(), request.kind, request.seed, runs)
 }

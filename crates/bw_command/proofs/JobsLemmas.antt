@@ -48,7 +48,7 @@ nothing_done settings job (Some bytes) contents = (
   ([], ([], refl), Appends-nil contents),
 )
 
--- what a job's outcome tells, it tells of each way to post
-pub as_told : (status : ℕ) (settings : Settings) (beside : Bool) (job : Job) (input old new : Option (List ℕ)) (failures after : ℕ) → IsJobOutcome status (record settings { beside = beside }) job input old new failures after →
+-- what a job's outcome tells, it tells of each way to post and to tidy
+pub as_told : (status : ℕ) (settings : Settings) (beside eager : Bool) (job : Job) (input old new : Option (List ℕ)) (failures after : ℕ) → IsJobOutcome status (record settings { beside = beside; eager = eager }) job input old new failures after →
     IsJobOutcome status settings job input old new failures after
-as_told status settings beside job input old new failures after told = record { one_of = told.one_of; done = told.done; line = told.line; failed = told.failed }
+as_told status settings beside eager job input old new failures after told = record { one_of = told.one_of; done = told.done; line = told.line; failed = told.failed }

@@ -66,7 +66,7 @@ program_with rules = record {
 
 abbrev pub program_of : JobWords → App
 program_of jobs = program_with (job_rule jobs ∷ file_rule ∷ flag_rule (codes "stats")
-    ∷ flag_rule (codes "beside") ∷ number_rules)
+    ∷ flag_rule (codes "beside") ∷ flag_rule (codes "eager") ∷ number_rules)
 
 -- ---- what words ask for
 
@@ -127,6 +127,7 @@ pub record IsMadeBy (values : List Row) (request : Request) : Type 0 where
   pub limits : request.limits ≡ limits_of values
   pub stats : IsFlag (codes "stats") values request.stats
   pub beside : IsFlag (codes "beside") values request.beside
+  pub eager : IsFlag (codes "eager") values request.eager
   pub file : option_map (λ path. path.now) request.file ≡ file_of values
 
 -- the request of words in which nothing is wrong

@@ -79,7 +79,9 @@ fn run_request<F: Files + AllocGlobal + Threads + Clock + Sync, R: Inlet, W: Out
     ensures most { result ≤ 4 }
 {
     let options = match request.limits.options() {
-        Ok(options) => options.with_beside(request.beside),
+        Ok(options) => options
+            .with_beside(request.beside)
+            .with_eager(request.eager),
         Err(fault) => {
             report(alloc, errors, fault);
             return 2;

@@ -55,6 +55,8 @@ pub struct Request<'a> {
     pub stats: bool,
     /// Whether workers consolidate leaves beside the posting of a batch.
     pub beside: bool,
+    /// Whether each leaf that a batch wrote to is consolidated behind it.
+    pub eager: bool,
     /// The path of the trace, None for standard input.
     pub file: Option<&'a str>,
 }
@@ -132,6 +134,7 @@ fn request_of<'a>(matches: &ArgMatches<'a>) -> Request<'a>
         limits: limits_in(matches),
         stats: flag_in(matches, "stats"),
         beside: flag_in(matches, "beside"),
+        eager: flag_in(matches, "eager"),
         file: file_in(matches),
     }
 }
@@ -205,6 +208,7 @@ fn program<'a>(global: Global) -> Result<Command<'a>, AllocError>
     let stats = "Tell on standard error how much was run, and how fast";
     let beside =
         "Let workers consolidate leaves before they post: less tidying behind a batch, and more work in all";
+    let eager = "Consolidate each leaf that a batch wrote to behind it: pays for large batches";
     let command = Command::new(global, "bw_run")
         .about(ABOUT)
         .after_help(AFTER)
@@ -214,7 +218,8 @@ fn program<'a>(global: Global) -> Result<Command<'a>, AllocError>
         .arg(job_argument(global))?
         .arg(file_argument(global))?
         .arg(flag(global, "stats", stats))?
-        .arg(flag(global, "beside", beside))?;
+        .arg(flag(global, "beside", beside))?
+        .arg(flag(global, "eager", eager))?;
     with_limits(global, command)
 }
 

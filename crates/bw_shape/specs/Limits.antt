@@ -14,7 +14,6 @@ pub record LimitsView : Type 0 where
   pub page_min : ℕ
 
 pub record AreLimits (limits : LimitsView) : Type 0 where
-  pub some_chain : 1 ≤ limits.chain_max
   pub short_chain : limits.chain_max ≤ 1024
   pub some_page : 4 ≤ limits.page_max
   pub small_page : limits.page_max ≤ 4096

@@ -31,7 +31,7 @@ impl Limits {
 
     /// These limits:
     ///
-    /// - `chain_max`: how many writes stand over a leaf's base page until they are consolidated, from 1 to 1,024;
+    /// - `chain_max`: how many writes stand over a leaf's base page until they are consolidated, from 0 to 1,024;
     /// - `page_max`: how many entries a page has until it is split, from 4 to 4,096;
     /// - `page_min`: below how many entries a page is merged, from 0 to half of `page_max`.
     pub fn new(chain_max: u64, page_max: u64, page_min: u64) -> Limits

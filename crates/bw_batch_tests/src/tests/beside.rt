@@ -51,6 +51,15 @@ fn a_leaf_takes_the_place_of_its_chain(rt: HostRuntime) {
     }
 }
 
+#[test]
+fn a_leaf_that_was_written_to_is_consolidated_behind_its_batch(rt: HostRuntime) {
+    let alloc = heap(rt.alloc()).expect(&rt, "a heap");
+    let options = two_in_a_chain(&rt, 64).with_eager(true);
+    let mut index = Index::new(alloc, options).expect(&rt, "an index");
+    run_beside(&rt, alloc, &mut index, FIRST, 0, NO_WRITE);
+    run_beside(&rt, alloc, &mut index, SECOND, 0, NO_WRITE);
+}
+
 const READS: &[Row] = &[(Get("a"), Found("1")), (Get("b"), Absent)];
 
 const NO_WRITE: &[Listed] = &[(0, 0, "", None, 1, 0)];

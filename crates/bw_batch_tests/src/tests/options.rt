@@ -147,4 +147,7 @@ fn options_are_copied_and_read(rt: HostRuntime) {
     assert_equal(&rt, copy.batch_max(), 3);
     assert_that(&rt, !options.beside() && options.with_beside(true).beside());
     assert_that(&rt, !Options::default().beside());
+    assert_that(&rt, !options.eager() && options.with_eager(true).eager());
+    assert_that(&rt, !Options::default().eager());
+    assert_that(&rt, options.with_eager(true).with_beside(true).eager());
 }

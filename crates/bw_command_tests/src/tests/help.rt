@@ -17,6 +17,7 @@ Arguments:
 Options:
       --stats           Tell on standard error how much was run, and how fast
       --beside          Let workers consolidate leaves before they post: less tidying behind a batch, and more work in all
+      --eager           Consolidate each leaf that a batch wrote to behind it: pays for large batches
       --workers <N>     How many threads find the leaves of a batch, post, answer and consolidate, 1 to 64 [default: 4]
       --piece <N>       How many writes a worker takes at once, 1 to 4096 [default: 64]
       --chain <N>       How many writes lie over a leaf's base page until it is consolidated, 1 to 1024 [default: 8]

@@ -61,6 +61,20 @@ fn a_leaf_takes_the_place_of_its_chain_where_that_is_asked_for(rt: HostRuntime) 
 }
 
 #[test]
+fn no_write_lies_over_a_leaf_where_that_is_asked_for(rt: HostRuntime) {
+    let runner = Runner::new(&rt, rt.alloc());
+    let text = "upsert a 1\ngo\nupsert a 2\nget a\ninsert b 3";
+    runner.expect_words(&["shape", "--eager"], text, "leaf % * 2 0\n", "", 0);
+    runner.expect_words(
+        &["run", "--eager"],
+        text,
+        "new\nwas 1\nis 2\ninserted\n",
+        "",
+        0,
+    );
+}
+
+#[test]
 fn a_sweep_leaves_the_writes_of_the_last_batch(rt: HostRuntime) {
     let runner = Runner::new(&rt, rt.alloc());
     runner.expect_words(

@@ -118,6 +118,13 @@ const LONG: Sizes = Sizes {
     page_min: 3,
 };
 
+// With none: each leaf that was written to is consolidated.
+const NO_CHAINS: Sizes = Sizes {
+    chain_max: 0,
+    page_max: 4,
+    page_min: 2,
+};
+
 // An index, the plain program that tidies, and the one that answers.
 #[derive(Drop)]
 struct Compared {
@@ -140,11 +147,12 @@ fn empty<R: Abort>(
         page_min,
     } = limits;
     let batch_max = LONGEST as u64;
-    let options = Options::new(
-        workers, 1, chain_max, page_max, page_min, batch_max, record_max,
-    );
+    let chain = chain_max.max(1);
+    let options = Options::new(workers, 1, chain, page_max, page_min, batch_max, record_max)
+        .expect(rt, "options")
+        .with_eager(chain_max == 0);
     Compared {
-        index: Index::new(make.alloc, options.expect(rt, "options")).expect(rt, "an index"),
+        index: Index::new(make.alloc, options).expect(rt, "an index"),
         plain: PlainTree::new(
             rt,
             make.alloc,
@@ -256,4 +264,16 @@ fn small_pages_are_merged_as_by_the_plain_program_among_sweeps(rt: HostRuntime) 
 fn chains_stay_and_pages_are_merged_as_by_the_plain_program_among_sweeps(rt: HostRuntime) {
     let make = Maker::new(&rt, rt.alloc());
     compare(&rt, &make, LONG, FEW);
+}
+
+#[test]
+fn no_chain_stays_as_by_the_plain_program(rt: HostRuntime) {
+    let make = Maker::new(&rt, rt.alloc());
+    compare(&rt, &make, NO_CHAINS, AMPLE);
+}
+
+#[test]
+fn no_chain_stays_as_by_the_plain_program_among_sweeps(rt: HostRuntime) {
+    let make = Maker::new(&rt, rt.alloc());
+    compare(&rt, &make, NO_CHAINS, FEW);
 }

@@ -16,6 +16,7 @@ returns-in_default-clause-input g c =
     let new = g.W.Outlet.contents c.run_input.new.output in
     let failures = g.W.Outlet.failures c.args.output.now in
     let after = g.W.Outlet.failures c.run_input.new.output in
-    let same = c.with_beside-options.ensures ∙ ap (λ (s : Settings). record s { beside = request.beside }) c.in-Ok.ensures.0 in
+    let beside = c.with_beside.ensures ∙ ap (λ (s : Settings). record s { beside = request.beside }) c.in-Ok.ensures.0 in
+    let same = c.with_eager-options.ensures ∙ ap (λ (s : Settings). record s { eager = request.eager }) beside in
     let told = subst (λ (s : Settings). IsJobOutcome c.run_input.result s request.job input old new failures after) same c.run_input.ensures in
-    always_none (first_fault settings) (always_none request.file (as_told c.run_input.result settings request.beside request.job input old new failures after told))
+    always_none (first_fault settings) (always_none request.file (as_told c.run_input.result settings request.beside request.eager request.job input old new failures after told))
