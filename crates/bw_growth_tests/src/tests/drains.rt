@@ -193,6 +193,20 @@ fn an_index_drained_from_the_left_keeps_little_behind_a_sweep(rt: HostRuntime) -
     Ok(())
 }
 
+// Each batch finds the records of the one before it, so that a sweep comes first. The last leaves go behind the batches of reads.
+#[test]
+fn an_index_drained_to_and_fro_keeps_little_behind_sweeps(rt: HostRuntime) -> Result<(), Fail> {
+    let alloc = Heap::within(rt.alloc(), 1 << 30).leak(rt.alloc())?;
+    let new = kept_by_new(&rt, alloc);
+    let mut index = filled(&rt, alloc, sweeping(&rt), true);
+    assert_equal(&rt, drain(&rt, alloc, &mut index, 10_000, true), 0);
+    for _ in 0..3u32 {
+        read_some(&rt, alloc, &mut index, 10_000);
+    }
+    keeps_little(&rt, alloc, &index, new);
+    Ok(())
+}
+
 // Options with which no delete makes a leaf due, since a chain may have as many writes as a leaf has pairs, and with which
 // a sweep is due before a batch of 10,000 operations that finds the records of all puts and deletes, and of no more.
 fn long_chains<R: Abort>(rt: &R) -> Options {
