@@ -15,5 +15,6 @@ returns c =
     let one = c.in_ok-arg.ensures.shape c.job_argument.ensures.local ∙ ap₂ with_rule start_is c.job_argument.ensures.rule.1 in
     let two = c.in_ok-arg-2.ensures.shape c.file_argument.ensures.local ∙ ap₂ with_rule one c.file_argument.ensures.rule in
     let three = c.in_ok-arg-3.ensures.shape c.flag.ensures.local ∙ ap₂ with_rule two c.flag.ensures.rule in
-    let four = c.in_ok-command.ensures.shape c.flag-2.ensures.local ∙ ap₂ with_rule three c.flag-2.ensures.rule in
-    IfOk-weaker c.with_limits.result _ _ (λ command is. (c.job_argument.ensures.rule.0, is ∙ ap (λ (a : App). fold with_rule a number_rules) four)) c.with_limits.ensures
+    let four = c.in_ok-arg-4.ensures.shape c.flag-2.ensures.local ∙ ap₂ with_rule three c.flag-2.ensures.rule in
+    let five = c.in_ok-command.ensures.shape c.flag-3.ensures.local ∙ ap₂ with_rule four c.flag-3.ensures.rule in
+    IfOk-weaker c.with_limits.result _ _ (λ command is. (c.job_argument.ensures.rule.0, is ∙ ap (λ (a : App). fold with_rule a number_rules) five)) c.with_limits.ensures
