@@ -1,7 +1,8 @@
 -- A replay at a later stamp, and what its pairs are.
 use Rattle.std.proofs.Common.{◌≡◌, ℕ, zero, suc, ◌+◌, ◌≤◌, Ordering, Bool, true, false, cond, not, ◌&&◌, T, List, [], ◌∷◌, ◌++◌, drop, length, take, nat_le, Option, Some, None, refl, sym, ap, ◌∙◌, subst, arith}
 use Rattle.std.proofs.lemmas.List.{length-take, take-append-le}
-use Rattle.std.specs.Prelude.{filter}
+use Rattle.std.specs.Prelude.{filter, slice_get}
+use Rattle.std.specs.Borrow.{Bor}
 use Rattle.std.specs.List.{list_all}
 use Rattle.std.specs.Ordering.{is_gt, is_le, is_lt, ordering_reverse}
 use Rattle.std.specs.BTreeMap.Range.{entries_between}
@@ -14,10 +15,10 @@ use Rattle.bw_model.specs.Values.{ValueBytes}
 use Rattle.bw_page.proofs.Truths.{both_of, holds, true_holds}
 use Rattle.bw_page.proofs.KeyLemmas.{below_trans}
 use Rattle.bw_delta.specs.Writes.{WriteView}
-use Rattle.bw_delta.specs.History.{history, action_at}
+use Rattle.bw_delta.specs.History.{history, action_at, pointed_to}
 use Rattle.bw_delta.specs.Batches.{writes_to}
 use Rattle.bw_delta.specs.Readings.{from_stamp}
-use Rattle.bw_delta.specs.Replays.{ReplayView, IsReplayOf, replayed_value}
+use Rattle.bw_delta.specs.Replays.{ReplayView, IsReplayOf, StaysUntil, replayed_value}
 use Rattle.bw_delta.specs.Rising.{HasRisingStamps}
 use Rattle.bw_delta.proofs.Batches.{rising_filter}
 use Rattle.bw_delta.proofs.Histories.{none_below, quiet}
@@ -91,6 +92,30 @@ module _ (start : KeyBytes → Option ValueBytes) (high : Option KeyBytes) (writ
           let here = writes_to key r.rest in
           sym (quiet (find key_cmp key r.pairs) (action_at here) r.stamp (λ t lt. none_below r.stamp here t (rising_filter (λ w. key_eq key w.key) r.stamp r.rest so.rising) lt))
           ∙ so.values key r.stamp inside (omega arith)
+
+-- before the first write that is left nothing changes
+pub stays : (replay : ReplayView) (until : ℕ) → HasRisingStamps until replay.rest → StaysUntil replay until
+stays replay until rising key stamp le upto =
+    quiet (find key_cmp key replay.pairs) (action_at (writes_to key replay.rest)) stamp
+    (λ t lt. none_below until (writes_to key replay.rest) t (rising_filter (λ w. key_eq key w.key) until replay.rest rising) (omega (arith, lt, upto)))
+
+-- which is the one with the least stamp
+pub rises_from_first : (low : ℕ) (ws : List (Bor WriteView)) (w : Bor WriteView) → slice_get ws 0 ≡ Some w → HasRisingStamps low (pointed_to ws) → HasRisingStamps w.now.stamp (pointed_to ws)
+rises_from_first low [] w e rising = absurd (none e)
+  where
+    none : None ≡ Some w → ⊥
+    none e = cc
+rises_from_first low (x ∷ xs) w e rising = subst (λ (v : Bor WriteView). HasRisingStamps v.now.stamp (pointed_to (x ∷ xs))) (one e) (omega arith, rising.1)
+  where
+    one : Some x ≡ Some w → x ≡ w
+    one e = cc
+
+pub rises_where_none : (until : ℕ) (ws : List (Bor WriteView)) → slice_get ws 0 ≡ None → HasRisingStamps until (pointed_to ws)
+rises_where_none until [] e = tt
+rises_where_none until (x ∷ xs) e = absurd (some e)
+  where
+    some : Some x ≡ None → ⊥
+    some e = cc
 
 le_or_below : (a b : KeyBytes) → is_le (key_cmp a b) ≡ not (is_lt (key_cmp b a))
 le_or_below a b = ap is_le (key_cmp_total.antisymm a b) ∙ turned (key_cmp b a)

@@ -26,3 +26,9 @@ pub record IsReplayOf (start : KeyBytes → Option ValueBytes) (high : Option Ke
   pub rising : HasRisingStamps replay.stamp replay.rest
   pub values : (key : KeyBytes) (stamp : ℕ) → T (is_below_end high key) → replay.stamp ≤ stamp →
       replayed_value replay stamp key ≡ history (start key) (action_at (writes_to key writes)) stamp
+
+-- as of each stamp from its own on and up to this one, it has the pairs that it has now
+abbrev pub StaysUntil : ReplayView → ℕ → Type 0
+StaysUntil replay until =
+    (key : KeyBytes) (stamp : ℕ) → replay.stamp ≤ stamp → stamp ≤ until →
+    replayed_value replay stamp key ≡ find key_cmp key replay.pairs

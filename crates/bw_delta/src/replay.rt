@@ -7,7 +7,7 @@ ghost use Rattle.bw_model.specs.Contents.{is_pair_in_range};
 ghost use Rattle.bw_model.specs.Values.{ValueBytes};
 ghost use Rattle.bw_delta.specs.History.{pointed_to, HasDistinctStamps};
 ghost use Rattle.bw_delta.specs.PagePairs.{parts_of, value_in_parts};
-ghost use Rattle.bw_delta.specs.Replays.{IsReplayOf};
+ghost use Rattle.bw_delta.specs.Replays.{IsReplayOf, StaysUntil};
 ghost use Rattle.bw_delta.specs.Writes.{WriteView};
 
 use crate::present::Present;
@@ -93,6 +93,17 @@ impl<'a> Replay<'a> {
         ensures { result ≡ self.now.stamp }
     {
         self.stamp
+    }
+
+    /// The stamp of the first write that had no effect yet, or the greatest number where there is none: as of the stamps up to
+    /// this one the pairs are the same. It costs one step.
+    pub fn until(&self) -> u64
+        ensures { StaysUntil self.now result }
+    {
+        match self.writes[self.passed..].first() {
+            Some(write) => write.stamp,
+            None => u64::MAX,
+        }
     }
 
     /// The replay as of a stamp that isn't below its own: each write with a smaller one has its effect, in up to two

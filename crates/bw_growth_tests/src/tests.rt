@@ -4,6 +4,8 @@ mod assertions;
 mod compared;
 mod drains;
 mod drops;
+mod gaps;
+mod given;
 mod heaps;
 mod largest;
 mod leaves;

@@ -1,5 +1,5 @@
 -- The pairs of a range of keys that lie on a page.
-use Rattle.std.specs.Prelude.{◌≡◌, ℕ, ◌&&◌, T, List, Option, Some, None, MatchOption, if◌then◌else◌}
+use Rattle.std.specs.Prelude.{◌≡◌, ℕ, ◌&&◌, T, List, Option, Some, None, if◌then◌else◌}
 use Rattle.std.specs.FinMap.{find, is_sorted}
 use Rattle.std.specs.Borrow.{Bor}
 use Rattle.bw_key.specs.Order.{KeyBytes, key_cmp}
@@ -54,7 +54,3 @@ EndsLeaf delta leaf high side =
     (bases : Bases) →
     (high ≡ high_of (over bases delta (plain (LeafPage leaf)))) ×
     (side ≡ side_of_slot (over bases delta (plain (LeafPage leaf))))
-
--- the right neighbour of a page, where the page doesn't reach an end
-abbrev pub IsAfter : Slot → Option KeyBytes → Option ℕ → Type 0
-IsAfter slot to next = MatchOption next (Reaches (high_of slot) to) (λ side. side_of_slot slot ≡ Some side)

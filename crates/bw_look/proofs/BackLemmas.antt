@@ -10,7 +10,7 @@ use Rattle.bw_key.specs.Order.{KeyBytes, key_cmp}
 use Rattle.bw_model.specs.Contents.{Contents, is_below_end, is_in_range, pairs_of_range}
 use Rattle.bw_model.specs.Values.{ValueBytes}
 use Rattle.bw_page.proofs.Truths.{holds, true_holds, holds_not, left_of, right_of}
-use Rattle.bw_page.proofs.KeyLemmas.{below_back, below_self, upto_trans}
+use Rattle.bw_page.proofs.KeyLemmas.{below_back, below_self, below_upto, upto_trans}
 use Rattle.bw_delta.proofs.PairMaps.{sorted_in_range}
 use Rattle.bw_level.specs.Slots.{Slot, PageState, Free, Gone, Live, slot_at, has_key}
 use Rattle.bw_level.specs.Levels.{row}
@@ -23,7 +23,7 @@ different : true ≡ false → ⊥
 different e = cc
 
 -- a test after another one
-both_tests : {V : Type 0} (p r q : KeyBytes → Bool) → ((k : KeyBytes) → q k ≡ (r k && p k)) → (es : List (KeyBytes × V)) → where_key key_cmp p (where_key key_cmp r es) ≡ where_key key_cmp q es
+pub both_tests : {V : Type 0} (p r q : KeyBytes → Bool) → ((k : KeyBytes) → q k ≡ (r k && p k)) → (es : List (KeyBytes × V)) → where_key key_cmp p (where_key key_cmp r es) ≡ where_key key_cmp q es
 both_tests p r q whole [] = refl
 both_tests {V} p r q whole (e ∷ es) = step (r e.0) (p e.0) refl refl (both_tests p r q whole es)
   where
@@ -49,7 +49,7 @@ rises : (end : Option KeyBytes) (a b : KeyBytes) → not (is_below_end end a) �
 rises None a b past above = absurd (different (sym past))
 rises (Some to) a b past above = upto_trans to a b (holds_not _ (true_holds _ past)) (below_back a b above)
 
-below_low : (end : Option KeyBytes) (k low : KeyBytes) → is_lt (key_cmp k low) ≡ true → T (is_below_end end low) → is_below_end end k ≡ true
+pub below_low : (end : Option KeyBytes) (k low : KeyBytes) → is_lt (key_cmp k low) ≡ true → T (is_below_end end low) → is_below_end end k ≡ true
 below_low end k low below starts = holds _ (upto_end end k low (below_back k low below) starts)
 
 -- what has been read of a range when a scan has come back to an end: the pairs from the end on, the greatest key first
@@ -187,7 +187,7 @@ starts_before end Free = false
 pub leaves_before : List Slot → List (List ℕ) → Option KeyBytes → ℕ
 leaves_before slots levels end = length (filter (λ p. starts_before end (slot_at slots p)) (row levels 0))
 
-no_more : {X : Type 0} (p q : X → Bool) → ((x : X) → p x ≡ true → q x ≡ true) → (xs : List X) → length (filter p xs) ≤ length (filter q xs)
+pub no_more : {X : Type 0} (p q : X → Bool) → ((x : X) → p x ≡ true → q x ≡ true) → (xs : List X) → length (filter p xs) ≤ length (filter q xs)
 no_more p q passes [] = omega arith
 no_more {X} p q passes (x ∷ xs) = step (p x) (q x) (passes x) (no_more p q passes xs)
   where
@@ -197,7 +197,7 @@ no_more {X} p q passes (x ∷ xs) = step (p x) (q x) (passes x) (no_more p q pas
     step false true so rest = omega (arith, rest)
     step false false so rest = rest
 
-fewer : {X : Type 0} (p q : X → Bool) → ((x : X) → p x ≡ true → q x ≡ true) → (xs : List X) (x : X) → Contains xs x → p x ≡ false → q x ≡ true → length (filter p xs) < length (filter q xs)
+pub fewer : {X : Type 0} (p q : X → Bool) → ((x : X) → p x ≡ true → q x ≡ true) → (xs : List X) (x : X) → Contains xs x → p x ≡ false → q x ≡ true → length (filter p xs) < length (filter q xs)
 fewer p q passes [] x has out inside = absurd (omega (arith, has.1))
 fewer {X} p q passes (y ∷ ys) x (zero, lt, at) out inside = step (p y) (q y) (ap p at ∙ out) (ap q at ∙ inside) (no_more p q passes ys)
   where
@@ -230,6 +230,16 @@ fewer_before slots levels end p before =
 
     inside : (o : Slot) → o ≡ Live before.state → starts_before end o ≡ true
     inside o is = ap (starts_before end) is ∙ holds _ before.starts
+
+-- and before an earlier key no more
+pub no_more_before : (slots : List Slot) (levels : List (List ℕ)) (low before : KeyBytes) → is_lt (key_cmp low before) ≡ false → leaves_before slots levels (Some before) ≤ leaves_before slots levels (Some low)
+unfolding leaves_before
+no_more_before slots levels low before upto = no_more (λ p. starts_before (Some before) (slot_at slots p)) (λ p. starts_before (Some low) (slot_at slots p)) (λ p. passes (slot_at slots p)) (row levels 0)
+  where
+    passes : (o : Slot) → starts_before (Some before) o ≡ true → starts_before (Some low) o ≡ true
+    passes Free e = e
+    passes (Gone l) e = e
+    passes (Live s) e = below_upto s.low before low e upto
 
 -- a range that begins at its end or past it has no pairs
 pub no_pairs : (m : Contents ValueBytes) (from : KeyBytes) (to : Option KeyBytes) → is_below_end to from ≡ false → pairs_of_range m from to ≡ []

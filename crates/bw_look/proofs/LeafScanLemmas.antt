@@ -23,28 +23,6 @@ use Rattle.bw_look.proofs.ScanLemmas.{page_distinct, leaf_in_row, own_home}
 different : false ≡ true → ⊥
 different e = cc
 
--- a leaf without a right neighbour has no end
-pub side_or_end : (slots : List Slot) (root : ℕ) (levels : List (List ℕ)) → AreLevels slots root levels → (p : ℕ) (side : Option ℕ) (to : Option KeyBytes) → Contains (row levels 0) p → side ≡ side_of_slot (slot_at slots p) →
-    MatchOption side (Reaches (high_of (slot_at slots p)) to) (λ next. side_of_slot (slot_at slots p) ≡ Some next)
-side_or_end slots root levels lawful p (Some next) to has e = sym e
-side_or_end slots root levels lawful p None to has e = by (leaf_in_row slots root levels lawful p has)
-  where
-    by : InRow slots 0 (row levels 0) has.0 p → Reaches (high_of (slot_at slots p)) to
-    by at = from at.high refl
-      where
-        no_side : {q : ℕ} → None ≡ Some q → ⊥
-        no_side e = cc
-
-        side_is : None ≡ at.side
-        side_is = e ∙ ap side_of_slot at.stands.is ∙ at.stands.linked
-
-        high_is : high_of (slot_at slots p) ≡ at.high
-        high_is = ap high_of at.stands.is ∙ at.stands.to_high
-
-        from : (h : Option KeyBytes) → at.high ≡ h → Reaches (high_of (slot_at slots p)) to
-        from None none = λ key below. subst (λ (o : Option KeyBytes). T (is_below_end o key)) (sym (high_is ∙ none)) tt
-        from (Some k) some = let g = at.goes_on k some in absurd (no_side (side_is ∙ g.1))
-
 -- what is read of a leaf's chain has the pairs under the writes
 pub read_values : {E : Type 0} (tree : TreeView) (root p : ℕ) (r : Result LeafChain E) → AreLevels tree.slots root tree.levels → IfOk r (IsLeafChain (slot_at tree.slots p)) → IfOk r (λ leaf. ArePairsUnder tree p leaf.base.now.pairs)
 read_values tree root p (Ok leaf) lawful is = λ key home. sym (is.values key (home_leaf tree.slots root tree.levels lawful key p home).2)

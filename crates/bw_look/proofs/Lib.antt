@@ -1,6 +1,7 @@
 pub mod ContentsLemmas
 pub mod BackLemmas
 pub mod RangeLemmas
+pub mod GapLemmas
 pub mod ScanLemmas
 pub mod LeafScanLemmas
 pub mod ReplayLemmas

@@ -7,28 +7,32 @@ use Rattle.std.specs.Map.{lookup}
 use Rattle.std.specs.Option.{option_copied}
 use Rattle.std.specs.Ordering.{is_eq, is_lt, nat_cmp}
 use Rattle.std.specs.declared.cmp.Ordering.TheVariants.{Less, Equal, Greater}
-use Rattle.std.specs.FinMap.{entries, entries_sorted, is_sorted, nat_cmp-IsAntisymmetric}
+use Rattle.std.specs.FinMap.{entries, entries_sorted, find, is_sorted, nat_cmp-IsAntisymmetric}
 use Rattle.std.specs.FinMap.Entries.{where_key}
 use Rattle.bw_key.specs.Order.{KeyBytes, key_cmp}
-use Rattle.bw_model.specs.Contents.{is_below_end, is_pair_in_range, pairs_of_range}
+use Rattle.bw_model.specs.Contents.{is_below_end, is_in_range, is_pair_in_range, pairs_of_range}
 use Rattle.bw_model.specs.Values.{ValueBytes}
 use Rattle.bw_page.specs.Inners.{IsUpto}
-use Rattle.bw_page.proofs.Truths.{left_of}
+use Rattle.bw_page.proofs.Truths.{holds, holds_not, left_of, right_of, true_holds}
+use Rattle.bw_page.proofs.KeyLemmas.{below_back, upto_trans}
 use Rattle.bw_delta.specs.History.{HasDistinctStamps}
-use Rattle.bw_delta.specs.Replays.{ReplayView}
+use Rattle.bw_delta.specs.Replays.{ReplayView, StaysUntil}
 use Rattle.bw_delta.proofs.PairMaps.{sorted_in_range}
 use Rattle.bw_delta.proofs.Replays.{pairs_now}
-use Rattle.bw_level.specs.Walk.{walked}
-use Rattle.bw_level.specs.Slots.{Slot, slot_at, side_of, side_of_slot, has_key}
+use Rattle.bw_level.specs.Slots.{Slot, slot_at, has_key}
 use Rattle.bw_level.specs.Levels.{AreLevels, IsHome, row}
 use Rattle.bw_level.specs.Reading.{base_of, value_in, writes_over, row_writes}
-use Rattle.bw_look.specs.Replaying.{AreReadLeaves, IsKept}
+use Rattle.bw_look.specs.Gaps.{HasNone}
+use Rattle.bw_look.specs.Replaying.{AreEach, IsKept}
 use Rattle.bw_level.specs.Scans.{IsLeafReplay, ArePairsOn, Reaches, high_of}
 use Rattle.bw_level.specs.Before.{IsBefore, low_of}
 use Rattle.bw_look.specs.declared.scans.ReadLeaf.{ReadLeaf}
-use Rattle.bw_look.specs.View.{TreeView, contents_at}
-use Rattle.bw_look.proofs.BackLemmas.{ScanningBack, PassedBack, begins_back, passed_back, ends_back, enough_back, goes_back}
-use Rattle.bw_look.proofs.ScanLemmas.{Scanning, HasPassed, leaf_in_row, leaf_pairs, begins_scan, passes, ends_scan, goes_on, enough_read}
+use Rattle.bw_look.specs.View.{HomesHoldAll, TreeView, contents_at}
+use Rattle.bw_level.proofs.EndLemmas.{upto_end}
+use Rattle.bw_look.proofs.BackLemmas.{ScanningBack, PassedBack, begins_back, no_more_before, passed_back, ends_back, enough_back, goes_back}
+use Rattle.bw_look.proofs.GapLemmas.{none_before, none_between, not_later}
+use Rattle.bw_look.proofs.RangeLemmas.{all_of_those}
+use Rattle.bw_look.proofs.ScanLemmas.{Scanning, HasPassed, leaf_in_row, leaf_pairs, leaves_behind, begins_scan, fewer_behind, no_more_behind, passes, ends_scan, enough_read}
 use Rattle.bw_level.proofs.RowLemmas.{InRow}
 
 -- no first pairs of no pairs
@@ -86,15 +90,16 @@ module _ (tree : TreeView) (lawful : AreLevels tree.slots tree.root tree.levels)
   pairs_on_leaf p replay from to end has ends sorted so =
       leaf_pairs tree.slots tree.root tree.levels lawful distinct replay.stamp p from to _ has (pairs_of_replay (slot_at tree.slots p) replay from to end ends sorted so)
 
--- what was read of a range when a scan comes to a leaf: the first pairs of those below the leaf
-pub record HasRead (tree : TreeView) (all : List (KeyBytes × ValueBytes)) (most : ℕ) (read : List (KeyBytes × ValueBytes)) (p : ℕ) : Type 0 where
+-- what was read of a range when a scan comes to a key: the first pairs of those below it
+pub record HasRead (all : List (KeyBytes × ValueBytes)) (most : ℕ) (read : List (KeyBytes × ValueBytes)) (from at : KeyBytes) : Type 0 where
   pub whole : List (KeyBytes × ValueBytes)
-  pub scanning : Scanning tree.slots tree.levels all whole p
+  pub scanning : Scanning all whole from at
   pub front : read ≡ take most whole
 
-pub record ReadNext (tree : TreeView) (all : List (KeyBytes × ValueBytes)) (most : ℕ) (read : List (KeyBytes × ValueBytes)) (p q : ℕ) : Type 0 where
-  pub has_read : HasRead tree all most read q
-  pub less : length (walked (side_of tree.slots) (length tree.slots) q) < length (walked (side_of tree.slots) (length tree.slots) p)
+-- when it goes on from a key to a later one
+pub record ReadNext (tree : TreeView) (all : List (KeyBytes × ValueBytes)) (most : ℕ) (read : List (KeyBytes × ValueBytes)) (from at next : KeyBytes) : Type 0 where
+  pub has_read : HasRead all most read from next
+  pub less : leaves_behind tree.slots tree.levels next < leaves_behind tree.slots tree.levels at
 
 -- the pairs of a range that lie on a leaf
 abbrev pub leaf_of : TreeView → ℕ → KeyBytes → Option KeyBytes → ℕ → List (KeyBytes × ValueBytes)
@@ -104,31 +109,70 @@ module _ (tree : TreeView) (lawful : AreLevels tree.slots tree.root tree.levels)
   abbrev all_pairs : List (KeyBytes × ValueBytes)
   all_pairs = pairs_of_range (contents_at tree stamp) from to
 
-  abbrev on_leaf : ℕ → List (KeyBytes × ValueBytes)
-  on_leaf p = leaf_of tree stamp from to p
-
   range_sorted : T (is_sorted key_cmp all_pairs)
   range_sorted = sorted_in_range from to (entries (contents_at tree stamp)) (entries_sorted (contents_at tree stamp))
 
-  pub begins : (p : ℕ) (read : List (KeyBytes × ValueBytes)) → read ≡ [] → IsHome tree.slots tree.levels from p → HasRead tree all_pairs most read p
-  begins p read none home = record { whole = []; scanning = begins_scan tree.slots tree.root tree.levels lawful distinct stamp from to p home; front = none ∙ sym (none_taken most) }
+  pub begins : (read : List (KeyBytes × ValueBytes)) → read ≡ [] → HasRead all_pairs most read from from
+  begins read none = record { whole = []; scanning = begins_scan (contents_at tree stamp) from to; front = none ∙ sym (none_taken most) }
 
-  has_passed : (p : ℕ) (read : List (KeyBytes × ValueBytes)) (h : HasRead tree all_pairs most read p) → HasPassed tree.slots all_pairs (h.whole ++ on_leaf p) p
-  has_passed p read h = passes tree.slots tree.root tree.levels lawful all_pairs h.whole (h.whole ++ on_leaf p) p range_sorted h.scanning refl
+  module _ (at : KeyBytes) (p : ℕ) (home : IsHome tree.slots tree.levels at p) (read new : List (KeyBytes × ValueBytes)) (h : HasRead all_pairs most read from at) (more : new ≡ read ++ take (most - length read) (leaf_of tree stamp at to p)) where
+    abbrev passed_pairs : List (KeyBytes × ValueBytes)
+    passed_pairs = h.whole ++ leaf_of tree stamp at to p
 
-  pub ends_read : (p : ℕ) (read new : List (KeyBytes × ValueBytes)) → HasRead tree all_pairs most read p → new ≡ read ++ take (most - length read) (on_leaf p) → Reaches (high_of (slot_at tree.slots p)) to → new ≡ take most all_pairs
-  ends_read p read new h more reaches =
-      read_more most read new h.whole (on_leaf p) h.front more ∙ ap (take most) (ends_scan tree.slots tree.root tree.levels lawful distinct stamp from to p (h.whole ++ on_leaf p) (has_passed p read h) reaches)
+    has_passed : HasPassed tree.slots all_pairs passed_pairs p
+    has_passed = passes tree.slots tree.levels (contents_at tree stamp) from at to p h.whole passed_pairs home h.scanning refl
 
-  pub is_enough_read : (p : ℕ) (read new : List (KeyBytes × ValueBytes)) → HasRead tree all_pairs most read p → new ≡ read ++ take (most - length read) (on_leaf p) → most ≤ length new → new ≡ take most all_pairs
-  is_enough_read p read new h more enough =
-      let front = read_more most read new h.whole (on_leaf p) h.front more in
-      front ∙ enough_read tree.slots all_pairs (h.whole ++ on_leaf p) p most (has_passed p read h) range_sorted (whole_enough most new (h.whole ++ on_leaf p) front enough)
+    front : new ≡ take most passed_pairs
+    front = read_more most read new h.whole (leaf_of tree stamp at to p) h.front more
 
-  pub next_read : (p q : ℕ) (read new : List (KeyBytes × ValueBytes)) → HasRead tree all_pairs most read p → new ≡ read ++ take (most - length read) (on_leaf p) → side_of_slot (slot_at tree.slots p) ≡ Some q → ReadNext tree all_pairs most new p q
-  next_read p q read new h more step =
-      let next = goes_on tree.slots tree.root tree.levels lawful all_pairs (h.whole ++ on_leaf p) p q h.scanning.has (has_passed p read h) step in
-      record { has_read = record { whole = h.whole ++ on_leaf p; scanning = next.scanning; front = read_more most read new h.whole (on_leaf p) h.front more }; less = next.less }
+    pub ends_read : Reaches (high_of (slot_at tree.slots p)) to → new ≡ take most all_pairs
+    ends_read reaches = front ∙ ap (take most) (ends_scan tree.slots tree.root tree.levels lawful distinct stamp from to p passed_pairs has_passed reaches)
+
+    pub is_enough_read : most ≤ length new → new ≡ take most all_pairs
+    is_enough_read enough = front ∙ enough_read tree.slots all_pairs passed_pairs p most has_passed range_sorted (whole_enough most new passed_pairs front enough)
+
+    pub next_read : (end : KeyBytes) → high_of (slot_at tree.slots p) ≡ Some end → ReadNext tree all_pairs most new from at end
+    next_read end ends = record {
+      has_read = record {
+        whole = passed_pairs;
+        scanning = record {
+          begins = upto_trans from at end h.scanning.begins (below_back at end (holds _ (subst (λ (o : Option KeyBytes). T (is_below_end o at)) high home.ends_above)));
+          so_far = has_passed.so_far ∙ ap (λ (o : Option KeyBytes). where_key key_cmp (is_below_end o) all_pairs) (sym (ap high_of has_passed.is) ∙ ends);
+        };
+        front = front;
+      };
+      less = fewer_behind tree.slots tree.levels at end p home ends;
+    }
+      where
+        high : home.reached.state.high ≡ Some end
+        high = sym (ap high_of home.reached.is) ∙ ends
+
+  -- where there are no pairs a scan goes on behind them
+  module _ (at end : KeyBytes) (next : Option KeyBytes) (new : List (KeyBytes × ValueBytes)) (h : ReadNext tree all_pairs most new from at end) (none : HasNone tree stamp end next) (behind : Reaches next (Some end)) where
+    so_far : h.has_read.whole ≡ where_key key_cmp (is_below_end next) all_pairs
+    so_far = h.has_read.scanning.so_far ∙ none_between (contents_at tree stamp) from to end next none behind
+
+    pub ends_behind : Reaches next to → new ≡ take most all_pairs
+    ends_behind reaches =
+        h.has_read.front
+        ∙ ap (take most) (so_far ∙ all_of_those (is_below_end next) (is_in_range from to) (λ k inside. holds _ (reaches k (right_of _ _ (true_holds _ inside)))) (entries (contents_at tree stamp)))
+
+    pub goes_behind : (later : KeyBytes) → next ≡ Some later → ReadNext tree all_pairs most new from at later
+    goes_behind later is =
+        record {
+          has_read = record {
+            whole = h.has_read.whole;
+            scanning = record {
+              begins = upto_trans from end later h.has_read.scanning.begins upto;
+              so_far = so_far ∙ ap (λ (o : Option KeyBytes). where_key key_cmp (is_below_end o) all_pairs) is;
+            };
+            front = h.has_read.front;
+          };
+          less = omega (arith, h.less, no_more_behind tree.slots tree.levels end later upto);
+        }
+      where
+        upto : is_lt (key_cmp later end) ≡ false
+        upto = not_later end later (subst (λ (o : Option KeyBytes). Reaches o (Some end)) is behind)
 
 -- what was read when a scan has come back to an end: the first of the pairs from the end on, the greatest key first
 pub record HasReadBack (all : List (KeyBytes × ValueBytes)) (most : ℕ) (read : List (KeyBytes × ValueBytes)) (from : KeyBytes) (to end : Option KeyBytes) : Type 0 where
@@ -159,6 +203,18 @@ module _ (tree : TreeView) (stamp most : ℕ) (from : KeyBytes) (to : Option Key
         front = read_more most read new h.whole piece h.front more;
       }
 
+  -- or before that, where no pairs are in between
+  pub skips_back : (low before : KeyBytes) (end : Option KeyBytes) (new : List (KeyBytes × ValueBytes)) → IsBack tree stamp most from to end low new → HasNone tree stamp before (Some low) → is_lt (key_cmp low before) ≡ false → IsBack tree stamp most from to end before new
+  skips_back low before end new b none upto = record {
+    whole = b.whole;
+    passed = record {
+      so_far = b.passed.so_far ∙ ap reverse (none_before (contents_at tree stamp) from to before low none upto);
+      starts = upto_end end before low upto b.passed.starts;
+      less = omega (arith, b.passed.less, no_more_before tree.slots tree.levels low before upto);
+    };
+    front = b.front;
+  }
+
   pub ends_at_leaf : (low : KeyBytes) (end : Option KeyBytes) (new : List (KeyBytes × ValueBytes)) → IsBack tree stamp most from to end low new → is_lt (key_cmp from low) ≡ false → new ≡ take most (reverse range_pairs)
   ends_at_leaf low end new b upto = b.front ∙ ends_back (contents_at tree stamp) from low to most b.whole b.passed.so_far upto
 
@@ -172,42 +228,37 @@ module _ (tree : TreeView) (stamp most : ℕ) (from : KeyBytes) (to : Option Key
     front = b.front;
   }
 
--- the leaves that are kept, when one is taken out
-pub kept_without : (tree : TreeView) (old new : kept.BTreeMap ℕ ReadLeaf) (p : ℕ) → kept.Updates nat_cmp old new p None → AreReadLeaves tree old → AreReadLeaves tree new
-kept_without tree old new p taken so q leaf is = by (is_eq (nat_cmp p q)) refl (sym (taken.0 q) ∙ is)
-  where
-    no_leaf : None ≡ Some leaf → ⊥
-    no_leaf e = cc
+module _ {V : Type 0} (IsSo : ℕ → V → Type 0) (old new : kept.BTreeMap ℕ V) where
+  -- what is kept for pages, when what is kept for one is taken out
+  pub kept_without : (p : ℕ) → kept.Updates nat_cmp old new p None → AreEach IsSo old → AreEach IsSo new
+  kept_without p taken so q one is = by (is_eq (nat_cmp p q)) refl (sym (taken.0 q) ∙ is)
+    where
+      nothing : None ≡ Some one → ⊥
+      nothing e = cc
 
-    by : (b : Bool) → is_eq (nat_cmp p q) ≡ b → cond b None (kept.get nat_cmp old q) ≡ Some leaf → IsKept tree q leaf
-    by true tie e = absurd (no_leaf e)
-    by false tie e = so q leaf e
+      by : (b : Bool) → is_eq (nat_cmp p q) ≡ b → cond b None (kept.get nat_cmp old q) ≡ Some one → IsSo q one
+      by true tie e = absurd (nothing e)
+      by false tie e = so q one e
 
--- and with one that is put in
-pub kept_with : (tree : TreeView) (old new : kept.BTreeMap ℕ ReadLeaf) (p : ℕ) (given : ReadLeaf) → kept.Updates nat_cmp old new p (Some given) → IsKept tree p given → AreReadLeaves tree old → AreReadLeaves tree new
-kept_with tree old new p given put good so q leaf is = by (is_eq (nat_cmp p q)) refl (sym (put.0 q) ∙ is)
-  where
-    same : Some given ≡ Some leaf → given ≡ leaf
-    same e = cc
+  -- and when something is put in
+  pub kept_with : (p : ℕ) (given : V) → kept.Updates nat_cmp old new p (Some given) → IsSo p given → AreEach IsSo old → AreEach IsSo new
+  kept_with p given put good so q one is = by (is_eq (nat_cmp p q)) refl (sym (put.0 q) ∙ is)
+    where
+      same : Some given ≡ Some one → given ≡ one
+      same e = cc
 
-    tied : (o : Ordering) → is_eq o ≡ true → o ≡ Equal
-    tied Less e = cc
-    tied Equal e = refl
-    tied Greater e = cc
+      tied : (o : Ordering) → is_eq o ≡ true → o ≡ Equal
+      tied Less e = cc
+      tied Equal e = refl
+      tied Greater e = cc
 
-    by : (b : Bool) → is_eq (nat_cmp p q) ≡ b → cond b (Some given) (kept.get nat_cmp old q) ≡ Some leaf → IsKept tree q leaf
-    by true tie e =
-        subst (λ (l : ReadLeaf). IsKept tree q l) (same e)
-        (subst (λ n. IsKept tree n given) (nat_cmp-IsAntisymmetric p q (tied (nat_cmp p q) tie)) good)
-    by false tie e = so q leaf e
+      by : (b : Bool) → is_eq (nat_cmp p q) ≡ b → cond b (Some given) (kept.get nat_cmp old q) ≡ Some one → IsSo q one
+      by true tie e = subst (IsSo q) (same e) (subst (λ n. IsSo n given) (nat_cmp-IsAntisymmetric p q (tied (nat_cmp p q) tie)) good)
+      by false tie e = so q one e
 
--- and where nothing changed
-pub kept_same : (tree : TreeView) (old new : kept.BTreeMap ℕ ReadLeaf) → kept.IsUnchanged old new → AreReadLeaves tree old → AreReadLeaves tree new
-kept_same tree old new same so q leaf is = so q leaf (ap (λ (es : List (ℕ × ReadLeaf)). lookup (kept.is_at (nat_cmp q)) es) (sym same) ∙ is)
-
--- the leaf that was kept for a page
-pub kept_one : (tree : TreeView) (old : kept.BTreeMap ℕ ReadLeaf) (p : ℕ) (leaf : ReadLeaf) → AreReadLeaves tree old → Some leaf ≡ kept.get nat_cmp old p → IsKept tree p leaf
-kept_one tree old p leaf so is = so p leaf (sym is)
+  -- and where nothing changed
+  pub kept_same : kept.IsUnchanged old new → AreEach IsSo old → AreEach IsSo new
+  kept_same same so q one is = so q one (ap (λ (es : List (ℕ × V)). lookup (kept.is_at (nat_cmp q)) es) (sym same) ∙ is)
 
 module _ (tree : TreeView) (lawful : AreLevels tree.slots tree.root tree.levels) (p : ℕ) (leaf : ReadLeaf) (is_kept : IsKept tree p leaf) where
   in_row : InRow tree.slots 0 (row tree.levels 0) is_kept.in_level.0 p
@@ -241,3 +292,12 @@ module _ (tree : TreeView) (lawful : AreLevels tree.slots tree.root tree.levels)
     starts = subst (λ (k : KeyBytes). T (is_below_end end k)) low_is starts;
     reaches = subst (λ (o : Option KeyBytes). Reaches o end) end_is reaches;
   }
+
+  -- where it has no pair, the tree has none in its range
+  pub none_on_leaf : HomesHoldAll tree → (until : ℕ) → StaysUntil leaf.replay until → ((key : KeyBytes) → T (is_in_range leaf.low.now (option_copied leaf.end) key) → find key_cmp key leaf.replay.pairs ≡ None) →
+      (stamp : ℕ) → leaf.replay.stamp ≤ stamp → stamp ≤ until → HasNone tree stamp leaf.low.now (option_copied leaf.end)
+  none_on_leaf values until stays none stamp le upto key inside =
+      let below = right_of _ _ inside in
+      values key p stamp (kept_home key (holds_not _ (left_of _ _ inside)) below)
+      ∙ sym (is_kept.read.replay.values key stamp (subst (λ (o : Option KeyBytes). T (is_below_end o key)) is_kept.read.end below) le)
+      ∙ stays key stamp le upto ∙ none key inside

@@ -1,5 +1,6 @@
 -- The pairs of a range over the leaves of a tree, one leaf after another.
 use Rattle.std.proofs.Common.{◌≡◌, ℕ, zero, suc, ◌<◌, ◌≤◌, Bool, true, false, cond, not, ◌&&◌, ◌||◌, T, List, [], ◌∷◌, ◌++◌, length, get_or, map, take, nat_eq, Option, Some, None, refl, sym, ap, ◌∙◌, subst, arith}
+use Rattle.std.specs.Prelude.{filter}
 use Rattle.std.specs.List.{Contains, AllByRecursion, IsDistinct}
 use Rattle.std.specs.Ordering.{is_lt}
 use Rattle.std.specs.FinMap.{from_entries, get, entries, entries_sorted, get-entries, is_sorted}
@@ -8,23 +9,23 @@ use Rattle.bw_key.specs.Order.{KeyBytes, key_cmp, key_cmp_total}
 use Rattle.bw_model.specs.Contents.{Contents, is_below_end, is_in_range, pairs_of_range}
 use Rattle.bw_model.specs.Values.{ValueBytes}
 use Rattle.bw_page.proofs.Truths.{holds, true_holds, holds_not, left_of, right_of}
-use Rattle.bw_page.proofs.KeyLemmas.{keys_tie, below_back, below_self, below_trans, upto_trans}
+use Rattle.bw_page.proofs.KeyLemmas.{keys_tie, below_back, below_self, upto_trans}
 use Rattle.bw_delta.specs.Writes.{WriteView}
 use Rattle.bw_delta.specs.Batches.{writes_to}
 use Rattle.bw_delta.specs.History.{history, action_at, HasDistinctStamps}
 use Rattle.bw_delta.specs.ContentsAsOf.{contents_as_of}
 use Rattle.bw_delta.proofs.ContentsAsOf.{only_equal_tie}
 use Rattle.bw_delta.proofs.PairMaps.{find_in_range, sorted_in_range}
-use Rattle.bw_level.specs.Walk.{walked}
-use Rattle.bw_level.specs.Slots.{Slot, PageState, Live, slot_at, side_of, side_of_slot, has_key}
+use Rattle.bw_level.specs.Slots.{Slot, PageState, Free, Gone, Live, slot_at, side_of_slot, has_key}
 use Rattle.bw_level.specs.Levels.{Stands, AreLevels, IsHome, row}
 use Rattle.bw_level.specs.Reading.{value_in, writes_over, row_pairs, row_writes}
 use Rattle.bw_level.specs.Scans.{ArePairsOn, Reaches, high_of}
-use Rattle.bw_level.proofs.WalkLemmas.{way_falls}
 use Rattle.bw_level.proofs.RowLemmas.{InRow, in_row}
-use Rattle.bw_level.proofs.RouteLemmas.{side_bounded}
 use Rattle.bw_level.proofs.LeafRowLemmas.{page_outside, wide_of}
 use Rattle.bw_level.proofs.HomeLemmas.{home_value}
+use Rattle.bw_level.proofs.EndLemmas.{upto_end}
+use Rattle.bw_look.proofs.BackLemmas.{below_low, both_tests, fewer, no_more}
+use Rattle.bw_look.proofs.GapLemmas.{not_true}
 use Rattle.bw_look.proofs.RangeLemmas.{one_then_other, all_of_those, none_of_those, first_of_front}
 
 different : true ≡ false → ⊥
@@ -32,11 +33,6 @@ different e = cc
 
 one_state : {s t : PageState} → Live s ≡ Live t → s ≡ t
 one_state e = cc
-
--- a key below one that is below an end
-below_end : (high : Option KeyBytes) (k m : KeyBytes) → is_lt (key_cmp k m) ≡ true → T (is_below_end high m) → is_below_end high k ≡ true
-below_end None k m lower h = refl
-below_end (Some to) k m lower h = below_trans k m to lower (holds _ h)
 
 -- where there is no value and no write, there is none later
 unfolding_none : (stamp : ℕ) → history None (action_at []) stamp ≡ None
@@ -64,23 +60,16 @@ page_distinct slots [] p has h = absurd (omega (arith, has.1))
 page_distinct slots (x ∷ xs) p (zero, lt, at) h = subst (λ q. HasDistinctStamps (writes_over (slot_at slots q))) at (distinct_front (writes_over (slot_at slots x)) (row_writes slots xs) h)
 page_distinct slots (x ∷ xs) p (suc k, lt, at) h = page_distinct slots xs p (k, omega (arith, lt), at) (distinct_back (writes_over (slot_at slots x)) (row_writes slots xs) h)
 
--- what has been read of a range when a scan comes to a leaf: the pairs below the leaf's low key
-pub record Scanning (slots : List Slot) (levels : List (List ℕ)) (all found : List (KeyBytes × ValueBytes)) (p : ℕ) : Type 0 where
-  pub has : Contains (row levels 0) p
-  pub state : PageState
-  pub is : slot_at slots p ≡ Live state
-  pub so_far : found ≡ where_key key_cmp (λ k. is_lt (key_cmp k state.low)) all
+-- what has been read of a range when a scan comes to a key: the pairs below it
+pub record Scanning (all found : List (KeyBytes × ValueBytes)) (from at : KeyBytes) : Type 0 where
+  pub begins : is_lt (key_cmp at from) ≡ false
+  pub so_far : found ≡ where_key key_cmp (λ k. is_lt (key_cmp k at)) all
 
--- what has been read when it has passed the leaf: the pairs below the leaf's end
+-- when it has passed a leaf: the pairs below the leaf's end
 pub record HasPassed (slots : List Slot) (all found : List (KeyBytes × ValueBytes)) (p : ℕ) : Type 0 where
   pub state : PageState
   pub is : slot_at slots p ≡ Live state
   pub so_far : found ≡ where_key key_cmp (is_below_end state.high) all
-
--- where a scan goes on, with fewer leaves before it
-pub record NextLeaf (slots : List Slot) (levels : List (List ℕ)) (all found : List (KeyBytes × ValueBytes)) (p q : ℕ) : Type 0 where
-  pub scanning : Scanning slots levels all found q
-  pub less : length (walked (side_of slots) (length slots) q) < length (walked (side_of slots) (length slots) p)
 
 -- the rest of what a page's end parts
 pub enough_read : (slots : List Slot) (all found : List (KeyBytes × ValueBytes)) (p most : ℕ) → HasPassed slots all found p → T (is_sorted key_cmp all) → most ≤ length found → take most found ≡ take most all
@@ -168,17 +157,6 @@ module _ (slots : List Slot) (root : ℕ) (levels : List (List ℕ)) (lawful : A
             at false false true v g same none = refl
             at false false false v g same none = refl
 
-    -- a scan begins at the home of its first key
-    pub begins_scan : (from : KeyBytes) (to : Option KeyBytes) (p : ℕ) → IsHome slots levels from p → Scanning slots levels (pairs_of_range contents from to) [] p
-    begins_scan from to p home =
-        let r = home.reached in
-        record {
-          has = r.in_level;
-          state = r.state;
-          is = r.is;
-          so_far = sym (none_of_those (λ k. is_lt (key_cmp k r.state.low)) (is_in_range from to) (λ k inside. upto_trans r.state.low from k (holds_not _ r.from_low) (holds_not _ (left_of _ _ (true_holds _ inside)))) (entries contents));
-        }
-
     -- it ends at a leaf that reaches the end of the range
     pub ends_scan : (from : KeyBytes) (to : Option KeyBytes) (p : ℕ) (found : List (KeyBytes × ValueBytes)) → HasPassed slots (pairs_of_range contents from to) found p → Reaches (high_of (slot_at slots p)) to → found ≡ pairs_of_range contents from to
     ends_scan from to p found passed reaches =
@@ -186,62 +164,116 @@ module _ (slots : List Slot) (root : ℕ) (levels : List (List ℕ)) (lawful : A
         ∙ all_of_those (is_below_end passed.state.high) (is_in_range from to)
         (λ k inside. holds _ (subst (λ (o : Slot). T (is_below_end (high_of o) k)) passed.is (reaches k (right_of _ _ (true_holds _ inside))))) (entries contents)
 
-  -- with the pairs of a leaf, what is below its end has been read
-  pub passes : (all found new : List (KeyBytes × ValueBytes)) (p : ℕ) → T (is_sorted key_cmp all) → Scanning slots levels all found p → new ≡ found ++ where_key key_cmp (has_key (slot_at slots p)) all → HasPassed slots all new p
-  passes all found new p sorted h more =
-      let s = h.state in
-      record {
-        state = s;
-        is = h.is;
-        so_far =
-            more ∙ ap (λ (l : List (KeyBytes × ValueBytes)). l ++ where_key key_cmp (has_key (slot_at slots p)) all) h.so_far
-            ∙ ap (λ (o : Slot). where_key key_cmp (λ k. is_lt (key_cmp k s.low)) all ++ where_key key_cmp (has_key o) all) h.is
-            ∙ one_then_other (λ k. is_lt (key_cmp k s.low)) (is_in_range s.low s.high) (is_below_end s.high)
-            (λ k below. ap (λ b. not b && is_below_end s.high k) below)
-            (λ a b on above. upto_trans s.low a b (holds_not _ (left_of _ _ (true_holds _ on))) (below_back a b above))
-            (λ k. whole k (is_lt (key_cmp k s.low)) refl) all sorted;
-      }
+  -- a leaf's right neighbour is the home of the key where the leaf ends
+  pub next_home : (p q : ℕ) (end : KeyBytes) → Contains (row levels 0) p → high_of (slot_at slots p) ≡ Some end → side_of_slot (slot_at slots p) ≡ Some q → IsHome slots levels end q
+  next_home p q end has ends step = by (leaf_in_row p has)
     where
-      whole : (k : KeyBytes) (b : Bool) → is_lt (key_cmp k h.state.low) ≡ b → is_below_end h.state.high k ≡ (b || (not b && is_below_end h.state.high k))
-      whole k true below = below_end h.state.high k h.state.low below (wide p h.state h.has h.is)
-      whole k false upto = refl
-
-  -- and the scan goes on at the right neighbour
-  pub goes_on : (all found : List (KeyBytes × ValueBytes)) (p q : ℕ) → Contains (row levels 0) p → HasPassed slots all found p → side_of_slot (slot_at slots p) ≡ Some q → NextLeaf slots levels all found p q
-  goes_on all found p q has passed step = by (leaf_in_row p has)
-    where
-      no_side : None ≡ Some q → ⊥
-      no_side e = cc
-
       one_page : {a b : ℕ} → Some a ≡ Some b → a ≡ b
       one_page e = cc
 
-      by : InRow slots 0 (row levels 0) has.0 p → NextLeaf slots levels all found p q
-      by at = from at.high refl
-        where
-          same : at.stands.state ≡ passed.state
-          same = one_state (sym at.stands.is ∙ passed.is)
+      by : InRow slots 0 (row levels 0) has.0 p → IsHome slots levels end q
+      by at =
+          let g = at.goes_on end (sym at.stands.to_high ∙ sym (ap high_of at.stands.is) ∙ ends) in
+          let one : g.0 ≡ q = one_page (sym g.1 ∙ sym at.stands.linked ∙ sym (ap side_of_slot at.stands.is) ∙ step) in
+          let st : Stands slots 0 end g.4.0 g.4.1.0 q = subst (λ z. Stands slots 0 end g.4.0 g.4.1.0 z) one g.4.1.1 in
+          let in_level : Contains (row levels 0) q = (suc has.0, g.2, subst (λ z. get_or (row levels 0) (suc has.0) z ≡ z) one g.3) in
+          home_of end q st.state in_level st.is (ap (λ (l : KeyBytes). is_lt (key_cmp end l)) st.from_low ∙ below_self end)
+          (subst (λ (l : KeyBytes). is_below_end st.state.high l ≡ true) st.from_low (holds _ (wide q st.state in_level st.is)))
 
-          side : at.side ≡ Some q
-          side = sym at.stands.linked ∙ sym (ap side_of_slot at.stands.is) ∙ step
+-- a scan begins at its first key
+pub begins_scan : (m : Contents ValueBytes) (from : KeyBytes) (to : Option KeyBytes) → Scanning (pairs_of_range m from to) [] from from
+begins_scan m from to = record {
+  begins = below_self from;
+  so_far = sym (none_of_those (λ k. is_lt (key_cmp k from)) (is_in_range from to) (λ k inside. holds_not _ (left_of _ _ (true_holds _ inside))) (entries m));
+}
 
-          high : passed.state.high ≡ at.high
-          high = sym (ap (λ (t : PageState). t.high) same) ∙ at.stands.to_high
+-- with the pairs of the leaf where it is, what is below the leaf's end has been read
+pub passes : (slots : List Slot) (levels : List (List ℕ)) (m : Contents ValueBytes) (from at : KeyBytes) (to : Option KeyBytes) (p : ℕ) (found new : List (KeyBytes × ValueBytes)) → IsHome slots levels at p → Scanning (pairs_of_range m from to) found from at →
+    new ≡ found ++ where_key key_cmp (has_key (slot_at slots p)) (pairs_of_range m at to) → HasPassed slots (pairs_of_range m from to) new p
+passes slots levels m from at to p found new home h more = record {
+  state = s;
+  is = home.reached.is;
+  so_far =
+      more ∙ ap (λ (l : List (KeyBytes × ValueBytes)). l ++ where_key key_cmp (has_key (slot_at slots p)) (pairs_of_range m at to)) h.so_far
+      ∙ ap (λ (l : List (KeyBytes × ValueBytes)). where_key key_cmp (λ k. is_lt (key_cmp k at)) all ++ l) (on_page ∙ sym here)
+      ∙ one_then_other (λ k. is_lt (key_cmp k at)) (is_in_range at s.high) (is_below_end s.high)
+      (λ k below. ap (λ b. not b && is_below_end s.high k) below)
+      (λ a b on above. upto_trans at a b (holds_not _ (left_of _ _ (true_holds _ on))) (below_back a b above))
+      (λ k. whole k (is_lt (key_cmp k at)) refl) all (sorted_in_range from to (entries m) (entries_sorted m));
+}
+  where
+    s : PageState
+    s = home.reached.state
 
-          from : (h : Option KeyBytes) → at.high ≡ h → NextLeaf slots levels all found p q
-          from None e = absurd (no_side (sym (at.ends e) ∙ side))
-          from (Some k) e =
-              let g = at.goes_on k e in
-              let one : g.0 ≡ q = one_page (sym g.1 ∙ side) in
-              let st : Stands slots 0 k g.4.0 g.4.1.0 q = subst (λ z. Stands slots 0 k g.4.0 g.4.1.0 z) one g.4.1.1 in
-              record {
-                scanning = record {
-                  has = (suc has.0, g.2, subst (λ z. get_or (row levels 0) (suc has.0) z ≡ z) one g.3);
-                  state = st.state;
-                  is = st.is;
-                  so_far =
-                      passed.so_far ∙ ap (λ (o : Option KeyBytes). where_key key_cmp (is_below_end o) all) (high ∙ e)
-                      ∙ sym (ap (λ (l : KeyBytes). where_key key_cmp (λ x. is_lt (key_cmp x l)) all) st.from_low);
-                };
-                less = way_falls (side_of slots) (length slots) (side_bounded slots) p q at.way.0 at.way.1.0 at.way.1.1 step;
-              }
+    all : List (KeyBytes × ValueBytes)
+    all = pairs_of_range m from to
+
+    there : KeyBytes → Bool
+    there k = is_in_range at to k && is_below_end s.high k
+
+    whole : (k : KeyBytes) (b : Bool) → is_lt (key_cmp k at) ≡ b → is_below_end s.high k ≡ (b || (not b && is_below_end s.high k))
+    whole k true below = below_low s.high k at below home.ends_above
+    whole k false upto = refl
+
+    page_tests : (a e l h : Bool) → (a ≡ true → l ≡ false) → ((a && e) && h) ≡ ((a && e) && (not l && h))
+    page_tests false e l h from_low = refl
+    page_tests true false l h from_low = refl
+    page_tests true true false h from_low = refl
+    page_tests true true true h from_low = absurd (different (from_low refl))
+
+    range_tests : (a e f h : Bool) → (a ≡ true → f ≡ true) → ((a && e) && h) ≡ ((f && e) && (a && h))
+    range_tests false e false h from_on = refl
+    range_tests false false true h from_on = refl
+    range_tests false true true h from_on = refl
+    range_tests true e true h from_on = refl
+    range_tests true e false h from_on = absurd (different (sym (from_on refl)))
+
+    on_page : where_key key_cmp (has_key (slot_at slots p)) (pairs_of_range m at to) ≡ where_key key_cmp there (entries m)
+    on_page =
+        both_tests (has_key (slot_at slots p)) (is_in_range at to) there
+        (λ k. page_tests (not (is_lt (key_cmp k at))) (is_below_end to k) (is_lt (key_cmp k s.low)) (is_below_end s.high k) (λ above. upto_trans s.low at k (holds_not _ home.reached.from_low) (not_true _ above))
+        ∙ ap (λ (o : Slot). is_in_range at to k && has_key o k) (sym home.reached.is)) (entries m)
+
+    here : where_key key_cmp (is_in_range at s.high) all ≡ where_key key_cmp there (entries m)
+    here =
+        both_tests (is_in_range at s.high) (is_in_range from to) there
+        (λ k. range_tests (not (is_lt (key_cmp k at))) (is_below_end to k) (not (is_lt (key_cmp k from))) (is_below_end s.high k) (λ above. ap not (upto_trans from at k h.begins (not_true _ above)))) (entries m)
+
+-- a page ends behind a key
+abbrev pub ends_behind : KeyBytes → Slot → Bool
+ends_behind at (Live s) = is_below_end s.high at
+ends_behind at (Gone l) = false
+ends_behind at Free = false
+
+-- how many leaves do
+pub leaves_behind : List Slot → List (List ℕ) → KeyBytes → ℕ
+leaves_behind slots levels at = length (filter (λ p. ends_behind at (slot_at slots p)) (row levels 0))
+
+-- fewer do behind the end of the leaf
+pub fewer_behind : (slots : List Slot) (levels : List (List ℕ)) (at end : KeyBytes) (p : ℕ) → IsHome slots levels at p → high_of (slot_at slots p) ≡ Some end → leaves_behind slots levels end < leaves_behind slots levels at
+unfolding leaves_behind
+fewer_behind slots levels at end p home ends =
+    fewer (λ q. ends_behind end (slot_at slots q)) (λ q. ends_behind at (slot_at slots q)) (λ q. passes_both (slot_at slots q)) (row levels 0) p home.reached.in_level
+    (ap (ends_behind end) home.reached.is ∙ ap (λ (o : Option KeyBytes). is_below_end o end) high ∙ below_self end)
+    (ap (ends_behind at) home.reached.is ∙ holds _ home.ends_above)
+  where
+    high : home.reached.state.high ≡ Some end
+    high = sym (ap high_of home.reached.is) ∙ ends
+
+    lower : is_lt (key_cmp at end) ≡ true
+    lower = holds _ (subst (λ (o : Option KeyBytes). T (is_below_end o at)) high home.ends_above)
+
+    passes_both : (o : Slot) → ends_behind end o ≡ true → ends_behind at o ≡ true
+    passes_both Free e = e
+    passes_both (Gone l) e = e
+    passes_both (Live s) e = below_low s.high at end lower (true_holds _ e)
+
+-- and no more behind a later key
+pub no_more_behind : (slots : List Slot) (levels : List (List ℕ)) (at later : KeyBytes) → is_lt (key_cmp later at) ≡ false → leaves_behind slots levels later ≤ leaves_behind slots levels at
+unfolding leaves_behind
+no_more_behind slots levels at later upto = no_more (λ q. ends_behind later (slot_at slots q)) (λ q. ends_behind at (slot_at slots q)) (λ q. passes_both (slot_at slots q)) (row levels 0)
+  where
+    passes_both : (o : Slot) → ends_behind later o ≡ true → ends_behind at o ≡ true
+    passes_both Free e = e
+    passes_both (Gone l) e = e
+    passes_both (Live s) e = holds _ (upto_end s.high at later upto (true_holds _ e))

@@ -3,6 +3,7 @@ pub mod Trees
 pub mod Folding
 pub mod Words
 pub mod StagedBatches
+pub mod Gaps
 pub mod Replaying
 pub mod Routing
 pub mod PageStates

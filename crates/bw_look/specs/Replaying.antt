@@ -1,5 +1,5 @@
 -- Scans of a tree, one after another.
-use Rattle.std.specs.Prelude.{◌≡◌, ℕ, ◌-◌, List, [], ◌++◌, length, reverse, take, Option, Some}
+use Rattle.std.specs.Prelude.{◌≡◌, ℕ, ◌-◌, List, [], ◌++◌, length, reverse, take, Option, Some, MatchOption}
 use Rattle.std.specs.FinMap.Entries.{where_key}
 use Rattle.bw_key.specs.Order.{KeyBytes, key_cmp}
 use Rattle.bw_model.specs.Contents.{Contents, first_of_range, last_of_range, pairs_of_range}
@@ -9,20 +9,22 @@ use Rattle.bw_look.specs.declared.scans.Order.TheVariants.{Rising, Falling}
 use Rattle.bw_look.specs.declared.scans.Scan.{Scan}
 use Rattle.std.specs.BTreeMap as kept
 use Rattle.std.specs.List.{Contains}
+use Rattle.std.specs.Borrow.{Bor}
 use Rattle.std.specs.Option.{option_copied}
 use Rattle.std.specs.Ordering.{nat_cmp}
 use Rattle.bw_look.specs.declared.scans.ReadLeaf.{ReadLeaf}
+use Rattle.bw_look.specs.declared.scans.gaps.Gap.{Gap}
 use Rattle.bw_level.specs.Before.{low_of}
 use Rattle.bw_level.specs.Levels.{row}
-use Rattle.bw_level.specs.Slots.{Slot, has_key, side_of_slot, slot_at}
-use Rattle.bw_level.specs.Scans.{IsLeafReplay, high_of}
+use Rattle.bw_level.specs.Slots.{Slot, has_key, slot_at}
+use Rattle.bw_level.specs.Scans.{IsLeafReplay, Reaches, high_of}
+use Rattle.bw_look.specs.Gaps.{IsGap}
 use Rattle.bw_look.specs.View.{TreeView, contents_at}
 
--- it has a leaf's bounds, right neighbour and replay
+-- it has a leaf's bounds and replay
 pub record IsReadLeaf (slot : Slot) (leaf : ReadLeaf) : Type 0 where
   pub low : leaf.low.now ≡ low_of slot
   pub end : option_copied leaf.end ≡ high_of slot
-  pub side : leaf.side ≡ side_of_slot slot
   pub replay : IsLeafReplay slot leaf.replay
 
 -- what contracts see of scans: the tree
@@ -34,9 +36,18 @@ pub record IsKept (tree : TreeView) (p : ℕ) (leaf : ReadLeaf) : Type 0 where
   pub in_level : Contains (row tree.levels 0) p
   pub read : IsReadLeaf (slot_at tree.slots p) leaf
 
--- each is what was read of the leaf that it is kept for
-abbrev pub AreReadLeaves : TreeView → kept.BTreeMap ℕ ReadLeaf → Type 0
-AreReadLeaves tree leaves = (p : ℕ) (leaf : ReadLeaf) → kept.get nat_cmp leaves p ≡ Some leaf → IsKept tree p leaf
+-- what is kept for each page is so
+abbrev pub AreEach : {V : Type 0} → (ℕ → V → Type 0) → kept.BTreeMap ℕ V → Type 0
+AreEach {V} IsSo all = (p : ℕ) (one : V) → kept.get nat_cmp all p ≡ Some one → IsSo p one
+
+-- each leaf is what was read of the page that it is kept for, and in each range the tree has no pair
+pub record AreScans (tree : TreeView) (leaves : kept.BTreeMap ℕ ReadLeaf) (gaps : kept.BTreeMap ℕ Gap) : Type 0 where
+  pub read : AreEach (IsKept tree) leaves
+  pub empty : AreEach (λ p. IsGap tree) gaps
+
+-- where a leaf ends, if it doesn't reach an end
+abbrev pub EndsBefore : Slot → Option KeyBytes → Option (Bor KeyBytes) → Type 0
+EndsBefore slot to end = MatchOption end (Reaches (high_of slot) to) (λ k. high_of slot ≡ Some k.now)
 
 -- a list, in this order
 abbrev pub in_order : {X : Type 0} → Order → List X → List X

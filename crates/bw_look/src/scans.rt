@@ -8,8 +8,7 @@ ghost use Rattle.bw_model.specs.Contents.{is_below_end, is_pair_in_range};
 ghost use Rattle.bw_level.specs.Slots.{Slot, slot_at};
 ghost use Rattle.bw_level.specs.Before.{IsBefore, low_of};
 ghost use Rattle.bw_level.specs.Levels.{IsHome, row};
-ghost use Rattle.bw_level.specs.Scans.{IsAfter};
-ghost use Rattle.bw_look.specs.Replaying.{HasNoPairs, IsKept, IsReadLeaf, filled, in_order, pairs_on, wanted_on};
+ghost use Rattle.bw_look.specs.Replaying.{EndsBefore, HasNoPairs, IsKept, IsReadLeaf, filled, in_order, pairs_on, wanted_on};
 ghost use Rattle.bw_look.specs.View.{first_pairs, last_pairs};
 
 use crate::look::Look;
@@ -22,14 +21,19 @@ use bw_page::PageId;
 use std::collections::BTreeMap;
 use std::marker::Model;
 
+mod gaps;
+
+use gaps::Gap;
+
 /// Scans of a tree, one after another, each as of a stamp of its own.
 ///
 /// Each leaf that was read is kept, and a later scan goes on from the stamp of the one before it. Its pairs are read where
 /// they stand, and what its writes made of some of them is kept beside it. So with stamps that rise, each write of a leaf
 /// has its effect once for all scans, and its chain is walked a fixed number of times, however many scans read it. A scan of
 /// leaves that are kept costs a few searches for each of them, among those that are kept and among its pairs, one for each
-/// key in its range that was written, and a copy of what it answers. At a stamp that falls the writes of a leaf have their
-/// effects again. What was kept stays in memory.
+/// key in its range that was written, and a copy of what it answers. Leaves side by side without a pair are passed at once by
+/// later scans, until one of them is written to. At a stamp that falls the writes of a leaf have their effects again. What was
+/// kept stays in memory.
 pub struct Scans<'a> {
     tree: Look<'a>,
     alloc: Alloc,
@@ -39,6 +43,8 @@ pub struct Scans<'a> {
     leaves: BTreeMap<PageId, ReadLeaf<'a>, Alloc>,
     // and by the keys that they begin at
     pages: BTreeMap<Key, PageId, Alloc>,
+    // ranges without pairs, by a page that lies there
+    gaps: BTreeMap<PageId, Gap, Alloc>,
 }
 
 // Not derived: whoever drops one calls this, and its proof is spared the parts.
@@ -50,16 +56,16 @@ impl Drop for Scans<'_> {
             keeps: _keeps,
             leaves: _leaves,
             pages: _pages,
+            gaps: _gaps,
         } = self;
     }
 }
 
-/// A leaf that was read: where its range lies, which page is its right neighbour, and its pairs.
+/// A leaf that was read: where its range lies, and its pairs.
 #[derive(Drop)]
 pub(crate) struct ReadLeaf<'a> {
     pub(crate) low: &'a Key,
     pub(crate) end: Option<&'a Key>,
-    pub(crate) side: Option<PageId>,
     pub(crate) replay: Replay<'a>,
 }
 
@@ -70,19 +76,9 @@ impl<'a> ReadLeaf<'a> {
         ensures stamp { IfOk result (λ leaf. leaf.replay.stamp ≡ stamp) }
         ensures leaf { IfOk result (λ leaf. (slot : Slot) → IsReadLeaf slot self.entry → IsReadLeaf slot leaf) }
     {
-        let ReadLeaf {
-            low,
-            end,
-            side,
-            replay,
-        } = self;
+        let ReadLeaf { low, end, replay } = self;
         let replay = replay.advance(stamp)?;
-        Ok(ReadLeaf {
-            low,
-            end,
-            side,
-            replay,
-        })
+        Ok(ReadLeaf { low, end, replay })
     }
 }
 
@@ -102,13 +98,13 @@ pub(crate) struct Scan {
 }
 
 impl<'a> Model for Scans<'a> {
-    ghost use Rattle.bw_look.specs.Replaying.{AreReadLeaves, ScansView};
+    ghost use Rattle.bw_look.specs.Replaying.{AreScans, ScansView};
 
     ghost Value = { ScansView };
 
     ghost view = { λ s. record { tree = s.tree } };
 
-    ghost invariant = { λ s. AreReadLeaves s.tree s.leaves };
+    ghost invariant = { λ s. AreScans s.tree s.leaves s.gaps };
 }
 
 impl<'a> Scans<'a> {
@@ -122,6 +118,7 @@ impl<'a> Scans<'a> {
             keeps: true,
             leaves: BTreeMap::new(alloc),
             pages: BTreeMap::new(alloc),
+            gaps: BTreeMap::new(alloc),
         }
     }
 
@@ -135,6 +132,7 @@ impl<'a> Scans<'a> {
             keeps: false,
             leaves: BTreeMap::new(alloc),
             pages: BTreeMap::new(alloc),
+            gaps: BTreeMap::new(alloc),
         }
     }
 
@@ -156,15 +154,25 @@ impl<'a> Scans<'a> {
             return Ok(read);
         }
         self.tree.know_levels();
-        let mut page = self.route(from);
+        let mut at = from;
+        let mut before = None;
         loop {
-            let Some(next) = self.read_leaf(page, from, to, most, stamp, &mut read)? else {
+            let page = self.route(at);
+            let count = read.len();
+            let Some(end) = self.read_leaf(page, at, to, most, stamp, &mut read)? else {
                 return Ok(read);
             };
             if read.len() as u64 >= most {
                 return Ok(read);
             }
-            page = next;
+            let Some(end) = self.skip(page, before, end, read.len() > count, stamp)? else {
+                return Ok(read);
+            };
+            if !is_below(end, to) {
+                return Ok(read);
+            }
+            before = Some(page);
+            at = end;
         }
     }
 
@@ -186,21 +194,25 @@ impl<'a> Scans<'a> {
             return Ok(read);
         }
         let mut end = to;
+        let mut behind = None;
         loop {
             let page = self.route_before(end);
+            let count = read.len();
             let low = self.read_leaf_back(page, from, end, most, stamp, &mut read)?;
-            if *low <= *from {
-                return Ok(read);
-            }
             if read.len() as u64 >= most {
                 return Ok(read);
             }
+            let low = self.skip_back(page, behind, low, read.len() > count, stamp)?;
+            if *low <= *from {
+                return Ok(read);
+            }
+            behind = Some(page);
             end = Some(low);
         }
     }
 
-    // Adds the pairs of a range that lie on a leaf, as of a stamp, until there are so many in all. It answers the right
-    // neighbour, where the leaf doesn't reach the end of the range.
+    // Adds the pairs of a range that lie on a leaf, as of a stamp, until there are so many in all. It answers where the leaf's
+    // range ends, if it doesn't reach the end of this one.
     fn read_leaf(
         &mut self,
         page: PageId,
@@ -209,24 +221,24 @@ impl<'a> Scans<'a> {
         most: u64,
         stamp: u64,
         read: &mut Pairs,
-    ) -> Result<Option<PageId>, Memory>
+    ) -> Result<Option<&'a Key>, Memory>
         requires { Contains (row self.old.tree.levels 0) page }
         ensures tree { self.new.tree ≡ self.old.tree }
         ensures read { let there = pairs_on self.old.tree stamp from.now (option_copied to.entry) page in
             OnOk result (read.new ≡ filled most read.old there) }
-        ensures next { IfOk result (IsAfter (slot_at self.old.tree.slots page) (option_copied to.entry)) }
+        ensures end { IfOk result (EndsBefore (slot_at self.old.tree.slots page) (option_copied to.entry)) }
     {
         self.tree.know_levels();
         let order = Order::Rising;
         let scan = Scan { order, most, stamp };
         let leaf = self.read_pairs(scan, page, from, to, read)?;
-        let next = if reaches(leaf.end, to) {
+        let end = if reaches(leaf.end, to) {
             None
         } else {
-            leaf.side
+            leaf.end
         };
         self.keep(page, leaf)?;
-        Ok(next)
+        Ok(end)
     }
 
     // The same of the last pairs, the greatest key first. It answers where the leaf's range begins.

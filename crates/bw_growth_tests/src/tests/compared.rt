@@ -60,8 +60,8 @@ pub fn has_pairs<R: Abort>(rt: &R, map: &ReferenceMap, pairs: &Pairs) {
     assert_equal(rt, pairs, &expected);
 }
 
-// Compares the pairs of both, and their number.
-fn are_same<R: Abort>(rt: &R, both: &Compared) {
+/// Compares the pairs of both, and their number.
+pub fn are_same<R: Abort>(rt: &R, both: &Compared) {
     let pairs = both.index.contents().expect(rt, "memory");
     has_pairs(rt, &both.map, &pairs);
     assert_equal(rt, both.index.len(), pairs.len() as u64);

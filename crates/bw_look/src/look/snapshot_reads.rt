@@ -57,7 +57,7 @@ impl<'a> Look<'a> {
     /// The first pairs of a range of keys as of a stamp, in the order of their keys: those from `from` on and below
     /// `to`, and no more than `most` of them.
     ///
-    /// From the leaf of `from` on it reads leaf after leaf along the side links, until there are enough pairs or a leaf
+    /// From the leaf of `from` on it reads leaf after leaf, each of which it searches for, until there are enough pairs or a leaf
     /// ends the range. The writes of a leaf below the stamp have their effects beside it, whatever `most` is; `Scans` does
     /// so once for many scans. Memory is taken for the pairs that are answered and, for one leaf with writes at a time, for
     /// lists of the writes and for a map of the keys that they changed, and none by `most`. `Memory` is answered where a
@@ -92,8 +92,7 @@ impl<'a> Look<'a> {
         Scans::once(*self.heads.allocator(), self.again()).scan_back(from, to, most, stamp)
     }
 
-    /// What a scan reads of a leaf: its bounds, its right neighbour, and its pairs as of stamp 0, which go on to later
-    /// stamps.
+    /// What a scan reads of a leaf: its bounds, and its pairs as of stamp 0, which go on to later stamps.
     pub(crate) fn read_leaf(&self, alloc: Alloc, page: PageId) -> Result<ReadLeaf<'a>, Memory>
         requires { Contains (row self.now.levels 0) page }
         ensures stamp { IfOk result (λ leaf. leaf.replay.stamp ≡ 0) }
@@ -105,7 +104,6 @@ impl<'a> Look<'a> {
         Ok(ReadLeaf {
             low: leaf.base.low(),
             end: leaf.end,
-            side: leaf.side,
             replay,
         })
     }

@@ -12,6 +12,5 @@ returns-clause-leaf c =
     record {
       low = c.low.ensures.value ∙ is.low;
       end = is.end;
-      side = is.side;
       replay = c.in_ok-replay.ensures.replay (slot_at c.args.self.now.slots c.args.page) is;
     }

@@ -6,6 +6,5 @@ pub returns-clause-leaf : goal.returns-clause-leaf
 returns-clause-leaf c slot leaf = record {
   low = leaf.low;
   end = leaf.end;
-  side = leaf.side;
   replay = c.in_ok-replay.ensures.replay (base_of slot) (high_of slot) (writes_over slot) leaf.replay;
 }

@@ -1,8 +1,8 @@
-use Rattle.std.proofs.Common.{T, subst}
+use Rattle.std.proofs.Common.{T, sym, subst}
 use Rattle.std.specs.Option.{option_copied}
 use Rattle.bw_level.specs.Before.{IsBefore}
 use Rattle.bw_look.specs.Replaying.{ScansView}
-use Rattle.bw_look.proofs.ReplayLemmas.{kept_before, kept_one}
+use Rattle.bw_look.proofs.ReplayLemmas.{kept_before}
 use Rattle.bw_look.proofs.scans.Scans.kept_before.Goals as goal
 
 pub returns : goal.returns
@@ -11,5 +11,5 @@ returns c =
     let leaf = c.in_ok-leaf.leaf.now in
     subst (λ (v : ScansView). IsBefore v.tree.slots v.tree.levels (option_copied c.args.end) page) c.self.view_is
     (kept_before c.self.inside.tree c.know_levels.ensures.lawful page leaf
-    (kept_one c.self.inside.tree c.self.inside.leaves page leaf c.self.invariant c.in_ok-leaf.ensures.value)
+    (c.self.invariant.read page leaf (sym c.in_ok-leaf.ensures.value))
     (option_copied c.args.end) (subst T c.if-not-is_below.ensures tt) (c.reaches.ensures.reached c.if-not-reaches.false))

@@ -1,11 +1,12 @@
-use Rattle.std.proofs.Common.{◌-◌, ◌++◌, length, reverse, take, refl, sym, ap, subst, ◌∙◌, arith}
+use Rattle.std.proofs.Common.{Some, ◌-◌, ◌++◌, length, reverse, take, refl, sym, ap, subst, ◌∙◌, arith}
 use Rattle.std.specs.Option.{option_copied}
 use Rattle.bw_level.specs.Before.{IsBefore, low_of}
 use Rattle.bw_level.specs.Slots.{slot_at}
+use Rattle.bw_look.specs.Gaps.{HasNone}
 use Rattle.bw_look.specs.View.{TreeView, contents_at}
 use Rattle.bw_level.proofs.EndLemmas.{not_below, no_le}
 use Rattle.bw_look.proofs.BackLemmas.{least_below}
-use Rattle.bw_look.proofs.ReplayLemmas.{begins_at_end, is_back, ends_at_leaf, enough_at_leaf, goes_before, leaf_of}
+use Rattle.bw_look.proofs.ReplayLemmas.{begins_at_end, is_back, ends_at_leaf, enough_at_leaf, goes_before, leaf_of, skips_back}
 use Rattle.bw_look.proofs.scans.Scans.scan_back.Goals as goal
 
 pub returns-then-asks_for_none-clause-pairs : goal.returns-then-asks_for_none-clause-pairs
@@ -22,20 +23,6 @@ loop-read-init c = record {
 pub route_before-page-requires : goal.route_before-page-requires
 route_before-page-requires c = least_below (option_copied c.loop-read.end) c.args.from.now c.loop-read.invariant.has_read.scanning.starts
 
-pub returns-then-le-clause-pairs : goal.returns-then-le-clause-pairs
-returns-then-le-clause-pairs c =
-    let read = c.loop-read.read in
-    let page = c.route_before-page.result in
-    let back =
-    is_back c.args.self.now.tree c.args.stamp c.args.most c.args.from.now (option_copied c.args.to) c.in_ok-low.low.now (option_copied c.loop-read.end) page read c.read_leaf_back.new.read
-    (subst (λ (t : TreeView). IsBefore t.slots t.levels (option_copied c.loop-read.end) page) c.loop-read.invariant.same c.route_before-page.ensures)
-    c.loop-read.invariant.has_read
-    (c.in_ok-low.ensures.read
-    ∙ ap (λ (t : TreeView). read ++ take (c.args.most - length read) (reverse (leaf_of t c.args.stamp c.args.from.now (option_copied c.loop-read.end) page))) c.loop-read.invariant.same)
-    (c.in_ok-low.ensures.low ∙ ap (λ (t : TreeView). low_of (slot_at t.slots page)) c.loop-read.invariant.same) in
-    ends_at_leaf c.args.self.now.tree c.args.stamp c.args.most c.args.from.now (option_copied c.args.to) c.in_ok-low.low.now (option_copied c.loop-read.end) c.read_leaf_back.new.read back
-    (not_below c.args.from.now c.in_ok-low.low.now (sym c.le.ensures ∙ c.if-le.true))
-
 pub returns-then-len-most-clause-pairs : goal.returns-then-len-most-clause-pairs
 returns-then-len-most-clause-pairs c =
     let read = c.loop-read.read in
@@ -50,6 +37,25 @@ returns-then-len-most-clause-pairs c =
     enough_at_leaf c.args.self.now.tree c.args.stamp c.args.most c.args.from.now (option_copied c.args.to) c.in_ok-low.low.now (option_copied c.loop-read.end) c.read_leaf_back.new.read back
     (omega (arith, c.if-len-most.true, c.len.ensures))
 
+pub returns-then-le-clause-pairs : goal.returns-then-le-clause-pairs
+returns-then-le-clause-pairs c =
+    let read = c.loop-read.read in
+    let page = c.route_before-page.result in
+    let back =
+    is_back c.args.self.now.tree c.args.stamp c.args.most c.args.from.now (option_copied c.args.to) c.in_ok-low.low.now (option_copied c.loop-read.end) page read c.read_leaf_back.new.read
+    (subst (λ (t : TreeView). IsBefore t.slots t.levels (option_copied c.loop-read.end) page) c.loop-read.invariant.same c.route_before-page.ensures)
+    c.loop-read.invariant.has_read
+    (c.in_ok-low.ensures.read
+    ∙ ap (λ (t : TreeView). read ++ take (c.args.most - length read) (reverse (leaf_of t c.args.stamp c.args.from.now (option_copied c.loop-read.end) page))) c.loop-read.invariant.same)
+    (c.in_ok-low.ensures.low ∙ ap (λ (t : TreeView). low_of (slot_at t.slots page)) c.loop-read.invariant.same) in
+    let now = c.in_ok-low.ensures.tree ∙ c.loop-read.invariant.same in
+    let low = c.in_ok-low-2.low.now in
+    let skipped =
+    skips_back c.args.self.now.tree c.args.stamp c.args.most c.args.from.now (option_copied c.args.to) c.in_ok-low.low.now low (option_copied c.loop-read.end) c.read_leaf_back.new.read back
+    (subst (λ (t : TreeView). HasNone t c.args.stamp low (Some c.in_ok-low.low.now)) now c.in_ok-low-2.ensures.none) c.in_ok-low-2.ensures.before in
+    ends_at_leaf c.args.self.now.tree c.args.stamp c.args.most c.args.from.now (option_copied c.args.to) low (option_copied c.loop-read.end) c.read_leaf_back.new.read skipped
+    (not_below c.args.from.now low (sym c.le.ensures ∙ c.if-le.true))
+
 pub loop-read-smaller : goal.loop-read-smaller
 loop-read-smaller c =
     let read = c.loop-read.read in
@@ -61,7 +67,12 @@ loop-read-smaller c =
     (c.in_ok-low.ensures.read
     ∙ ap (λ (t : TreeView). read ++ take (c.args.most - length read) (reverse (leaf_of t c.args.stamp c.args.from.now (option_copied c.loop-read.end) page))) c.loop-read.invariant.same)
     (c.in_ok-low.ensures.low ∙ ap (λ (t : TreeView). low_of (slot_at t.slots page)) c.loop-read.invariant.same) in
-    back.passed.less
+    let now = c.in_ok-low.ensures.tree ∙ c.loop-read.invariant.same in
+    let low = c.in_ok-low-2.low.now in
+    let skipped =
+    skips_back c.args.self.now.tree c.args.stamp c.args.most c.args.from.now (option_copied c.args.to) c.in_ok-low.low.now low (option_copied c.loop-read.end) c.read_leaf_back.new.read back
+    (subst (λ (t : TreeView). HasNone t c.args.stamp low (Some c.in_ok-low.low.now)) now c.in_ok-low-2.ensures.none) c.in_ok-low-2.ensures.before in
+    skipped.passed.less
 
 pub loop-read-preserved : goal.loop-read-preserved
 loop-read-preserved c =
@@ -74,7 +85,12 @@ loop-read-preserved c =
     (c.in_ok-low.ensures.read
     ∙ ap (λ (t : TreeView). read ++ take (c.args.most - length read) (reverse (leaf_of t c.args.stamp c.args.from.now (option_copied c.loop-read.end) page))) c.loop-read.invariant.same)
     (c.in_ok-low.ensures.low ∙ ap (λ (t : TreeView). low_of (slot_at t.slots page)) c.loop-read.invariant.same) in
+    let now = c.in_ok-low.ensures.tree ∙ c.loop-read.invariant.same in
+    let low = c.in_ok-low-2.low.now in
+    let skipped =
+    skips_back c.args.self.now.tree c.args.stamp c.args.most c.args.from.now (option_copied c.args.to) c.in_ok-low.low.now low (option_copied c.loop-read.end) c.read_leaf_back.new.read back
+    (subst (λ (t : TreeView). HasNone t c.args.stamp low (Some c.in_ok-low.low.now)) now c.in_ok-low-2.ensures.none) c.in_ok-low-2.ensures.before in
     record {
-      same = c.in_ok-low.ensures.tree ∙ c.loop-read.invariant.same;
-      has_read = goes_before c.args.self.now.tree c.args.stamp c.args.most c.args.from.now (option_copied c.args.to) c.in_ok-low.low.now (option_copied c.loop-read.end) read c.read_leaf_back.new.read c.loop-read.invariant.has_read back (no_le c.args.from.now c.in_ok-low.low.now (sym c.le.ensures ∙ c.if-le.false));
+      same = c.in_ok-low-2.ensures.tree ∙ now;
+      has_read = goes_before c.args.self.now.tree c.args.stamp c.args.most c.args.from.now (option_copied c.args.to) low (option_copied c.loop-read.end) read c.read_leaf_back.new.read c.loop-read.invariant.has_read skipped (no_le c.args.from.now low (sym c.le.ensures ∙ c.if-le.false));
     }
