@@ -14,7 +14,7 @@ use bw_key::{Key, Memory};
 use bw_memory::Alloc;
 use bw_model::{Op, Pairs, Refusal, Replies};
 use bw_post::Gate;
-use bw_shape::{Due, Tidy, all_pages, sweep_due};
+use bw_shape::{Due, Tidy, given_pages, sweep_due};
 use bw_tidy::tidy_by;
 use bw_tree::{Leaf, PageShape, Tree};
 use std::marker::Model;
@@ -124,8 +124,8 @@ impl Index {
 
     /// The index over a tree, with what it holds. The tree has no staged batch. All its pages are due, so the next batch that
     /// is accepted has them looked at. This costs the list of all pages and what `Tree::shape` does, since the pairs are
-    /// counted once. A split or a merge of the tree that isn't finished stays so, and is read by its links: finish them
-    /// first (`bw_shape::tidy`). After `Memory` the tree is gone.
+    /// counted once. A split or a merge of the tree that isn't finished is read by its links, and finished behind that batch,
+    /// which costs some searches for each page. After `Memory` the tree is gone.
     ///
     /// The tree, its keys and its values should be made on `alloc` too: they stay where they were made, and so do their
     /// copies.
@@ -138,7 +138,7 @@ impl Index {
         ensures records { IfOk result (λ index. index.records ≡ tree.records) }
         ensures pages { IfOk result (λ index. index.pages ≡ shape_of tree) }
     {
-        let due = all_pages(&tree)?;
+        let due = given_pages(&tree)?;
         let len = count_pairs(&tree)?;
         Ok(Index {
             options,

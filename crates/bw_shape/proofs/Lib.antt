@@ -5,3 +5,4 @@ pub mod TidyLemmas
 pub mod WholeLemmas
 pub mod AbsorbLemmas
 pub mod WrittenLeaves
+pub mod UnfinishedLemmas

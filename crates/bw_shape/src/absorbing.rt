@@ -1,5 +1,5 @@
 // Pages with too few entries are merged into their left neighbours.
-ghost use Rattle.std.specs.Prelude.{◌≡◌, ◌<◌, true, None, length, IfOk, MatchOption, OnOk};
+ghost use Rattle.std.specs.Prelude.{◌≡◌, ◌<◌, true, None, length, IfOk, MatchOption, OnErr, OnOk};
 ghost use Rattle.std.specs.List.{Contains};
 ghost use Rattle.bw_level.specs.Levels.{row};
 ghost use Rattle.bw_level.specs.Searches.{IsInLevels};
@@ -129,7 +129,7 @@ fn lose_left(
 }
 
 // Merges the next page into its left neighbour, where both are base pages by themselves and have no more entries than a page
-// may have, and finishes the merge. Whether it did.
+// may have, and finishes the merge. Whether it did. After `Memory` nothing has changed, or the merge is unfinished.
 fn absorb_next(
     tree: &mut Tree,
     limits: &Limits,
@@ -145,6 +145,7 @@ fn absorb_next(
     ensures holds { HoldsAll tree.old tree.new }
     ensures within { AreWithinBut limits.now tree.new due.new.pages }
     ensures ok { IfOk result (HasAbsorbed tree.old tree.new due.old due.new) }
+    ensures kept { OnErr result (due.new.unfinished ≡ None → tree.new ≡ tree.old) }
     ensures few { IfOk result (λ merged. merged ≡ true → FitsLeft limits.now tree.old page) }
 {
     tree.know_levels();

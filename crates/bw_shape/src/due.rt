@@ -1,9 +1,10 @@
 // The pages that tidying is to look at.
 ghost use Rattle.std.specs.Prelude.{◌≡◌, ℕ, ◌+◌, ◌<◌, ◌≤◌, ◌^◌, true, false, [], ◌∷◌, ◌++◌, None, Some, length, reverse, slice_index, take, MatchOption, IfOk, OnOk, OnErr};
 ghost use Rattle.std.specs.List.{Contains};
+ghost use Rattle.bw_look.specs.RemovedPages.{HasNoNamerOfRemoved};
 ghost use Rattle.bw_tree.specs.TreeSplits.{IsSplittable};
 ghost use Rattle.bw_steps.specs.Releasing.{AreFreed, IsLeftOut, IsLeftToFree};
-ghost use Rattle.bw_shape.specs.Tidying.{AreAmong, HasBoth, HasFinished, HasNoPage, HoldsAll, KeepsWithin, no_due};
+ghost use Rattle.bw_shape.specs.Tidying.{AreAmong, HasBoth, HasFinished, HasNoPage, HoldsAll, IsLeftToFinish, KeepsWithin, no_due};
 ghost use Rattle.bw_shape.specs.Visits.{IsNext, IsNextBefore, IsSplitNext};
 
 use crate::limits::Limits;
@@ -38,6 +39,8 @@ pub struct Due {
     // where tidying stopped: the page whose new right neighbours may not be named yet, or the removed one that may be named
     // still, or whose identifier may not be given back yet
     unfinished: Option<PageId>,
+    // whether the pages are all those of a tree that was given: splits and merges of it may be unfinished
+    given: bool,
 }
 
 impl Model for Due {
@@ -53,6 +56,7 @@ impl Model for Due {
       marked = d.marked.items;
       moving = d.moving;
       unfinished = d.unfinished;
+      given = d.given;
     } };
 }
 
@@ -69,6 +73,7 @@ impl Due {
             marked: Vec::new(alloc),
             moving: None,
             unfinished: None,
+            given: false,
         }
     }
 
@@ -79,6 +84,27 @@ impl Due {
         leaves.reverse();
         self.pages = leaves;
         self.above = inner;
+    }
+
+    /// Once the pages were looked at, these inner pages are due, and no others any more.
+    pub(crate) fn set_above(&mut self, inner: Vec<PageId, Alloc>)
+        ensures { self.new ≡ record self.old { above = inner.entry.items } }
+    {
+        self.above = inner;
+    }
+
+    /// Whether the pages are all those of a tree that was given, of which splits and merges may be unfinished.
+    pub(crate) fn is_given(&self) -> bool
+        ensures { result ≡ self.now.given }
+    {
+        self.given
+    }
+
+    /// The pages are such ones, or aren't any more.
+    pub(crate) fn set_given(&mut self, given: bool)
+        ensures { self.new ≡ record self.old { given = given } }
+    {
+        self.given = given;
     }
 
     /// Adds pages of the tree that come in the order of the keys at which they begin, and marks leaves: where these have few
@@ -456,6 +482,7 @@ impl Due {
     pub(crate) fn finish(&mut self, tree: &mut Tree, page: PageId) -> Result<(), Memory>
         requires { tree.old.staged ≡ None }
         ensures ok { OnOk result (HasFinished tree.old tree.new self.new.above page) }
+        ensures rest { self.new ≡ record self.old { above = self.new.above } }
         ensures err { OnErr result (tree.new ≡ tree.old) }
         ensures holds { HoldsAll tree.old tree.new }
         ensures within { KeepsWithin tree.old tree.new self.old.pages self.new.pages }
@@ -475,14 +502,21 @@ impl Due {
     /// Finishes the merge of a page, if it is a removed one: the page above no longer names it, and its identifier is given
     /// back, if nothing else leads to it, and then that of a removed page to which it alone still led. The page above is looked
     /// at behind the pages of the levels below it, and so is its right neighbour. After `Memory` the merge may be unfinished,
-    /// or identifiers are left that may be given back.
+    /// or identifiers are left that may be given back: tidying goes on at the page that is unfinished then, if it was this one.
     pub(crate) fn finish_merge(&mut self, tree: &mut Tree, page: PageId) -> Result<(), Memory>
         requires { tree.old.staged ≡ None }
         ensures holds { HoldsAll tree.old tree.new }
         ensures within { KeepsWithin tree.old tree.new self.old.pages self.new.pages }
         ensures pages { self.new.pages ≡ self.old.pages }
+        ensures rest { self.new ≡ record self.old { above = self.new.above; unfinished = self.new.unfinished } }
+        ensures ok { OnOk result (self.new.unfinished ≡ self.old.unfinished) }
+        ensures unnamed { OnOk result (HasNoNamerOfRemoved tree.new page) }
+        ensures none { OnOk result (IsLeftOut tree.old tree.new page) }
+        ensures err { self.old.unfinished ≡ Some page →
+            OnErr result (MatchOption self.new.unfinished ⊥ (IsLeftToFinish tree.old tree.new page)) }
     {
         self.above.reserve(2)?;
+        tree.know_levels();
         let Some(parent) = tree.namer_of_removed(page) else {
             return self.release_from(tree, page);
         };
@@ -497,6 +531,7 @@ impl Due {
         requires { tree.old.staged ≡ None }
         ensures freed { AreFreed tree.old tree.new }
         ensures pages { self.new.pages ≡ self.old.pages }
+        ensures rest { self.new ≡ record self.old { unfinished = self.new.unfinished } }
         ensures ok { OnOk result (self.new ≡ self.old) }
         ensures none { OnOk result (IsLeftOut tree.old tree.new page) }
         ensures err { OnErr result (MatchOption self.new.unfinished ⊥ (IsLeftToFree tree.old tree.new page)) }

@@ -4,6 +4,7 @@
 
 mod absorbing;
 mod due;
+mod finishing;
 mod halving;
 mod limits;
 mod outcome;
@@ -20,7 +21,7 @@ pub use outcome::Tidy;
 pub use sweeps::{sweep, sweep_due};
 pub use tidying::tidy_due;
 pub use visits::{has_writes, is_over};
-pub use whole_tree::{all_pages, tidy};
+pub use whole_tree::{all_pages, given_pages, tidy};
 
 /// Out of memory.
 pub use bw_key::Memory;

@@ -4,8 +4,10 @@ ghost use Rattle.bw_shape.specs.Limits.{AreWithinBut};
 ghost use Rattle.bw_shape.specs.Tidying.{HasNoneDue, HoldsAll, KeepsWithin};
 
 use crate::due::Due;
+use crate::finishing::finish_steps;
 use crate::limits::Limits;
 use crate::outcome::Tidy;
+use crate::page_lists::inner_pages;
 use crate::visits::visit;
 use bw_key::Memory;
 use bw_steps::{Did, drop_root};
@@ -51,11 +53,32 @@ fn visit_all(
     ensures within { AreWithinBut limits.now tree.new due.new.pages }
     ensures all { OnOk result (HasNoneDue due.new) }
 {
+    finish_given(tree, due)?;
     go_on(tree, due)?;
     due.begin(tree, limits)?;
     visit_levels(tree, limits, due, counts)?;
     lower(tree, due)?;
     forget_free(tree);
+    Ok(())
+}
+
+// Finishes the splits and the merges of a tree that was given, if that wasn't done yet. All inner pages are due then.
+fn finish_given(tree: &mut Tree, due: &mut Due) -> Result<(), Memory>
+    requires { tree.old.staged ≡ None }
+    ensures holds { HoldsAll tree.old tree.new }
+    ensures within { (pages : List ℕ) → KeepsWithin tree.old tree.new pages pages }
+    ensures pages { due.new.pages ≡ due.old.pages }
+    ensures ok { OnOk result (due.new.given ≡ false) }
+    ensures rest { due.new ≡ record due.old { above = due.new.above; given = due.new.given } }
+    ensures err { OnErr result (due.new ≡ due.old) }
+{
+    if !due.is_given() {
+        return Ok(());
+    }
+    finish_steps(tree)?;
+    let inner = inner_pages(due.alloc(), tree)?;
+    due.set_above(inner);
+    due.set_given(false);
     Ok(())
 }
 
@@ -65,6 +88,8 @@ fn go_on(tree: &mut Tree, due: &mut Due) -> Result<(), Memory>
     ensures holds { HoldsAll tree.old tree.new }
     ensures within { KeepsWithin tree.old tree.new due.old.pages due.new.pages }
     ensures finished { OnOk result (due.new.unfinished ≡ None) }
+    ensures rest { due.new ≡ record due.old { above = due.new.above; unfinished = due.new.unfinished } }
+    ensures kept { OnErr result (due.new.unfinished ≡ None → ⊥) }
 {
     let Some(page) = due.unfinished() else {
         return Ok(());

@@ -3,16 +3,15 @@ ghost use Rattle.std.specs.Prelude.{◌≡◌, ℕ, false, [], None, IfOk};
 ghost use Rattle.std.specs.List.{Contains};
 ghost use Rattle.bw_level.specs.Levels.{row};
 ghost use Rattle.bw_shape.specs.Limits.{AreWithinBut, HoldFew};
-ghost use Rattle.bw_shape.specs.Tidying.{AreAllPages, HoldsAll};
+ghost use Rattle.bw_shape.specs.Tidying.{AreAllPages, AreGivenPages, HoldsAll};
 
 use crate::due::Due;
+use crate::finishing::finish_steps;
 use crate::limits::Limits;
 use crate::outcome::Tidy;
 use crate::page_lists::{inner_pages, leaf_pages};
 use crate::tidying::tidy_due;
 use bw_key::Memory;
-use bw_page::PageId;
-use bw_steps::{finish_absorb, finish_split, grow_root, release_run};
 use bw_tree::Tree;
 
 /// Looks at all pages, as `tidy_due` does at those that are due. Before that each merge is finished, a root that was split
@@ -57,49 +56,8 @@ fn finish_all(tree: &mut Tree) -> Result<Due, Memory>
     ensures holds { HoldsAll tree.old tree.new }
     ensures leaves { IfOk result (λ due. (p : ℕ) → Contains (row tree.new.levels 0) p → Contains due.pages p) }
 {
-    finish_merges(tree)?;
-    let leaves = leaf_pages(tree)?;
-    let inner = inner_pages(*leaves.allocator(), tree)?;
-    tree.know_levels();
-    grow_root(tree)?;
-    finish_each(tree, &leaves)?;
-    finish_each(tree, &inner)?;
+    finish_steps(tree)?;
     all_pages(tree)
-}
-
-// Finishes each merge, of which a removed page is left: it isn't in the list of any level.
-fn finish_merges(tree: &mut Tree) -> Result<(), Memory>
-    requires { tree.old.staged ≡ None }
-    ensures { HoldsAll tree.old tree.new }
-{
-    let pages = tree.removed_pages()?;
-    for place in 0..pages.len() {
-        finish_merge(tree, pages[place])?;
-    }
-    Ok(())
-}
-
-// Finishes the merge of a page that was removed, and gives its identifier back where nothing leads to the page, and then that of
-// a removed page to which it alone still led.
-fn finish_merge(tree: &mut Tree, page: PageId) -> Result<(), Memory>
-    requires { tree.old.staged ≡ None }
-    ensures { HoldsAll tree.old tree.new }
-{
-    let mut next = page;
-    finish_absorb(tree, page)?;
-    release_run(tree, &mut next)?;
-    Ok(())
-}
-
-// Finishes the splits of these pages.
-fn finish_each(tree: &mut Tree, pages: &[PageId]) -> Result<(), Memory>
-    requires { tree.old.staged ≡ None }
-    ensures { HoldsAll tree.old tree.new }
-{
-    for page in pages {
-        finish_split(tree, *page)?;
-    }
-    Ok(())
 }
 
 /// All pages of a tree, which are due: the leaves first, and behind them the inner pages, the lowest level first. It costs a
@@ -112,5 +70,15 @@ pub fn all_pages(tree: &Tree) -> Result<Due, Memory>
     let inner = inner_pages(*leaves.allocator(), tree)?;
     let mut due = Due::new(*leaves.allocator());
     due.set_pages(leaves, inner);
+    Ok(due)
+}
+
+/// The same, of a tree that was given: splits and merges of it may be unfinished, and the first tidying finishes them.
+pub fn given_pages(tree: &Tree) -> Result<Due, Memory>
+    ensures all { IfOk result (AreGivenPages tree.now) }
+    ensures leaves { IfOk result (λ due. (p : ℕ) → Contains (row tree.now.levels 0) p → Contains due.pages p) }
+{
+    let mut due = all_pages(tree)?;
+    due.set_given(true);
     Ok(due)
 }

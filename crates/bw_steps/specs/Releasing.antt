@@ -1,7 +1,7 @@
 -- What giving identifiers back does, and where it isn't needed.
-use Rattle.std.specs.Prelude.{◌≡◌, ℕ, ◌+◌, ◌⊎◌, List, [], ◌∷◌, None}
+use Rattle.std.specs.Prelude.{◌≡◌, ℕ, ◌+◌, ◌⊎◌, List, [], ◌∷◌, Some, None}
 use Rattle.bw_level.specs.Freeing.{IsUnreached}
-use Rattle.bw_level.specs.Slots.{Slot, Free, Gone, Live, slot_at}
+use Rattle.bw_level.specs.Slots.{Slot, Free, Gone, Live, side_of, slot_at}
 use Rattle.bw_tree.specs.TreeFreeing.{HasFreed, MayBeFreed}
 use Rattle.bw_look.specs.View.{TreeView, contents_at}
 use Rattle.bw_steps.specs.declared.steps.Did.{Did}
@@ -10,6 +10,10 @@ use Rattle.bw_steps.specs.declared.steps.Did.TheVariants.{Done, NotNeeded}
 abbrev pub IsReleaseStep : TreeView → TreeView → ℕ → Did → Type 0
 IsReleaseStep old new p Done = MayBeFreed old p × HasFreed old new p
 IsReleaseStep old new p NotNeeded = (new ≡ old) × (MayBeFreed old p → ⊥)
+
+-- no page's side link names this one
+abbrev pub HasNoSideLink : TreeView → ℕ → Type 0
+HasNoSideLink tree p = (q : ℕ) → side_of tree.slots q ≡ Some p → ⊥
 
 -- no identifier is free that wasn't, but of pages that stand on no level and to which nothing leads
 abbrev pub FreesUnreached : TreeView → TreeView → Type 0

@@ -102,7 +102,8 @@ fn inspect_all<R: Threads + Sync>(
     ensures found { AllByRecursion (IsFinding tree.now limits.now) findings.new }
 {
     let look = move |_place: usize, finding: &mut Finding|
-        ensures { (finding.exit.now.page ≡ finding.entry.now.page) × IsFinding tree.entry.now limits.entry.now finding.exit.now }
+        ensures { (finding.exit.now.page ≡ finding.entry.now.page)
+            × IsFinding tree.entry.now limits.entry.now finding.exit.now }
     {
         *finding = inspect(tree, limits, finding.page);
     };

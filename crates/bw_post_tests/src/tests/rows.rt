@@ -270,6 +270,8 @@ fn writes_have_their_effects_once_for_all_scans(rt: HostRuntime) {
     let mut scans = Scans::new(alloc, tree.look());
     assert_that(&rt, growths(&rt, alloc, &mut scans) > 4);
     assert_equal(&rt, growths(&rt, alloc, &mut scans), 2);
+    // The last leaf has no pair then, which a scan back keeps in mind.
+    assert_equal(&rt, growths_back(&rt, alloc, &mut scans), 3);
     assert_equal(&rt, growths_back(&rt, alloc, &mut scans), 2);
 }
 

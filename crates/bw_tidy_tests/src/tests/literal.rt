@@ -1,5 +1,6 @@
 // Tidying as a plain program. It knows all keys and all pages, and has no list of pages that are due, but marks on the first
-// leaves under pages that were merged, and behind a sweep on all, at which it looks once more, as the index does.
+// leaves under pages that were merged, and behind a sweep on all, at which it looks once more, as the index does. Where it is
+// told to mark nothing, it looks at all pages alike.
 use bw_batch::{Key, Op, Tidy};
 use bw_memory::Alloc;
 use std::process::Abort;
@@ -68,6 +69,9 @@ pub struct PlainTree {
     identifiers: usize,
     freed: Vec<usize, Alloc>,
     counts: Tidy,
+    // whether it marks leaves, and whether a page right above the leaves was merged
+    marks: bool,
+    has_merged_above: bool,
     // the records and the stamps since the last sweep
     records: usize,
     stamps: usize,
@@ -96,10 +100,22 @@ impl PlainTree {
             identifiers: 1,
             freed: Vec::new(alloc),
             counts: Tidy::default(),
+            marks: true,
+            has_merged_above: false,
             records: 0,
             stamps: 0,
             sweeps: 0,
         }
+    }
+
+    /// It marks no leaf from now on.
+    pub fn mark_nothing(&mut self) {
+        self.marks = false;
+    }
+
+    /// Whether a page right above the leaves was merged: its first leaf got a left neighbour under the same page.
+    pub fn has_merged_above(&self) -> bool {
+        self.has_merged_above
     }
 
     /// The leaves from left to right, and behind them the pages of each level above.
@@ -185,7 +201,7 @@ impl PlainTree {
             let page = self.pages.get(place).copied().expect(rt, "a page");
             let entries = self.count_entries(rt, &page);
             let page = PlainPage {
-                is_marked: page.level == 0,
+                is_marked: self.marks && page.level == 0,
                 ..page
             };
             self.bare(rt, place, &page, entries);
@@ -391,6 +407,10 @@ impl PlainTree {
 
     // The leaf of a key was the first one under a page that was merged.
     fn mark_first(&mut self, key: u8) {
+        self.has_merged_above = true;
+        if !self.marks {
+            return;
+        }
         for page in &mut self.pages {
             if page.level == 0 && is_in(page, key) {
                 page.is_marked = true;

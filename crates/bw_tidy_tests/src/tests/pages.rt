@@ -32,8 +32,8 @@ fn is_listed(page: &PageShape, plain: &PlainPage, entries: usize) -> bool {
         && page.writes == plain.writes
 }
 
-// Compares pages.
-fn same_shape<R: Abort>(rt: &R, shape: &[PageShape], plain: &PlainTree) {
+/// Compares pages.
+pub fn same_shape<R: Abort>(rt: &R, shape: &[PageShape], plain: &PlainTree) {
     assert_equal(rt, shape.len(), plain.pages().len());
     for (page, plain_page) in shape.iter().zip(plain.pages()) {
         let entries = plain.count_entries(rt, plain_page);

@@ -10,11 +10,11 @@ use bw_model::ReferenceMap;
 use std::process::Abort;
 use std::thread::Threads;
 
-// How many batches there are.
-const BATCHES: u64 = 80;
+/// How many batches there are.
+pub const BATCHES: u64 = 80;
 
-// How many of them in a row grow the index, before as many shrink it.
-const ROW: u64 = 20;
+/// How many of them in a row grow the index, before as many shrink it.
+pub const ROW: u64 = 20;
 
 // How many keys.
 const KEYS: usize = 200;
@@ -22,8 +22,8 @@ const KEYS: usize = 200;
 // The most operations of a batch.
 const LONGEST: usize = 100;
 
-// So many records make no sweep due.
-const AMPLE: u64 = 1_048_576;
+/// So many records make no sweep due.
+pub const AMPLE: u64 = 1_048_576;
 
 // With so many a sweep is due before many batches.
 const FEW: u64 = 250;
@@ -65,8 +65,13 @@ fn draw<R: Abort>(make: &Maker<R>, random: &mut Random, shrinks: bool) -> Op {
     }
 }
 
-// A batch of 1 to 12 operations that are drawn, or of 100.
-fn batch<R: Abort>(rt: &R, make: &Maker<R>, random: &mut Random, shrinks: bool) -> Vec<Op, Alloc> {
+/// A batch of 1 to 12 operations that are drawn, or of 100.
+pub fn batch<R: Abort>(
+    rt: &R,
+    make: &Maker<R>,
+    random: &mut Random,
+    shrinks: bool,
+) -> Vec<Op, Alloc> {
     let len = match random.below(10) {
         0 => LONGEST,
         _ => random.below(12) + 1,
@@ -78,12 +83,12 @@ fn batch<R: Abort>(rt: &R, make: &Maker<R>, random: &mut Random, shrinks: bool) 
     ops
 }
 
-// Limits of pages.
+/// Limits of pages.
 #[derive(Clone, Copy)]
-struct Sizes {
-    chain_max: u64,
-    page_max: u64,
-    page_min: u64,
+pub struct Sizes {
+    pub chain_max: u64,
+    pub page_max: u64,
+    pub page_min: u64,
 }
 
 // With one write in a chain and four pairs no page is merged, or an empty one, or one of one pair.
@@ -125,16 +130,16 @@ const NO_CHAINS: Sizes = Sizes {
     page_min: 2,
 };
 
-// An index, the plain program that tidies, and the one that answers.
+/// An index, the plain program that tidies, and the one that answers.
 #[derive(Drop)]
-struct Compared {
-    index: Index,
-    plain: PlainTree,
-    map: ReferenceMap,
+pub struct Compared {
+    pub index: Index,
+    pub plain: PlainTree,
+    pub map: ReferenceMap,
 }
 
-// All of them empty, with these limits.
-fn empty<R: Abort>(
+/// All of them empty, with these limits.
+pub fn empty<R: Abort>(
     rt: &R,
     make: &Maker<R>,
     workers: u64,
@@ -165,21 +170,21 @@ fn empty<R: Abort>(
     }
 }
 
-// Compares the pairs.
-fn same_pairs<R: Abort>(rt: &R, index: &Index, map: &ReferenceMap) {
+/// Compares the pairs.
+pub fn same_pairs<R: Abort>(rt: &R, index: &Index, map: &ReferenceMap) {
     let pairs = index.contents().expect(rt, "memory");
     let expected = map.entries().expect(rt, "memory");
     assert_equal(rt, pairs, expected);
 }
 
-// Has a map run a batch, and compares what an index answered.
-fn same_replies<R: Abort>(rt: &R, map: &mut ReferenceMap, ops: &[Op], replies: &[Reply]) {
+/// Has a map run a batch, and compares what an index answered.
+pub fn same_replies<R: Abort>(rt: &R, map: &mut ReferenceMap, ops: &[Op], replies: &[Reply]) {
     let expected = map.run(ops).expect(rt, "memory");
     same(rt, replies, expected.as_slice());
 }
 
-// Runs a batch by all, and compares the replies, what tidying did, the pages and the pairs. How many pages were merged.
-fn run<R: Abort + Threads + Sync>(rt: &R, all: &mut Compared, ops: &[Op]) -> u64 {
+/// Runs a batch by all, and compares the replies, what tidying did, the pages and the pairs. How many pages were merged.
+pub fn run<R: Abort + Threads + Sync>(rt: &R, all: &mut Compared, ops: &[Op]) -> u64 {
     let done = all.index.run(rt, ops, &OpenGate).expect(rt, "memory");
     same_replies(rt, &mut all.map, ops, done.replies.as_slice());
     all.plain.run(rt, ops);

@@ -3,6 +3,7 @@ use Rattle.bw_shape.specs.Limits.{AreWithinBut}
 use Rattle.bw_steps.specs.MergeSteps.{IsAbsorptionStep}
 use Rattle.bw_shape.specs.Tidying.{DueView}
 use Rattle.bw_shape.proofs.AbsorbLemmas.{absorbed_within}
+use Rattle.bw_shape.proofs.UnfinishedLemmas.{is_told}
 use Rattle.bw_shape.proofs.absorbing.absorb_next.Goals as goal
 
 pub are_few-requires : goal.are_few-requires
@@ -36,3 +37,8 @@ returns-in_ok-finish_merge-in-Done-clause-within c =
     (absorbed_within c.args.limits.now c.args.tree.now c.absorb.new.tree c.args.page c.in_ok-absorb.field-0 c.args.due.now.pages c.pass_merged.new.self.pages c.in-Done.is c.in_ok-absorb.ensures.ok
     (c.are_few.ensures c.if-not-are_few.false)
     (sym (ap (λ (d : DueView). d.pages) c.in_ok-mark_later.ensures) ∙ c.pass_merged.ensures.pages (c.requires.next.0, (ap (λ (d : DueView). d.pages) c.in_ok-mark_later.ensures) ∙ c.requires.next.1)) c.requires.within))
+
+pub returns-in_err-finish_merge-in-Done-clause-kept : goal.returns-in_err-finish_merge-in-Done-clause-kept
+returns-in_err-finish_merge-in-Done-clause-kept c =
+    is_told _ c.from_residual-in_err-finish_merge-in-Done.result c.absorb.new.tree c.finish_merge.new.tree c.args.page c.finish_merge.new.self.unfinished
+    (c.in_err-finish_merge-in-Done.ensures.err c.pass_merged.ensures.unfinished)
