@@ -9,14 +9,16 @@ ghost use Rattle.bw_trace.specs.Counts.{HasRisenBy};
 ghost use Rattle.bw_trace.specs.Faults.{IfLine, IsOfInput};
 ghost use Rattle.clap.specs.Words.{kind_of};
 
-use crate::counting::{Counting, Front, Operations, no_operations};
+use crate::counting::{Counting, Operations, Tally, no_operations};
 use crate::messages::{Stats, no_memory, report};
+use crate::progress::{Progress, Showing, Terminal};
 use crate::request::{Request, request_in};
 use bw_batch::Options;
 use bw_memory::Alloc;
 use bw_trace::{FromRead, Inlet, Job, Outlet, Source, Summary, TraceFault, run_trace, status};
 use clap::error::{Error, ErrorKind};
 use std::alloc::Global;
+use std::fs::OpenFile;
 use std::rt::Files;
 use std::thread::Threads;
 use std::time::{Clock, Duration, Instant};
@@ -27,6 +29,9 @@ use std::{fs, io};
 /// `output`, and a message to `errors`: one line, but for other words, of which several lines tell. `--stats` has a line
 /// on `errors` too, where the trace was read to its end: its batches and operations, how many batches were refused, the
 /// seconds that the whole took by the clock, and operations a second. Without a clock it ends before the seconds.
+///
+/// `terminal` is where messages go, if that is a terminal: while a long file is read a line there tells how much of it
+/// was run, which is cleared at the end. A job that prints replies to a terminal shows none.
 ///
 /// `turns` is how often a trace is read at the most. The answer is the exit status: 0 where each batch was accepted and
 /// where help or the version was asked for, 1 at a fault of reading, writing or memory and where the input doesn't end,
@@ -39,6 +44,7 @@ pub fn run_words<
     R: Inlet,
     W: Outlet,
     E: Outlet,
+    P: Outlet + Drop,
 >(
     rt: &F,
     alloc: Alloc,
@@ -46,6 +52,7 @@ pub fn run_words<
     input: R,
     output: &mut W,
     errors: &mut E,
+    terminal: Option<Terminal<P>>,
     turns: u64,
 ) -> u8
     ensures answers { (jobs : JobWords) × IsCommandOutcome result jobs (map (λ w. w.now) words.now) (R.remaining input)
@@ -54,19 +61,26 @@ pub fn run_words<
     ensures most { result ≤ 4 }
 {
     match request_in(rt.alloc(), words) {
-        Ok(request) => run_request(rt, alloc, &request, input, output, errors, turns),
+        Ok(request) => run_request(rt, alloc, &request, input, output, errors, terminal, turns),
         Err(error) => show(rt.alloc(), &error, output, errors),
     }
 }
 
 // Does a job.
-fn run_request<F: Files + AllocGlobal + Threads + Clock + Sync, R: Inlet, W: Outlet, E: Outlet>(
+fn run_request<
+    F: Files + AllocGlobal + Threads + Clock + Sync,
+    R: Inlet,
+    W: Outlet,
+    E: Outlet,
+    P: Outlet + Drop,
+>(
     rt: &F,
     alloc: Alloc,
     request: &Request<'_>,
     input: R,
     output: &mut W,
     errors: &mut E,
+    terminal: Option<Terminal<P>>,
     turns: u64,
 ) -> u8
     ensures limits { IfSome (first_fault (settings_of request.now.limits)) (λ _. result ≡ 2) }
@@ -92,7 +106,12 @@ fn run_request<F: Files + AllocGlobal + Threads + Clock + Sync, R: Inlet, W: Out
     };
     match fs::open(rt, path) {
         Ok(file) => {
-            let input = FromRead::new(file);
+            let writer = match terminal {
+                Some(terminal) => terminal.writer_for(request.job),
+                None => None,
+            };
+            let progress = Progress::new(rt.alloc(), writer, size_of(&file));
+            let input = Showing::new(FromRead::new(file), progress);
             run_input(rt, alloc, input, output, errors, options, request, turns)
         }
         Err(_) => {
@@ -100,6 +119,12 @@ fn run_request<F: Files + AllocGlobal + Threads + Clock + Sync, R: Inlet, W: Out
             1
         }
     }
+}
+
+// How many bytes a file has, where the system tells: of a pipe it tells none.
+fn size_of<F: OpenFile>(file: &F) -> Option<u64> {
+    let size = file.metadata().ok()?.len();
+    if size == 0 { None } else { Some(size) }
 }
 
 // Does a job on a trace that is read from an input, and reports its fault, or what it was where that is asked for.
@@ -157,7 +182,7 @@ fn run_told<F: Threads + Clock + Sync, R: Inlet, W: Outlet, E: Outlet>(
     let (operations, shared) = counts;
     let input = Counting {
         reader: input,
-        front: Front::Blank,
+        tally: Tally::new(),
         operations: shared,
     };
     let start = Instant::now(rt);

@@ -1,4 +1,4 @@
-// How many operations a trace has, counted while it is read.
+// How many batches and operations a trace has, counted while it is read.
 use bw_trace::{Failed, Inlet};
 use std::alloc::Global;
 use std::cell::Cell;
@@ -16,7 +16,8 @@ pub fn no_operations(global: Global) -> Option<(Operations, Operations)> {
 
 /// What the bytes of a line that were read so far tell of it.
 ///
-/// In a trace without a fault the first word of each operation has three letters or more, and `go` and `bw` have two.
+/// In a trace without a fault the first word of each operation has three letters or more, that of the end of a batch is
+/// `go`, and `bw` alone begins with a `b`.
 #[derive(Clone, Copy, Debug, PartialEq, Eq)]
 pub enum Front {
     /// There is no word yet.
@@ -37,7 +38,7 @@ impl Front {
         match (self, byte) {
             (_, b'\n') => Front::Blank,
             (Front::Blank, b' ' | b'\r') => Front::Blank,
-            (Front::Blank, b'#') => Front::Rest,
+            (Front::Blank, b'#' | b'b') => Front::Rest,
             (Front::Blank, _) => Front::OneLetter,
             (Front::OneLetter, _) => Front::TwoLetters,
             (Front::TwoLetters, b' ' | b'\r') => Front::Rest,
@@ -47,16 +48,37 @@ impl Front {
     }
 }
 
-// What further bytes tell of the line in which they end. The operations that show in them are counted.
-fn count(front: Front, bytes: &[u8], operations: &Cell<u64>) -> Front {
-    let mut front = front;
-    for byte in bytes {
-        front = front.behind(*byte);
-        if front == Front::Operation {
-            operations.set(operations.get().saturating_add(1));
+/// How many batches and operations the lines of a trace have that were read so far.
+#[derive(Clone, Copy, Debug, PartialEq, Eq)]
+pub struct Tally {
+    front: Front,
+    /// The lines `go`.
+    pub batches: u64,
+    pub operations: u64,
+}
+
+impl Tally {
+    /// That of a trace of which nothing was read.
+    pub fn new() -> Tally {
+        Tally {
+            front: Front::Blank,
+            batches: 0,
+            operations: 0,
         }
     }
-    front
+
+    /// Counts what shows in further bytes.
+    pub fn take(&mut self, bytes: &[u8]) {
+        for byte in bytes {
+            let front = self.front.behind(*byte);
+            if front == Front::Operation {
+                self.operations = self.operations.saturating_add(1);
+            } else if self.front == Front::TwoLetters {
+                self.batches = self.batches.saturating_add(1);
+            }
+            self.front = front;
+        }
+    }
 }
 
 /// A reader of a trace that counts its operations. Where the trace was read to its end and no line was faulty, all were
@@ -64,7 +86,7 @@ fn count(front: Front, bytes: &[u8], operations: &Cell<u64>) -> Front {
 #[derive(Drop)]
 pub struct Counting<R: Inlet> {
     pub reader: R,
-    pub front: Front,
+    pub tally: Tally,
     pub operations: Operations,
 }
 
@@ -80,7 +102,8 @@ impl<R: Inlet> Inlet for Counting<R> {
     fn read(&mut self, buffer: &mut [u8]) -> Result<usize, Failed> {
         match self.reader.read(buffer) {
             Ok(n) => {
-                self.front = count(self.front, &buffer[..n], &self.operations);
+                self.tally.take(&buffer[..n]);
+                self.operations.set(self.tally.operations);
                 Ok(n)
             }
             Err(failed) => Err(failed),

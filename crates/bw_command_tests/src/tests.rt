@@ -14,6 +14,7 @@ mod memory;
 mod options;
 mod pictures;
 mod ports;
+mod progress;
 mod shapes;
 mod stats;
 mod stops;

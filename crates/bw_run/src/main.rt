@@ -3,9 +3,10 @@
 
 ghost use Rattle.std.specs.Prelude.{◌≡◌, ◌^◌};
 
-use bw_command::{arguments, no_memory, no_words, run_words};
+use bw_command::{Terminal, arguments, no_memory, no_words, run_words};
 use bw_memory::Heap;
 use bw_trace::{FromRead, FromWrite};
+use std::io::{IsTerminal, Stderr};
 use std::process::ExitCode;
 
 // How often the input is read at the most.
@@ -13,6 +14,18 @@ fn turns() -> u64
     ensures { result ≡ 2 ^ 32 }
 {
     4_294_967_296
+}
+
+// Standard error, where it is a terminal.
+fn terminal(rt: &HostRuntime) -> Option<Terminal<FromWrite<Stderr>>> {
+    let errors = rt.stderr();
+    if !errors.is_terminal() {
+        return None;
+    }
+    Some(Terminal {
+        writer: FromWrite::new(errors),
+        has_output: rt.stdout().is_terminal(),
+    })
 }
 
 fn main(rt: HostRuntime) -> ExitCode {
@@ -33,6 +46,15 @@ fn main(rt: HostRuntime) -> ExitCode {
     };
     let input = FromRead::new(rt.stdin());
     let mut output = FromWrite::new(rt.stdout());
-    let status = run_words(&rt, alloc, &words, input, &mut output, &mut errors, turns());
+    let status = run_words(
+        &rt,
+        alloc,
+        &words,
+        input,
+        &mut output,
+        &mut errors,
+        terminal(&rt),
+        turns(),
+    );
     ExitCode::from(status)
 }

@@ -1,7 +1,7 @@
 // A program at the other end that sends a batch, waits for its replies, and sends the next.
 ghost use Rattle.std.specs.Prelude.{◌-◌, ◌^◌, None, true};
 
-use super::ports::{Runner, TURNS};
+use super::ports::{Runner, TURNS, no_terminal};
 use crate::tests::assertions::assert_equal;
 use bw_command::run_words;
 use bw_trace::{Failed, Inlet, Outlet};
@@ -81,6 +81,7 @@ fn replies_are_taken_before_the_next_batch_is_read(rt: HostRuntime) {
         input,
         &mut out,
         &mut errors,
+        no_terminal(),
         TURNS,
     );
     runner.expect_message(&errors, "");

@@ -1,5 +1,5 @@
 // Words of a command line: jobs, other words, and messages.
-use super::ports::{BOTH_TEXTS, Runner, TURNS, TWO_BATCHES};
+use super::ports::{BOTH_TEXTS, Runner, TURNS, TWO_BATCHES, no_terminal};
 use crate::tests::assertions::{assert_equal, assert_that};
 use bw_command::run_words;
 
@@ -118,6 +118,7 @@ fn other_words_are_no_command(rt: HostRuntime) {
             input,
             &mut out,
             &mut errors,
+            no_terminal(),
             TURNS,
         );
         assert_equal(&rt, status, 2);
@@ -171,6 +172,7 @@ fn what_is_wrong_with_words_is_told(rt: HostRuntime) {
             input,
             &mut out,
             &mut errors,
+            no_terminal(),
             TURNS,
         );
         assert_equal(&rt, status, 2);
@@ -200,6 +202,7 @@ fn a_message_that_is_not_taken_leaves_the_status(rt: HostRuntime) {
             input,
             &mut out,
             &mut errors,
+            no_terminal(),
             TURNS,
         );
         assert_equal(&rt, status, expected);

@@ -1,5 +1,5 @@
 // Each growth of memory refused in turn, where a job prints at the end alone.
-use super::ports::{Runner, TURNS, TWO_BATCHES};
+use super::ports::{Runner, TURNS, TWO_BATCHES, no_terminal};
 use crate::tests::assertions::{assert_equal, assert_that};
 use bw_command::run_words;
 use std::process::Abort;
@@ -61,6 +61,7 @@ impl<R: Abort + Files + AllocGlobal + Threads + Clock + Sync> Runner<'_, R> {
             input,
             &mut out,
             &mut errors,
+            no_terminal(),
             TURNS,
         );
         let left = self.alloc.left();

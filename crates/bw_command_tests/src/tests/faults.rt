@@ -1,5 +1,5 @@
 // Readers and writers that fail, and a reader that doesn't end.
-use super::ports::{BOTH_TEXTS, FIRST_TEXT, Runner, TURNS, TWO_BATCHES};
+use super::ports::{BOTH_TEXTS, FIRST_TEXT, Runner, TURNS, TWO_BATCHES, no_terminal};
 use crate::tests::assertions::assert_equal;
 use bw_command::run_words;
 
@@ -52,6 +52,7 @@ fn a_failed_write_ends_the_run(rt: HostRuntime) {
             input,
             &mut out,
             &mut errors,
+            no_terminal(),
             TURNS,
         );
         assert_equal(&rt, status, 1);
@@ -68,6 +69,7 @@ fn a_failed_write_ends_the_run(rt: HostRuntime) {
         input,
         &mut out,
         &mut errors,
+        no_terminal(),
         TURNS,
     );
     assert_equal(&rt, status, 0);
@@ -87,6 +89,7 @@ fn a_failed_write_comes_before_a_later_faulty_line(rt: HostRuntime) {
         input,
         &mut out,
         &mut errors,
+        no_terminal(),
         TURNS,
     );
     assert_equal(&rt, status, 1);

@@ -1,5 +1,5 @@
 // Help and the version.
-use super::ports::{Runner, TURNS};
+use super::ports::{Runner, TURNS, no_terminal};
 use crate::tests::assertions::assert_equal;
 use bw_command::run_words;
 
@@ -97,6 +97,7 @@ fn help_that_is_not_taken_cannot_be_written(rt: HostRuntime) {
         input,
         &mut out,
         &mut errors,
+        no_terminal(),
         TURNS,
     );
     assert_equal(&rt, status, 1);

@@ -1,5 +1,5 @@
 // Traces that are cut off or wrong on purpose, and readers and writers that fail at a call.
-use super::ports::{Runner, TURNS};
+use super::ports::{Runner, TURNS, no_terminal};
 use crate::tests::assertions::{assert_equal, assert_that};
 use bw_command::run_words;
 
@@ -64,6 +64,7 @@ fn each_front_of_a_trace_is_run_or_faulty(rt: HostRuntime) {
             input,
             &mut out,
             &mut errors,
+            no_terminal(),
             TURNS,
         );
         let taken = out.taken.as_slice();
@@ -94,6 +95,7 @@ fn each_read_fails_in_turn(rt: HostRuntime) {
             input,
             &mut out,
             &mut errors,
+            no_terminal(),
             TURNS,
         );
         assert_equal(&rt, status, 1);
@@ -118,6 +120,7 @@ fn each_write_fails_in_turn(rt: HostRuntime) {
             input,
             &mut out,
             &mut errors,
+            no_terminal(),
             TURNS,
         );
         assert_equal(&rt, status, 1);
@@ -134,6 +137,7 @@ fn each_write_fails_in_turn(rt: HostRuntime) {
         input,
         &mut out,
         &mut errors,
+        no_terminal(),
         TURNS,
     );
     assert_equal(&rt, status, 1);

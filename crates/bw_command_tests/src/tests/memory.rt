@@ -1,5 +1,5 @@
 // Each growth of memory refused in turn.
-use super::ports::{BOTH_TEXTS, FIRST_TEXT, Runner, Sink, TURNS, TWO_BATCHES};
+use super::ports::{BOTH_TEXTS, FIRST_TEXT, Runner, Sink, TURNS, TWO_BATCHES, no_terminal};
 use crate::tests::assertions::{assert_equal, assert_that};
 use bw_command::run_words;
 use std::process::Abort;
@@ -37,6 +37,7 @@ fn run_refused<R: Abort + Files + AllocGlobal + Threads + Clock + Sync>(
         input,
         out,
         errors,
+        no_terminal(),
         TURNS,
     );
     let left = runner.alloc.left();

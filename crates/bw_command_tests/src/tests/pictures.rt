@@ -1,5 +1,5 @@
 // The picture of the pages on which the index holds its pairs at the end.
-use super::ports::{Runner, TURNS};
+use super::ports::{Runner, TURNS, no_terminal};
 use crate::tests::assertions::{assert_equal, assert_that};
 use bw_command::run_words;
 
@@ -39,6 +39,7 @@ fn five_pairs_are_drawn_on_three_pages(rt: HostRuntime) {
         input,
         &mut out,
         &mut errors,
+        no_terminal(),
         TURNS,
     );
     assert_equal(&rt, status, 0);

@@ -2,7 +2,7 @@
 ghost use Rattle.std.specs.Prelude.{◌-◌, ◌^◌, ◌<◌, None, true};
 
 use crate::tests::assertions::assert_equal;
-use bw_command::run_words;
+use bw_command::{Terminal, run_words};
 use bw_memory::{Alloc, Heap};
 use bw_trace::{Failed, Inlet, Outlet};
 use std::alloc::Global;
@@ -119,6 +119,11 @@ impl Outlet for Sink {
     }
 }
 
+/// No terminal on which progress could be shown.
+pub fn no_terminal() -> Option<Terminal<Sink>> {
+    None
+}
+
 /// Runs the program, and ends the test where it does something else than is expected.
 #[derive(Drop)]
 pub struct Runner<'a, R: Abort + Files + AllocGlobal + Threads + Clock + Sync> {
@@ -132,6 +137,11 @@ impl<'a, R: Abort + Files + AllocGlobal + Threads + Clock + Sync> Runner<'a, R> 
     pub fn new(rt: &'a R, global: Global) -> Runner<'a, R> {
         let alloc = Heap::counted(global).leak(global).expect(rt, "memory");
         Runner { rt, global, alloc }
+    }
+
+    /// What tests allocate from.
+    pub fn global(&self) -> Global {
+        self.global
     }
 
     /// The parts as one text.
@@ -188,6 +198,7 @@ impl<'a, R: Abort + Files + AllocGlobal + Threads + Clock + Sync> Runner<'a, R> 
             input,
             &mut out,
             &mut errors,
+            no_terminal(),
             turns,
         );
         self.expect_text(&out, output);
@@ -233,6 +244,7 @@ impl<'a, R: Abort + Files + AllocGlobal + Threads + Clock + Sync> Runner<'a, R> 
             input,
             &mut out,
             &mut errors,
+            no_terminal(),
             TURNS,
         );
         self.expect_text(&out, output);
@@ -252,6 +264,7 @@ impl<'a, R: Abort + Files + AllocGlobal + Threads + Clock + Sync> Runner<'a, R> 
             input,
             &mut out,
             &mut errors,
+            no_terminal(),
             TURNS,
         );
         assert_equal(self.rt, found, 1);

@@ -1,5 +1,5 @@
 // `--stats`: what it tells, and that all else stays as it is.
-use super::ports::{BOTH_TEXTS, Pieces, Runner, TURNS, TWO_BATCHES};
+use super::ports::{BOTH_TEXTS, Pieces, Runner, TURNS, TWO_BATCHES, no_terminal};
 use crate::tests::assertions::{assert_equal, assert_that};
 use bw_command::{Stats, run_words};
 use bw_trace::Summary;
@@ -33,6 +33,7 @@ impl<R: Abort + Files + AllocGlobal + Threads + Clock + Sync> Runner<'_, R> {
             input,
             &mut out,
             &mut errors,
+            no_terminal(),
             TURNS,
         );
         self.expect_text(&out, output);
@@ -133,6 +134,7 @@ fn stats_that_are_not_taken_change_nothing(rt: HostRuntime) {
         input,
         &mut out,
         &mut errors,
+        no_terminal(),
         TURNS,
     );
     assert_equal(&rt, status, 0);

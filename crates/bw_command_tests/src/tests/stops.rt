@@ -1,6 +1,6 @@
 // Five inserts over pages of four pairs, where each growth of memory is refused in turn. The leaf is split behind their
 // batch, or where tidying stops there, behind the next one.
-use super::ports::{Runner, TURNS};
+use super::ports::{Runner, TURNS, no_terminal};
 use super::shapes::{FIVE, FIVE_SPLIT, SMALL_PAGES};
 use crate::tests::assertions::{assert_equal, assert_that};
 use bw_command::run_words;
@@ -105,6 +105,7 @@ impl<R: Abort + Files + AllocGlobal + Threads + Clock + Sync> Runner<'_, R> {
             input,
             &mut out,
             &mut errors,
+            no_terminal(),
             TURNS,
         );
         let left = self.alloc.left();
