@@ -33,7 +33,7 @@ fn main(rt: HostRuntime) -> Result<()> {
     Ok(())
 }
 
-/// Puts a value at a key, by a batch of one operation. That the index holds it then is proved from the contract of `run`.
+/// Puts a value at a key, by a batch of one operation. That the index holds it then follows from the contract of `run`.
 fn put<R: Threads + Sync>(
     rt: &R,
     alloc: Alloc,
