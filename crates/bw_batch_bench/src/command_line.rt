@@ -5,8 +5,8 @@ use clap::builder::ValueParser;
 use clap::{Arg, ArgAction, Command, value_parser};
 use std::alloc::{AllocError, Global};
 
-static JOBS: [&str; 9] = [
-    "check", "run", "bytes", "time", "small", "insert", "drain", "beside", "picture",
+static JOBS: [&str; 10] = [
+    "check", "run", "bytes", "time", "small", "insert", "drain", "beside", "hard", "picture",
 ];
 
 static BYS: [&str; 3] = ["workers", "batch", "keys"];
@@ -33,6 +33,8 @@ const AFTER: &str = "The jobs:
           prints what bytes they have in use then
   beside  times batches of gets and upserts on an index alone, without and with --beside, over 10000
           keys and 1000000, uniform and skewed, with 1, 2 and 4 workers
+  hard    times batches of 32768 and of 65536 operations of the kinds that cost the square of their
+          operations where an index doesn't see to it, by one worker, and prints the ratio
   picture writes a picture of times to standard output, an SVG text: what `run` times with 1, 2
           and 4 workers, by batches of 1, 8, 64, 1024 and 65536 operations, or over 10000, 100000
           and 1000000 keys, as --by says; of small batches as many as have 8192 operations

@@ -5,7 +5,8 @@
 //! is printed. `run` times batches of one kind, as its options say; `time` those of all kinds over 10,000 keys and
 //! 1,000,000, `small` batches of 1, 8, 64 and 1,024 operations, `insert` an empty index and an empty map that get
 //! 1,048,576 keys, rising ones and scattered ones, and `drain` both as they lose as many. `beside` times an index by
-//! itself, with and without leaves that are consolidated beside the posting. What is printed is nanoseconds an
+//! itself, with and without leaves that are consolidated beside the posting, and `hard` times batches that cost
+//! the square of their operations where an index doesn't see to it. What is printed is nanoseconds an
 //! operation, of the batch whose time is in the middle and of all batches together, index / map, and the ratio. `bytes`
 //! prints how many bytes a key the index and the map have in use. `picture` writes what `run` times as an SVG text,
 //! over several numbers of workers, operations of a batch or keys.
@@ -17,6 +18,8 @@ mod beside;
 mod chart;
 mod command_line;
 mod drain;
+mod hard;
+mod hard_batches;
 mod insertion;
 mod kinds;
 mod load;
@@ -33,6 +36,7 @@ use anyhow::Result;
 use beside::{print_besides, print_checked_beside};
 use bw_memory::{Alloc, Heap};
 use drain::{Drain, print_all_drains, print_drain};
+use hard::{print_counts, print_times};
 use insertion::{Insertion, RECORDS, print_all_insertions, print_insertion};
 use kinds::{print_all_small, print_load};
 use load::{BRIEF, LARGE, SMALL, fresh};
@@ -64,7 +68,8 @@ fn print_brief<R: Threads + Clock + Sync + Print>(rt: &R, alloc: Alloc) -> Resul
         load: fresh(1000, 64),
         workers: 1,
     };
-    print_drain(rt, alloc, drain, false)
+    print_drain(rt, alloc, drain, false)?;
+    print_counts(rt, alloc)
 }
 
 // Does what a request asks for.
@@ -89,6 +94,7 @@ fn print_request<R: Threads + Clock + Sync + Print>(
         Job::Insert => print_all_insertions(rt, alloc),
         Job::Drain => print_all_drains(rt, global, alloc),
         Job::Beside => print_besides(rt, alloc),
+        Job::Hard => print_times(rt, alloc),
         Job::Picture => print_picture(rt, alloc, request),
     }
 }

@@ -23,6 +23,7 @@ pub enum Job {
     Insert,
     Drain,
     Beside,
+    Hard,
     Picture,
 }
 
@@ -38,6 +39,7 @@ impl Job {
             Job::Insert => "insert",
             Job::Drain => "drain",
             Job::Beside => "beside",
+            Job::Hard => "hard",
             Job::Picture => "picture",
         }
     }
@@ -266,6 +268,7 @@ fn job_named(word: Option<&str>) -> Job {
         Some("insert") => Job::Insert,
         Some("drain") => Job::Drain,
         Some("beside") => Job::Beside,
+        Some("hard") => Job::Hard,
         Some("picture") => Job::Picture,
         _ => Job::Check,
     }

@@ -91,8 +91,8 @@ pub fn cost_of(times: &mut [Duration], operations: u64) -> Result<Cost> {
     })
 }
 
-// The time in the middle of sorted ones.
-fn middle(times: &[Duration]) -> Result<Duration> {
+/// The time in the middle of sorted ones.
+pub fn middle(times: &[Duration]) -> Result<Duration> {
     times.get(times.len() / 2).copied().context("no batch")
 }
 

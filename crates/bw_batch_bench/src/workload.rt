@@ -42,18 +42,19 @@ fn next_state(state: u64) -> u64 {
         .wrapping_add(1442695040888963407)
 }
 
-// Keys of 8 bytes, in the order of their numbers.
-fn key(alloc: Alloc, number: u64) -> Result<Key> {
+/// Keys of 8 bytes, in the order of their numbers.
+pub fn key(alloc: Alloc, number: u64) -> Result<Key> {
     Ok(Key::new(alloc, &number.to_be_bytes())?)
 }
 
-// The operation that puts a value at the key of a number.
-fn upsert(alloc: Alloc, number: u64, value: u64) -> Result<Op> {
+/// The operation that puts a value at the key of a number.
+pub fn upsert(alloc: Alloc, number: u64, value: u64) -> Result<Op> {
     let value = Value::new(alloc, &value.to_be_bytes())?;
     Ok(Op::Upsert(key(alloc, number)?, value))
 }
 
-fn least_key(alloc: Alloc) -> Result<Key>
+/// The key that none is below.
+pub fn least_key(alloc: Alloc) -> Result<Key>
     ensures { IfOk result (λ key. key ≡ []) }
 {
     Ok(Key::new(alloc, &[])?)
@@ -240,7 +241,8 @@ fn op_at(alloc: Alloc, number: u64, kind: Kind, is_write: bool, value: u64) -> R
     Ok(read(key(alloc, number)?, kind))
 }
 
-fn put(ops: &mut Vec<Op, Alloc>, op: Op) -> Result<()> {
+/// Puts an operation behind others.
+pub fn put(ops: &mut Vec<Op, Alloc>, op: Op) -> Result<()> {
     ops.push(op)?;
     Ok(())
 }
