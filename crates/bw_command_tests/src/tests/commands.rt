@@ -1,7 +1,6 @@
 // Words of a command line: jobs, other words, and messages.
-use super::ports::{BOTH_TEXTS, Runner, TURNS, TWO_BATCHES, no_terminal};
+use super::ports::{BOTH_TEXTS, Runner, TWO_BATCHES};
 use crate::tests::assertions::{assert_equal, assert_that};
-use bw_command::run_words;
 
 const HISTORY: &str =
     "insert a 1\ndelete a\ninsert a 2\ngo\nupdate a 3\ninsert a 4\ngo\ndelete a\nupsert a 5\nget a";
@@ -111,16 +110,7 @@ fn other_words_are_no_command(rt: HostRuntime) {
         let mut out = runner.sink();
         let mut errors = runner.sink();
         let input = runner.pieces(TWO_BATCHES);
-        let status = run_words(
-            &rt,
-            runner.alloc,
-            words,
-            input,
-            &mut out,
-            &mut errors,
-            no_terminal(),
-            TURNS,
-        );
+        let status = runner.status(words, input, &mut out, &mut errors);
         assert_equal(&rt, status, 2);
         runner.expect_text(&out, "");
         assert_that(&rt, errors.taken.starts_with(b"error: ".as_slice()));
@@ -165,16 +155,7 @@ fn what_is_wrong_with_words_is_told(rt: HostRuntime) {
         let mut out = runner.sink();
         let mut errors = runner.sink();
         let input = runner.pieces(TWO_BATCHES);
-        let status = run_words(
-            &rt,
-            runner.alloc,
-            words,
-            input,
-            &mut out,
-            &mut errors,
-            no_terminal(),
-            TURNS,
-        );
+        let status = runner.status(words, input, &mut out, &mut errors);
         assert_equal(&rt, status, 2);
         runner.expect_text(&out, "");
         runner.expect_text(&errors, text);
@@ -195,16 +176,7 @@ fn a_message_that_is_not_taken_leaves_the_status(rt: HostRuntime) {
         let mut out = runner.sink();
         let mut errors = runner.sink_failing_at(1);
         let input = runner.pieces(text);
-        let status = run_words(
-            &rt,
-            runner.alloc,
-            words,
-            input,
-            &mut out,
-            &mut errors,
-            no_terminal(),
-            TURNS,
-        );
+        let status = runner.status(words, input, &mut out, &mut errors);
         assert_equal(&rt, status, expected);
         runner.expect_text(&errors, "");
     }

@@ -1,7 +1,6 @@
 // Each growth of memory refused in turn, where a job prints at the end alone.
-use super::ports::{Runner, TURNS, TWO_BATCHES, no_terminal};
+use super::ports::{Runner, TWO_BATCHES};
 use crate::tests::assertions::{assert_equal, assert_that};
-use bw_command::run_words;
 use std::process::Abort;
 use std::rt::Files;
 use std::thread::Threads;
@@ -54,16 +53,7 @@ impl<R: Abort + Files + AllocGlobal + Threads + Clock + Sync> Runner<'_, R> {
         let mut errors = self.sink();
         let input = self.pieces(TWO_BATCHES);
         self.alloc.refuse(growth);
-        let status = run_words(
-            self.rt,
-            self.alloc,
-            &[job],
-            input,
-            &mut out,
-            &mut errors,
-            no_terminal(),
-            TURNS,
-        );
+        let status = self.status(&[job], input, &mut out, &mut errors);
         let left = self.alloc.left();
         self.alloc.refuse(0);
         let text = out.taken.as_slice();

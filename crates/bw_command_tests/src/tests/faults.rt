@@ -1,7 +1,6 @@
 // Readers and writers that fail, and a reader that doesn't end.
-use super::ports::{BOTH_TEXTS, FIRST_TEXT, Runner, TURNS, TWO_BATCHES, no_terminal};
+use super::ports::{BOTH_TEXTS, FIRST_TEXT, Runner, TURNS, TWO_BATCHES};
 use crate::tests::assertions::assert_equal;
-use bw_command::run_words;
 
 // How many bytes stand before the second batch, its last newline among them.
 const FIRST_BATCH: u64 = 37;
@@ -45,16 +44,7 @@ fn a_failed_write_ends_the_run(rt: HostRuntime) {
         let mut out = runner.sink_failing_at(call);
         let mut errors = runner.sink();
         let input = runner.pieces(TWO_BATCHES);
-        let status = run_words(
-            &rt,
-            runner.alloc,
-            &["run", "-"],
-            input,
-            &mut out,
-            &mut errors,
-            no_terminal(),
-            TURNS,
-        );
+        let status = runner.status(&["run", "-"], input, &mut out, &mut errors);
         assert_equal(&rt, status, 1);
         runner.expect_text(&out, written);
         runner.expect_message(&errors, "cannot write");
@@ -62,16 +52,7 @@ fn a_failed_write_ends_the_run(rt: HostRuntime) {
     let mut out = runner.sink_failing_at(3);
     let mut errors = runner.sink();
     let input = runner.pieces(TWO_BATCHES);
-    let status = run_words(
-        &rt,
-        runner.alloc,
-        &["run", "-"],
-        input,
-        &mut out,
-        &mut errors,
-        no_terminal(),
-        TURNS,
-    );
+    let status = runner.status(&["run", "-"], input, &mut out, &mut errors);
     assert_equal(&rt, status, 0);
     runner.expect_text(&out, BOTH_TEXTS);
 }
@@ -82,16 +63,7 @@ fn a_failed_write_comes_before_a_later_faulty_line(rt: HostRuntime) {
     let mut out = runner.sink_failing_at(1);
     let mut errors = runner.sink();
     let input = runner.pieces("get a\ngo\nbogus\n");
-    let status = run_words(
-        &rt,
-        runner.alloc,
-        &["run", "-"],
-        input,
-        &mut out,
-        &mut errors,
-        no_terminal(),
-        TURNS,
-    );
+    let status = runner.status(&["run", "-"], input, &mut out, &mut errors);
     assert_equal(&rt, status, 1);
     runner.expect_message(&errors, "cannot write");
 }

@@ -1,7 +1,6 @@
 // Help and the version.
-use super::ports::{Runner, TURNS, no_terminal};
+use super::ports::Runner;
 use crate::tests::assertions::assert_equal;
-use bw_command::run_words;
 
 const HELP: &str = "Runs a trace of operations on an ordered index from keys to values.
 
@@ -90,16 +89,7 @@ fn help_that_is_not_taken_cannot_be_written(rt: HostRuntime) {
     let mut out = runner.sink_failing_at(1);
     let mut errors = runner.sink();
     let input = runner.pieces("");
-    let status = run_words(
-        &rt,
-        runner.alloc,
-        &["--help"],
-        input,
-        &mut out,
-        &mut errors,
-        no_terminal(),
-        TURNS,
-    );
+    let status = runner.status(&["--help"], input, &mut out, &mut errors);
     assert_equal(&rt, status, 1);
     runner.expect_message(&errors, "cannot write");
 }

@@ -1,7 +1,6 @@
 // Traces that are cut off or wrong on purpose, and readers and writers that fail at a call.
-use super::ports::{Runner, TURNS, no_terminal};
+use super::ports::Runner;
 use crate::tests::assertions::{assert_equal, assert_that};
-use bw_command::run_words;
 
 const NUMBER: &str = "line 1: not a whole number up to 18446744073709551615";
 
@@ -57,16 +56,7 @@ fn each_front_of_a_trace_is_run_or_faulty(rt: HostRuntime) {
         input.text.truncate(length as usize);
         let mut out = runner.sink();
         let mut errors = runner.sink();
-        let status = run_words(
-            &rt,
-            runner.alloc,
-            &["run"],
-            input,
-            &mut out,
-            &mut errors,
-            no_terminal(),
-            TURNS,
-        );
+        let status = runner.status(&["run"], input, &mut out, &mut errors);
         let taken = out.taken.as_slice();
         assert_that(&rt, taken.len() >= written_after(length));
         assert_that(&rt, FOUR_TEXTS.as_bytes().starts_with(taken));
@@ -88,16 +78,7 @@ fn each_read_fails_in_turn(rt: HostRuntime) {
         input.fails_at = call;
         let mut out = runner.sink();
         let mut errors = runner.sink();
-        let status = run_words(
-            &rt,
-            runner.alloc,
-            &["run"],
-            input,
-            &mut out,
-            &mut errors,
-            no_terminal(),
-            TURNS,
-        );
+        let status = runner.status(&["run"], input, &mut out, &mut errors);
         assert_equal(&rt, status, 1);
         runner.expect_message(&errors, "cannot read");
         let taken = out.taken.as_slice();
@@ -113,16 +94,7 @@ fn each_write_fails_in_turn(rt: HostRuntime) {
         let mut out = runner.sink_failing_at(call);
         let mut errors = runner.sink();
         let input = runner.pieces(FOUR_BATCHES);
-        let status = run_words(
-            &rt,
-            runner.alloc,
-            &["run"],
-            input,
-            &mut out,
-            &mut errors,
-            no_terminal(),
-            TURNS,
-        );
+        let status = runner.status(&["run"], input, &mut out, &mut errors);
         assert_equal(&rt, status, 1);
         runner.expect_message(&errors, "cannot write");
         assert_equal(&rt, out.taken.len(), written);
@@ -130,16 +102,7 @@ fn each_write_fails_in_turn(rt: HostRuntime) {
     let mut out = runner.sink_failing_at(1);
     let mut errors = runner.sink();
     let input = runner.pieces(FOUR_BATCHES);
-    let status = run_words(
-        &rt,
-        runner.alloc,
-        &["dump"],
-        input,
-        &mut out,
-        &mut errors,
-        no_terminal(),
-        TURNS,
-    );
+    let status = runner.status(&["dump"], input, &mut out, &mut errors);
     assert_equal(&rt, status, 1);
     runner.expect_message(&errors, "cannot write");
 }

@@ -1,7 +1,6 @@
 // Each growth of memory refused in turn.
-use super::ports::{BOTH_TEXTS, FIRST_TEXT, Runner, Sink, TURNS, TWO_BATCHES, no_terminal};
+use super::ports::{BOTH_TEXTS, FIRST_TEXT, Runner, Sink, TWO_BATCHES};
 use crate::tests::assertions::{assert_equal, assert_that};
-use bw_command::run_words;
 use std::process::Abort;
 use std::rt::Files;
 use std::thread::Threads;
@@ -30,16 +29,7 @@ fn run_refused<R: Abort + Files + AllocGlobal + Threads + Clock + Sync>(
 ) -> Ended {
     let input = runner.pieces(text);
     runner.alloc.refuse(growth);
-    let status = run_words(
-        runner.rt,
-        runner.alloc,
-        &["run", "-"],
-        input,
-        out,
-        errors,
-        no_terminal(),
-        TURNS,
-    );
+    let status = runner.status(&["run", "-"], input, out, errors);
     let left = runner.alloc.left();
     runner.alloc.refuse(0);
     Ended {

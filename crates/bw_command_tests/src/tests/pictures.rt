@@ -1,7 +1,6 @@
 // The picture of the pages on which the index holds its pairs at the end.
-use super::ports::{Runner, TURNS, no_terminal};
+use super::ports::Runner;
 use crate::tests::assertions::{assert_equal, assert_that};
-use bw_command::run_words;
 
 const FIVE: &str = "insert a 1\ninsert b 2\ninsert c 3\ninsert d 4\ninsert e 5\n";
 
@@ -32,16 +31,7 @@ fn five_pairs_are_drawn_on_three_pages(rt: HostRuntime) {
     let mut out = runner.sink();
     let mut errors = runner.sink();
     let input = runner.pieces(FIVE);
-    let status = run_words(
-        &rt,
-        runner.alloc,
-        SMALL_PAGES,
-        input,
-        &mut out,
-        &mut errors,
-        no_terminal(),
-        TURNS,
-    );
+    let status = runner.status(SMALL_PAGES, input, &mut out, &mut errors);
     assert_equal(&rt, status, 0);
     runner.expect_text(&errors, "");
     let text = out.taken.as_slice();

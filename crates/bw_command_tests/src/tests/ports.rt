@@ -179,6 +179,20 @@ impl<'a, R: Abort + Files + AllocGlobal + Threads + Clock + Sync> Runner<'a, R> 
         Sink::failing_at(self.global, call)
     }
 
+    /// The status with which the program ends that has no terminal.
+    pub fn status(&self, words: &[&str], input: Pieces, out: &mut Sink, errors: &mut Sink) -> u8 {
+        run_words(
+            self.rt,
+            self.alloc,
+            words,
+            input,
+            out,
+            errors,
+            no_terminal(),
+            TURNS,
+        )
+    }
+
     /// `run -` over a text that is read at once.
     pub fn expect(&self, text: &str, output: &str, message: &str, status: u8) {
         self.expect_of(self.pieces(text), TURNS, output, message, status);
@@ -237,16 +251,7 @@ impl<'a, R: Abort + Files + AllocGlobal + Threads + Clock + Sync> Runner<'a, R> 
         let mut out = self.sink();
         let mut errors = self.sink();
         let input = self.pieces(text);
-        let found = run_words(
-            self.rt,
-            self.alloc,
-            words,
-            input,
-            &mut out,
-            &mut errors,
-            no_terminal(),
-            TURNS,
-        );
+        let found = self.status(words, input, &mut out, &mut errors);
         self.expect_text(&out, output);
         self.expect_message(&errors, message);
         assert_equal(self.rt, found, status);
@@ -257,16 +262,7 @@ impl<'a, R: Abort + Files + AllocGlobal + Threads + Clock + Sync> Runner<'a, R> 
         let mut out = self.sink_failing_at(1);
         let mut errors = self.sink();
         let input = self.pieces(TWO_BATCHES);
-        let found = run_words(
-            self.rt,
-            self.alloc,
-            &[job],
-            input,
-            &mut out,
-            &mut errors,
-            no_terminal(),
-            TURNS,
-        );
+        let found = self.status(&[job], input, &mut out, &mut errors);
         assert_equal(self.rt, found, 1);
         self.expect_text(&out, "");
         self.expect_message(&errors, "cannot write");

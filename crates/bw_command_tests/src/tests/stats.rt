@@ -1,7 +1,7 @@
 // `--stats`: what it tells, and that all else stays as it is.
-use super::ports::{BOTH_TEXTS, Pieces, Runner, TURNS, TWO_BATCHES, no_terminal};
+use super::ports::{BOTH_TEXTS, Pieces, Runner, TWO_BATCHES};
 use crate::tests::assertions::{assert_equal, assert_that};
-use bw_command::{Stats, run_words};
+use bw_command::Stats;
 use bw_trace::Summary;
 use std::process::Abort;
 use std::rt::Files;
@@ -26,16 +26,7 @@ impl<R: Abort + Files + AllocGlobal + Threads + Clock + Sync> Runner<'_, R> {
     ) {
         let mut out = self.sink();
         let mut errors = self.sink();
-        let found = run_words(
-            self.rt,
-            self.alloc,
-            words,
-            input,
-            &mut out,
-            &mut errors,
-            no_terminal(),
-            TURNS,
-        );
+        let found = self.status(words, input, &mut out, &mut errors);
         self.expect_text(&out, output);
         let front = self.joined(&["bw_run: ", counts, ", "]);
         assert_that(self.rt, errors.taken.starts_with(front.as_bytes()));
@@ -127,16 +118,7 @@ fn stats_that_are_not_taken_change_nothing(rt: HostRuntime) {
     let mut errors = runner.sink_failing_at(1);
     let input = runner.pieces(TWO_BATCHES);
     let words = ["run", "--stats"];
-    let status = run_words(
-        &rt,
-        runner.alloc,
-        &words,
-        input,
-        &mut out,
-        &mut errors,
-        no_terminal(),
-        TURNS,
-    );
+    let status = runner.status(&words, input, &mut out, &mut errors);
     assert_equal(&rt, status, 0);
     runner.expect_text(&out, BOTH_TEXTS);
     runner.expect_text(&errors, "");

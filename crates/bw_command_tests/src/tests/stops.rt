@@ -1,9 +1,8 @@
 // Five inserts over pages of four pairs, where each growth of memory is refused in turn. The leaf is split behind their
 // batch, or where tidying stops there, behind the next one.
-use super::ports::{Runner, TURNS, no_terminal};
+use super::ports::Runner;
 use super::shapes::{FIVE, FIVE_SPLIT, SMALL_PAGES};
 use crate::tests::assertions::{assert_equal, assert_that};
-use bw_command::run_words;
 use std::process::Abort;
 use std::rt::Files;
 use std::thread::Threads;
@@ -98,16 +97,7 @@ impl<R: Abort + Files + AllocGlobal + Threads + Clock + Sync> Runner<'_, R> {
         let mut errors = self.sink();
         let input = self.pieces(text);
         self.alloc.refuse(growth);
-        let status = run_words(
-            self.rt,
-            self.alloc,
-            words,
-            input,
-            &mut out,
-            &mut errors,
-            no_terminal(),
-            TURNS,
-        );
+        let status = self.status(words, input, &mut out, &mut errors);
         let left = self.alloc.left();
         self.alloc.refuse(0);
         self.expect_message(&errors, if status == 1 { "out of memory" } else { "" });
