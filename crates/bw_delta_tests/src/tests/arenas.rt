@@ -1,8 +1,8 @@
 // An arena, record by record.
-use super::making::delete;
+use super::making::{delete, heap};
 use crate::tests::assertions::{assert_equal, assert_that};
 use bw_delta::{Arena, Delta, Memory};
-use bw_fixtures::{heap, was_refused};
+use bw_fixtures::was_refused;
 use bw_memory::Alloc;
 use std::process::Abort;
 
@@ -11,11 +11,16 @@ fn put<R: Abort>(rt: &R, alloc: Alloc, stamp: u64) -> Delta {
     Delta::Put(delete(rt, alloc, stamp))
 }
 
+// Adds a record.
+fn push<R: Abort>(rt: &R, arena: &mut Arena, delta: Delta, link: u64) {
+    arena.make_room().expect(rt, "memory");
+    arena.append(delta, link);
+}
+
 // Adds the records from one stamp up to another. The link of each is 10 more than its stamp.
 fn add<R: Abort>(rt: &R, alloc: Alloc, arena: &mut Arena, from: u64, to: u64) {
     for stamp in from..to {
-        arena.make_room().expect(rt, "memory");
-        arena.append(put(rt, alloc, stamp), stamp.saturating_add(10));
+        push(rt, arena, put(rt, alloc, stamp), stamp.saturating_add(10));
     }
 }
 
@@ -55,14 +60,14 @@ fn same<R: Abort>(rt: &R, alloc: Alloc, arena: &Arena, links: &[u64]) {
 
 #[test]
 fn an_arena_has_its_records_in_order(rt: HostRuntime) {
-    let alloc = heap(rt.alloc()).expect(&rt, "memory");
+    let alloc = heap(&rt, rt.alloc());
     same(&rt, alloc, &Arena::new(alloc), &[]);
     same(&rt, alloc, &three(&rt, alloc), &[10, 11, 12]);
 }
 
 #[test]
 fn links_are_set_from_a_place_on(rt: HostRuntime) {
-    let alloc = heap(rt.alloc()).expect(&rt, "memory");
+    let alloc = heap(&rt, rt.alloc());
     let mut arena = three(&rt, alloc);
     if arena.len() != 3 {
         panic!(rt; "three records");
@@ -75,7 +80,7 @@ fn links_are_set_from_a_place_on(rt: HostRuntime) {
 
 #[test]
 fn records_behind_a_place_are_left_out(rt: HostRuntime) {
-    let alloc = heap(rt.alloc()).expect(&rt, "memory");
+    let alloc = heap(&rt, rt.alloc());
     let mut arena = three(&rt, alloc);
     arena.truncate(5);
     same(&rt, alloc, &arena, &[10, 11, 12]);
@@ -87,7 +92,7 @@ fn records_behind_a_place_are_left_out(rt: HostRuntime) {
 
 #[test]
 fn a_reserved_record_takes_no_memory(rt: HostRuntime) {
-    let alloc = heap(rt.alloc()).expect(&rt, "memory");
+    let alloc = heap(&rt, rt.alloc());
     let mut arena = three(&rt, alloc);
     arena.make_room().expect(&rt, "memory");
     let delta = put(&rt, alloc, 3);
@@ -110,7 +115,7 @@ fn growth_is_refused<R: Abort>(rt: &R, alloc: Alloc, growth: u64) {
 
 #[test]
 fn refused_room_leaves_the_records(rt: HostRuntime) {
-    let alloc = heap(rt.alloc()).expect(&rt, "memory");
+    let alloc = heap(&rt, rt.alloc());
     growth_is_refused(&rt, alloc, 1);
     growth_is_refused(&rt, alloc, 2);
 }
@@ -152,7 +157,7 @@ fn segment_is_refused<R: Abort>(rt: &R, alloc: Alloc, growth: u64) -> bool {
 // Each of the two lists asks for a segment, so there are two growths at least.
 #[test]
 fn a_refused_segment_leaves_the_records(rt: HostRuntime) {
-    let alloc = heap(rt.alloc()).expect(&rt, "memory");
+    let alloc = heap(&rt, rt.alloc());
     for growth in 1..10u64 {
         if !segment_is_refused(&rt, alloc, growth) {
             assert_that(&rt, growth > 2);
@@ -164,7 +169,7 @@ fn a_refused_segment_leaves_the_records(rt: HostRuntime) {
 
 #[test]
 fn links_are_set_across_segments(rt: HostRuntime) {
-    let alloc = heap(rt.alloc()).expect(&rt, "memory");
+    let alloc = heap(&rt, rt.alloc());
     let mut arena = records(&rt, alloc, 1030);
     if arena.len() != 1030 {
         panic!(rt; "so many records");
@@ -187,7 +192,7 @@ fn is_cut<R: Abort>(rt: &R, alloc: Alloc, len: u64) {
 
 #[test]
 fn records_are_left_out_across_segments(rt: HostRuntime) {
-    let alloc = heap(rt.alloc()).expect(&rt, "memory");
+    let alloc = heap(&rt, rt.alloc());
     for len in [1025, 1024, 1023, 0] {
         is_cut(&rt, alloc, len);
     }

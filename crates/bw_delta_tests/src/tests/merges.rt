@@ -1,14 +1,8 @@
 // The pairs of one part merged with the writes, and those of replays, where each write has its effect by itself.
-ghost use Rattle.std.specs.Prelude.{◌≡◌, T, true, false, map, nat_eq};
-ghost use Rattle.std.specs.FinMap.{is_sorted};
-ghost use Rattle.std.specs.List.{AllByRecursion};
-ghost use Rattle.bw_key.specs.Order.{key_cmp};
-ghost use Rattle.bw_delta.specs.History.{pointed_to, HasDistinctStamps};
-
-use super::making::write;
+use super::making::{are_distinct, first, heap, key, last, leaf_of, pairs_under, replay_at, value};
 use crate::tests::assertions::{assert_equal, assert_that};
-use bw_delta::{Action, Replay, Write, leaf_as_of};
-use bw_fixtures::{LONG, Random, are, heap, key, leaf_of, value};
+use bw_delta::{Action, Write, leaf_as_of};
+use bw_fixtures::{LONG, Random, are};
 use bw_key::Key;
 use bw_memory::Alloc;
 use bw_model::{Pairs, Value};
@@ -18,14 +12,17 @@ use std::process::Abort;
 // Keys of leaves, writes and bounds: one begins another, and one takes memory.
 const KEYS: [&[u8]; 6] = [b"a", b"b", b"bb", b"c", LONG, b"d"];
 
-// A value, of which there are three.
+// Values of writes.
+const VALUES: [&[u8]; 3] = [b"1", b"2", LONG];
+
+// A key of these.
+fn drawn_key<R: Abort>(rt: &R, alloc: Alloc, random: &mut Random) -> Key {
+    key(rt, alloc, KEYS[random.below(6)])
+}
+
+// A value of these.
 fn drawn_value<R: Abort>(rt: &R, alloc: Alloc, random: &mut Random) -> Value {
-    let bytes = match random.below(3) {
-        0 => b"1",
-        1 => b"2",
-        _ => LONG,
-    };
-    value(alloc, bytes).expect(rt, "memory")
+    value(rt, alloc, VALUES[random.below(3)])
 }
 
 // An action.
@@ -47,15 +44,12 @@ fn drawn_writes<R: Abort>(rt: &R, alloc: Alloc, random: &mut Random) -> Vec<Writ
     let first = random.below(11) as u64;
     let mut writes = Vec::new(alloc);
     for at in 0..8 {
+        let stamp = (at * 5 + first) % 11;
         let action = drawn_action(rt, alloc, random);
-        let written = write(
-            rt,
-            alloc,
-            (at * 5 + first) % 11,
-            KEYS[random.below(6)],
-            action,
-        );
-        writes.push(written).expect(rt, "memory");
+        let key = drawn_key(rt, alloc, random);
+        writes
+            .push(Write { stamp, key, action })
+            .expect(rt, "memory");
     }
     writes
 }
@@ -69,43 +63,6 @@ fn refs_to<'a, R: Abort>(rt: &R, alloc: Alloc, writes: &'a [Write]) -> Vec<&'a W
     refs
 }
 
-// Whether no write has a stamp.
-fn is_new(stamp: u64, writes: &[&Write]) -> bool
-    ensures { result ≡ true → AllByRecursion (λ other. nat_eq stamp other ≡ false)
-        (map (λ write. write.stamp) (pointed_to writes.now)) }
-{
-    match writes.split_first() {
-        Some((first, rest)) => stamp != first.stamp && is_new(stamp, rest),
-        None => true,
-    }
-}
-
-// Whether each write has a stamp of its own.
-fn are_distinct(writes: &[&Write]) -> bool
-    ensures { result ≡ true → HasDistinctStamps (pointed_to writes.now) }
-{
-    match writes.split_first() {
-        Some((first, rest)) => is_new(first.stamp, rest) && are_distinct(rest),
-        None => true,
-    }
-}
-
-// What the writes leave of parts, as of a stamp.
-fn read<R: Abort>(
-    rt: &R,
-    alloc: Alloc,
-    parts: &[&Leaf],
-    bounds: (&Key, Option<&Key>),
-    writes: &[&Write],
-    stamp: u64,
-) -> Pairs
-    ensures { T (is_sorted key_cmp result) }
-{
-    let (low, high) = bounds;
-    assert!(rt; are_distinct(writes));
-    leaf_as_of(alloc, parts, low, high, writes, stamp).expect(rt, "memory")
-}
-
 // What a replay of the writes has as of a stamp, and the same from the last pair on.
 fn replayed<R: Abort>(
     rt: &R,
@@ -115,16 +72,9 @@ fn replayed<R: Abort>(
     writes: &[&Write],
     stamp: u64,
 ) -> (Pairs, Pairs) {
-    assert!(rt; are_distinct(writes));
-    let replay = Replay::new(alloc, parts, high, writes).expect(rt, "memory");
-    let replay = replay.advance(stamp).expect(rt, "memory");
-    let (mut first, mut last) = (Pairs::new(alloc), Pairs::new(alloc));
-    replay
-        .add_first(low, high, 99, &mut first)
-        .expect(rt, "memory");
-    replay
-        .add_last(low, high, 99, &mut last)
-        .expect(rt, "memory");
+    let replay = replay_at(rt, alloc, parts, high, writes, stamp);
+    let first = first(alloc, &replay, (low, high), 99).expect(rt, "memory");
+    let last = last(alloc, &replay, (low, high), 99).expect(rt, "memory");
     (first, last)
 }
 
@@ -155,7 +105,8 @@ fn compare_at<R: Abort>(
     writes: &[&Write],
     stamp: u64,
 ) {
-    let merged = read(rt, alloc, &[leaf], bounds, writes, stamp);
+    let merged = pairs_under(rt, alloc, &[leaf], bounds, writes, stamp);
+    let merged = merged.expect(rt, "memory");
     let (first, last) = replayed(rt, alloc, &[leaf], bounds, writes, stamp);
     assert_equal(rt, &merged, &first);
     assert_that(rt, are_turned(&merged, &last));
@@ -179,24 +130,26 @@ fn compare_bounds<R: Abort>(
 
 // Compares them over all keys, and from a key on, below one, and between the two.
 fn compare<R: Abort>(rt: &R, alloc: Alloc, leaves: (&Leaf, &Leaf), writes: &[&Write]) {
-    let least = key(alloc, b"").expect(rt, "memory");
-    let (low, high) = (
-        key(alloc, b"b").expect(rt, "memory"),
-        key(alloc, b"cc").expect(rt, "memory"),
-    );
+    let least = key(rt, alloc, b"");
+    let (low, high) = (key(rt, alloc, b"b"), key(rt, alloc, b"cc"));
     compare_bounds(rt, alloc, leaves, (&least, None), writes);
     compare_bounds(rt, alloc, leaves, (&low, None), writes);
     compare_bounds(rt, alloc, leaves, (&least, Some(&high)), writes);
     compare_bounds(rt, alloc, leaves, (&low, Some(&high)), writes);
 }
 
+// The leaf of all keys with what writes leave of no pair.
+fn leaf_under<R: Abort>(rt: &R, alloc: Alloc, empty: &Leaf, writes: &[&Write]) -> Leaf {
+    let least = bw_fixtures::key(alloc, b"").expect(rt, "memory");
+    assert!(rt; are_distinct(writes));
+    let pairs = leaf_as_of(alloc, &[empty, empty], &least, None, writes, 11).expect(rt, "memory");
+    Leaf::from_pairs(least, None, None, pairs)
+}
+
 // The leaf of all keys with what random writes leave of no pair.
 fn drawn_leaf<R: Abort>(rt: &R, alloc: Alloc, empty: &Leaf, random: &mut Random) -> Leaf {
     let writes = drawn_writes(rt, alloc, random);
-    let least = key(alloc, b"").expect(rt, "memory");
-    let refs = refs_to(rt, alloc, &writes);
-    let pairs = read(rt, alloc, &[empty, empty], (&least, None), &refs, 11);
-    Leaf::from_pairs(least, None, None, pairs)
+    leaf_under(rt, alloc, empty, &refs_to(rt, alloc, &writes))
 }
 
 // Compares what random writes leave of a random leaf.
@@ -209,7 +162,7 @@ fn compare_drawn<R: Abort>(rt: &R, alloc: Alloc, empty: &Leaf, random: &mut Rand
 
 #[test]
 fn merged_pairs_are_those_of_replays(rt: HostRuntime) {
-    let alloc = heap(rt.alloc()).expect(&rt, "memory");
+    let alloc = heap(&rt, rt.alloc());
     let empty = Leaf::empty(alloc);
     let mut random = Random::new(7);
     for _ in 0..100 {
@@ -219,7 +172,7 @@ fn merged_pairs_are_those_of_replays(rt: HostRuntime) {
 
 #[test]
 fn writes_over_an_empty_leaf_are_those_of_replays(rt: HostRuntime) {
-    let alloc = heap(rt.alloc()).expect(&rt, "memory");
+    let alloc = heap(&rt, rt.alloc());
     let empty = Leaf::empty(alloc);
     let writes = drawn_writes(&rt, alloc, &mut Random::new(3));
     let refs = refs_to(&rt, alloc, &writes);
@@ -228,11 +181,11 @@ fn writes_over_an_empty_leaf_are_those_of_replays(rt: HostRuntime) {
 
 #[test]
 fn a_leaf_without_writes_is_copied_in_two_growths(rt: HostRuntime) {
-    let alloc = heap(rt.alloc()).expect(&rt, "memory");
-    let leaf = leaf_of(alloc, b"1").expect(&rt, "memory");
-    let least = key(alloc, b"").expect(&rt, "memory");
+    let alloc = heap(&rt, rt.alloc());
+    let leaf = leaf_of(&rt, alloc, b"1");
+    let least = key(&rt, alloc, b"");
     alloc.refuse(3);
-    let pairs = read(&rt, alloc, &[&leaf], (&least, None), &[], 9);
+    let pairs = pairs_under(&rt, alloc, &[&leaf], (&least, None), &[], 9);
     assert_equal(&rt, alloc.left(), 1);
-    assert_that(&rt, are(&pairs, &[(b"a", b"1")]));
+    assert_that(&rt, are(&pairs.expect(&rt, "memory"), &[(b"a", b"1")]));
 }

@@ -1,8 +1,11 @@
 // What stamped writes leave, in each order of the slice.
-use super::making::{delete, insert, is_left, pairs_of, update, value_of, write};
+use super::making::{
+    TextPair, delete, heap, insert, is_left, key, leaf_of, pairs_under, update, value, value_under,
+    write,
+};
 use crate::tests::assertions::assert_that;
 use bw_delta::{Action, Write, contents_are_history};
-use bw_fixtures::{are, heap, key, leaf_of, pair, two, up_to_c, value};
+use bw_fixtures::{are, pair, two, up_to_c};
 use bw_key::Key;
 use bw_memory::Alloc;
 use bw_model::Value;
@@ -10,7 +13,7 @@ use bw_page::Leaf;
 use std::process::Abort;
 
 // What three writes at `a` leave over a 4, as of each stamp: an update at 7, a delete at 2 and an insert at 5.
-const LEFT: [(u64, Option<&'static [u8]>); 6] = [
+const LEFT: &[(u64, Option<&'static [u8]>)] = &[
     (0, Some(b"4")),
     (2, Some(b"4")),
     (5, None),
@@ -29,47 +32,51 @@ fn is(value: Option<&Value>, wanted: Option<&'static [u8]>) -> bool {
 }
 
 // Compares what the writes leave over a 4, in this order of the slice.
-fn compare<R: Abort>(rt: &R, alloc: Alloc, order: (&Write, &Write, &Write)) {
-    for (stamp, wanted) in LEFT {
-        let left = value_of(rt, alloc, Some(b"4"), order, stamp).expect(rt, "memory");
-        assert_that(rt, is(left.as_ref(), wanted));
-    }
+fn compare<R: Abort>(
+    rt: &R,
+    alloc: Alloc,
+    order: &[&Write],
+    stamp: u64,
+    wanted: Option<&'static [u8]>,
+) {
+    let left = value_under(rt, alloc, Some(b"4"), order, stamp).expect(rt, "memory");
+    assert_that(rt, is(left.as_ref(), wanted));
 }
 
 // Compares what they leave of the leaf with a 4 at `a`.
-fn compare_leaf<R: Abort>(rt: &R, alloc: Alloc, order: (&Write, &Write, &Write)) {
-    let leaf = leaf_of(alloc, b"4").expect(rt, "memory");
-    let low = key(alloc, b"").expect(rt, "memory");
-    for (stamp, wanted) in LEFT {
-        let pairs = pairs_of(rt, alloc, &[&leaf], (&low, None), order, stamp);
-        let pairs = pairs.expect(rt, "memory");
-        assert_that(rt, is_left(&pairs, wanted));
-    }
+fn compare_leaf<R: Abort>(
+    rt: &R,
+    alloc: Alloc,
+    order: &[&Write],
+    stamp: u64,
+    wanted: Option<&'static [u8]>,
+) {
+    let leaf = leaf_of(rt, alloc, b"4");
+    let low = key(rt, alloc, b"");
+    let pairs = pairs_under(rt, alloc, &[&leaf], (&low, None), order, stamp);
+    assert_that(rt, is_left(&pairs.expect(rt, "memory"), wanted));
 }
 
-// An update at 7, a delete at 2 and an insert at 5, in each of their orders.
-fn ordered<R: Abort>(rt: &R, alloc: Alloc, order: u32) -> (Write, Write, Write) {
-    let update = update(rt, alloc, 7, b"3");
-    let delete = delete(rt, alloc, 2);
-    let insert = insert(rt, alloc, 5, b"a", b"9");
-    match order {
-        0 => (update, delete, insert),
-        1 => (update, insert, delete),
-        2 => (delete, update, insert),
-        3 => (delete, insert, update),
-        4 => (insert, update, delete),
-        _ => (insert, delete, update),
+// Compares both as of each stamp.
+fn compare_all<R: Abort>(rt: &R, alloc: Alloc, order: &[&Write]) {
+    for (stamp, wanted) in LEFT {
+        compare(rt, alloc, order, *stamp, *wanted);
+        compare_leaf(rt, alloc, order, *stamp, *wanted);
     }
 }
 
 #[test]
 fn each_order_of_the_writes_leaves_the_same(rt: HostRuntime) {
-    let alloc = heap(rt.alloc()).expect(&rt, "memory");
-    for order in 0..6 {
-        let (a, b, c) = ordered(&rt, alloc, order);
-        compare(&rt, alloc, (&a, &b, &c));
-        compare_leaf(&rt, alloc, (&a, &b, &c));
-    }
+    let alloc = heap(&rt, rt.alloc());
+    let update = update(&rt, alloc, 7, b"3");
+    let delete = delete(&rt, alloc, 2);
+    let insert = insert(&rt, alloc, 5, b"a", b"9");
+    compare_all(&rt, alloc, &[&update, &delete, &insert]);
+    compare_all(&rt, alloc, &[&update, &insert, &delete]);
+    compare_all(&rt, alloc, &[&delete, &update, &insert]);
+    compare_all(&rt, alloc, &[&delete, &insert, &update]);
+    compare_all(&rt, alloc, &[&insert, &update, &delete]);
+    compare_all(&rt, alloc, &[&insert, &delete, &update]);
 }
 
 // The leaf from `c` on: c 3, e 5.
@@ -79,67 +86,43 @@ fn from_c<R: Abort>(rt: &R, alloc: Alloc) -> Leaf {
         pair(alloc, b"e", b"5").expect(rt, "memory"),
     );
     let pairs = two(alloc, c, e).expect(rt, "memory");
-    Leaf::from_pairs(key(alloc, b"c").expect(rt, "memory"), None, None, pairs)
+    let low = bw_fixtures::key(alloc, b"c").expect(rt, "memory");
+    Leaf::from_pairs(low, None, None, pairs)
 }
 
-// A delete of c at 2, an upsert of a at 0 and an insert of d at 1.
-fn three_writes<R: Abort>(rt: &R, alloc: Alloc) -> (Write, Write, Write) {
-    let upsert = Action::Upsert(value(alloc, b"9").expect(rt, "memory"));
-    (
-        write(rt, alloc, 2, b"c", Action::Delete),
-        write(rt, alloc, 0, b"a", upsert),
-        insert(rt, alloc, 1, b"d", b"4"),
-    )
-}
-
-// Compares the pairs of a range as of a stamp, under the three writes.
+// Compares the pairs of a range as of a stamp, under a delete of c at 2, an upsert of a at 0 and an insert of d at 1.
 fn compare_range<R: Abort>(
     rt: &R,
     alloc: Alloc,
     range: (&Key, Option<&Key>),
     stamp: u64,
-    wanted: &[(&'static [u8], &'static [u8])],
+    wanted: &[TextPair],
 ) {
     let (first, second) = (up_to_c(alloc).expect(rt, "memory"), from_c(rt, alloc));
-    let (c, a, d) = three_writes(rt, alloc);
-    let pairs = pairs_of(rt, alloc, &[&first, &second], range, (&c, &a, &d), stamp);
-    let pairs = pairs.expect(rt, "memory");
-    assert_that(rt, are(&pairs, wanted));
+    let upsert = Action::Upsert(value(rt, alloc, b"9"));
+    let c = write(rt, alloc, 2, b"c", Action::Delete);
+    let a = write(rt, alloc, 0, b"a", upsert);
+    let d = insert(rt, alloc, 1, b"d", b"4");
+    let pairs = pairs_under(rt, alloc, &[&first, &second], range, &[&c, &a, &d], stamp);
+    assert_that(rt, are(&pairs.expect(rt, "memory"), wanted));
 }
 
 #[test]
 fn pairs_and_writes_outside_the_range_count_for_nothing(rt: HostRuntime) {
-    let alloc = heap(rt.alloc()).expect(&rt, "memory");
-    let (b, e) = (
-        key(alloc, b"b").expect(&rt, "memory"),
-        key(alloc, b"e").expect(&rt, "memory"),
-    );
-    let wanted = [
-        (b"b".as_slice(), b"2".as_slice()),
-        (b"c", b"3"),
-        (b"d", b"4"),
-    ];
-    compare_range(&rt, alloc, (&b, Some(&e)), 2, &wanted);
-    let wanted = [(b"b".as_slice(), b"2".as_slice()), (b"d", b"4")];
-    compare_range(&rt, alloc, (&b, Some(&e)), 9, &wanted);
+    let alloc = heap(&rt, rt.alloc());
+    let (b, e) = (key(&rt, alloc, b"b"), key(&rt, alloc, b"e"));
+    let range = (&b, Some(&e));
+    let at_2: &[TextPair] = &[(b"b", b"2"), (b"c", b"3"), (b"d", b"4")];
+    compare_range(&rt, alloc, range, 2, at_2);
+    compare_range(&rt, alloc, range, 9, &[(b"b", b"2"), (b"d", b"4")]);
 }
 
 #[test]
 fn all_pairs_are_in_the_range_of_all_keys(rt: HostRuntime) {
-    let alloc = heap(rt.alloc()).expect(&rt, "memory");
-    let wanted = [
-        (b"a".as_slice(), b"9".as_slice()),
-        (b"b", b"2"),
-        (b"d", b"4"),
-        (b"e", b"5"),
-    ];
-    compare_range(
-        &rt,
-        alloc,
-        (&key(alloc, b"").expect(&rt, "memory"), None),
-        9,
-        &wanted,
-    );
+    let alloc = heap(&rt, rt.alloc());
+    let least = key(&rt, alloc, b"");
+    let wanted: &[TextPair] = &[(b"a", b"9"), (b"b", b"2"), (b"d", b"4"), (b"e", b"5")];
+    compare_range(&rt, alloc, (&least, None), 9, wanted);
 }
 
 #[test]

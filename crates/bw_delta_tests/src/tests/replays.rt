@@ -1,30 +1,16 @@
 // The pairs of a page as of stamps that rise.
-ghost use Rattle.std.specs.Prelude.{◌≡◌, IfOk};
-
-use super::making::{are_apart, delete, insert, is_left, update, write};
+use super::making::{
+    TextPair, a_and_b, advanced, delete, first, heap, heap_within, insert, is_left, key, last,
+    leaf_of, replay_at, replay_of, update, write,
+};
 use crate::tests::assertions::{assert_equal, assert_that};
 use bw_delta::{Action, Memory, Replay, Write};
-use bw_fixtures::{LONG, are, heap, key, leaf_of, pair, two, was_refused};
+use bw_fixtures::{LONG, are, was_refused};
 use bw_key::Key;
-use bw_memory::{Alloc, Heap};
+use bw_memory::Alloc;
 use bw_model::Pairs;
 use bw_page::Leaf;
 use std::process::Abort;
-
-// The first pairs of a replay from a key on.
-fn first(alloc: Alloc, replay: &Replay, low: &Key, most: u64) -> Result<Pairs, Memory> {
-    let mut read = Pairs::new(alloc);
-    replay.add_first(low, None, most, &mut read)?;
-    Ok(read)
-}
-
-// The last pairs of a replay below a key.
-fn last(alloc: Alloc, replay: &Replay, high: &Key, most: u64) -> Result<Pairs, Memory> {
-    let low = key(alloc, b"")?;
-    let mut read = Pairs::new(alloc);
-    replay.add_last(&low, Some(high), most, &mut read)?;
-    Ok(read)
-}
 
 // Compares the first pairs of a replay from a key on.
 fn has_first<R: Abort>(
@@ -33,10 +19,10 @@ fn has_first<R: Abort>(
     replay: &Replay,
     low: &[u8],
     most: u64,
-    wanted: &[(&'static [u8], &'static [u8])],
+    wanted: &[TextPair],
 ) {
-    let low = key(alloc, low).expect(rt, "memory");
-    let pairs = first(alloc, replay, &low, most).expect(rt, "memory");
+    let low = key(rt, alloc, low);
+    let pairs = first(alloc, replay, (&low, None), most).expect(rt, "memory");
     assert_that(rt, are(&pairs, wanted));
 }
 
@@ -47,10 +33,10 @@ fn has_last<R: Abort>(
     replay: &Replay,
     high: &[u8],
     most: u64,
-    wanted: &[(&'static [u8], &'static [u8])],
+    wanted: &[TextPair],
 ) {
-    let high = key(alloc, high).expect(rt, "memory");
-    let pairs = last(alloc, replay, &high, most).expect(rt, "memory");
+    let (low, high) = (key(rt, alloc, b""), key(rt, alloc, high));
+    let pairs = last(alloc, replay, (&low, Some(&high)), most).expect(rt, "memory");
     assert_that(rt, are(&pairs, wanted));
 }
 
@@ -69,161 +55,147 @@ fn compare_lasts<R: Abort>(rt: &R, alloc: Alloc, replay: &Replay) {
     has_last(rt, alloc, replay, b"c", 1, &[(b"b", b"2")]);
 }
 
-// The leaf of all keys: a 1, b 2.
-fn a_and_b<R: Abort>(rt: &R, alloc: Alloc) -> Leaf {
-    let (a, b) = (
-        pair(alloc, b"a", b"1").expect(rt, "memory"),
-        pair(alloc, b"b", b"2").expect(rt, "memory"),
-    );
-    let pairs = two(alloc, a, b).expect(rt, "memory");
-    Leaf::from_pairs(key(alloc, b"").expect(rt, "memory"), None, None, pairs)
-}
-
 #[test]
 fn a_leaf_is_read_from_both_ends(rt: HostRuntime) {
-    let alloc = heap(rt.alloc()).expect(&rt, "memory");
+    let alloc = heap(&rt, rt.alloc());
     let leaf = a_and_b(&rt, alloc);
-    let replay = Replay::new(alloc, &[&leaf], None, &[]).expect(&rt, "memory");
+    let replay = replay_at(&rt, alloc, &[&leaf], None, &[], 0);
     compare_firsts(&rt, alloc, &replay);
     compare_lasts(&rt, alloc, &replay);
 }
 
 #[test]
 fn a_leaf_under_a_write_is_read_from_both_ends(rt: HostRuntime) {
-    let alloc = heap(rt.alloc()).expect(&rt, "memory");
-    let leaf = leaf_of(alloc, b"1").expect(&rt, "memory");
+    let alloc = heap(&rt, rt.alloc());
+    let leaf = leaf_of(&rt, alloc, b"1");
     let insert = insert(&rt, alloc, 0, b"b", b"2");
-    let replay = Replay::new(alloc, &[&leaf], None, &[&insert]).expect(&rt, "memory");
-    let replay = replay.advance(1).expect(&rt, "memory");
+    let replay = replay_at(&rt, alloc, &[&leaf], None, &[&insert], 1);
     compare_firsts(&rt, alloc, &replay);
     compare_lasts(&rt, alloc, &replay);
 }
 
+// Begins a replay of writes over a leaf, and takes it on to a stamp in so many growths.
+fn advances_in<R: Abort>(
+    rt: &R,
+    alloc: Alloc,
+    leaf: &Leaf,
+    writes: &[&Write],
+    (stamp, growths): (u64, u64),
+) {
+    let replay = replay_of(rt, alloc, &[leaf], None, writes).expect(rt, "memory");
+    alloc.refuse(growths.saturating_add(1));
+    let _replay = advanced(rt, replay, stamp).expect(rt, "memory");
+    assert_equal(rt, alloc.left(), 1);
+}
+
 #[test]
 fn a_leaf_without_writes_is_read_where_it_stands(rt: HostRuntime) {
-    let alloc = heap(rt.alloc()).expect(&rt, "memory");
+    let alloc = heap(&rt, rt.alloc());
     let leaf = a_and_b(&rt, alloc);
     alloc.refuse(1);
-    let replay = Replay::new(alloc, &[&leaf], None, &[]).expect(&rt, "memory");
-    let _replay = replay.advance(9).expect(&rt, "memory");
+    let _replay = replay_at(&rt, alloc, &[&leaf], None, &[], 9);
     assert_equal(&rt, alloc.left(), 1);
 }
 
 #[test]
 fn a_leaf_takes_no_memory_up_to_its_first_write(rt: HostRuntime) {
-    let alloc = heap(rt.alloc()).expect(&rt, "memory");
-    let leaf = leaf_of(alloc, b"1").expect(&rt, "memory");
+    let alloc = heap(&rt, rt.alloc());
+    let leaf = leaf_of(&rt, alloc, b"1");
     let delete = delete(&rt, alloc, 5);
-    let replay = Replay::new(alloc, &[&leaf], None, &[&delete]).expect(&rt, "memory");
-    alloc.refuse(1);
-    let _replay = replay.advance(5).expect(&rt, "memory");
-    assert_equal(&rt, alloc.left(), 1);
+    advances_in(&rt, alloc, &leaf, &[&delete], (5, 0));
 }
 
 // Compares the pairs of that leaf without a, and with aa 3 and c 4.
 fn compare_changed<R: Abort>(rt: &R, alloc: Alloc, replay: &Replay) {
-    let changed: [(&'static [u8], &'static [u8]); 3] = [(b"aa", b"3"), (b"b", b"2"), (b"c", b"4")];
-    has_first(rt, alloc, replay, b"", 9, &changed);
-    has_first(rt, alloc, replay, b"", 2, &changed[..2]);
+    let changed: &[TextPair] = &[(b"aa", b"3"), (b"b", b"2"), (b"c", b"4")];
+    has_first(rt, alloc, replay, b"", 9, changed);
+    has_first(rt, alloc, replay, b"", 2, &[(b"aa", b"3"), (b"b", b"2")]);
     has_last(rt, alloc, replay, b"d", 2, &[(b"c", b"4"), (b"b", b"2")]);
     has_last(rt, alloc, replay, b"c", 9, &[(b"b", b"2"), (b"aa", b"3")]);
 }
 
 #[test]
 fn changes_lie_among_the_pairs_of_a_leaf(rt: HostRuntime) {
-    let alloc = heap(rt.alloc()).expect(&rt, "memory");
+    let alloc = heap(&rt, rt.alloc());
     let leaf = a_and_b(&rt, alloc);
     let delete = delete(&rt, alloc, 1);
     let between = insert(&rt, alloc, 2, b"aa", b"3");
     let behind = insert(&rt, alloc, 3, b"c", b"4");
-    let replay = replay_of(&rt, alloc, &leaf, (&delete, &between, &behind));
-    let replay = advanced(&rt, replay.expect(&rt, "memory"), 9);
-    compare_changed(&rt, alloc, &replay);
+    let writes = &[&delete, &between, &behind];
+    compare_changed(
+        &rt,
+        alloc,
+        &replay_at(&rt, alloc, &[&leaf], None, writes, 9),
+    );
 }
 
 #[test]
 fn a_change_takes_no_memory_for_the_pairs_beside_it(rt: HostRuntime) {
-    let alloc = heap(rt.alloc()).expect(&rt, "memory");
-    let leaf = leaf_of(alloc, LONG).expect(&rt, "memory");
+    let alloc = heap(&rt, rt.alloc());
+    let leaf = leaf_of(&rt, alloc, LONG);
     let insert = insert(&rt, alloc, 0, b"b", b"2");
-    let replay = Replay::new(alloc, &[&leaf], None, &[&insert]).expect(&rt, "memory");
-    alloc.refuse(2);
-    let _replay = replay.advance(1).expect(&rt, "memory");
-    assert_equal(&rt, alloc.left(), 1);
+    advances_in(&rt, alloc, &leaf, &[&insert], (1, 1));
 }
 
-// How many bytes three writes over the leaf of no key leave in use, once they had their effects.
-fn used_by<R: Abort>(rt: &R, alloc: Alloc, writes: (&Write, &Write, &Write)) -> u64 {
-    let leaf = Leaf::empty(alloc);
-    let replay = replay_of(rt, alloc, &leaf, writes).expect(rt, "memory");
+// How many bytes more are in use once a replay of a leaf was taken on to 9.
+fn used_by<R: Abort>(rt: &R, alloc: Alloc, leaf: &Leaf, writes: &[&Write]) -> u64 {
+    let replay = replay_of(rt, alloc, &[leaf], None, writes).expect(rt, "memory");
     let before = alloc.used();
-    let replay = advanced(rt, replay, 9);
-    let used = alloc.used().saturating_sub(before);
-    drop(replay);
-    used
+    let _replay = advanced(rt, replay, 9).expect(rt, "memory");
+    alloc.used().saturating_sub(before)
 }
 
 #[test]
 fn a_key_that_comes_and_goes_is_no_change(rt: HostRuntime) {
-    let alloc = Heap::within(rt.alloc(), 65536)
-        .leak(rt.alloc())
-        .expect(&rt, "memory");
+    let alloc = heap_within(&rt, rt.alloc(), 65536);
     let stays = insert(&rt, alloc, 1, b"b", b"2");
     let comes = insert(&rt, alloc, 2, LONG, LONG);
     let goes = write(&rt, alloc, 3, LONG, Action::Delete);
     let (absent, late) = (delete(&rt, alloc, 2), delete(&rt, alloc, 3));
-    let used = used_by(&rt, alloc, (&stays, &absent, &late));
+    let empty = Leaf::empty(alloc);
+    let used = used_by(&rt, alloc, &empty, &[&stays, &absent, &late]);
     assert_that(&rt, used > 0);
-    assert_equal(&rt, used_by(&rt, alloc, (&stays, &comes, &goes)), used);
+    let again = used_by(&rt, alloc, &empty, &[&stays, &comes, &goes]);
+    assert_equal(&rt, again, used);
 }
 
 #[test]
 fn a_write_without_an_effect_is_no_change(rt: HostRuntime) {
-    let alloc = heap(rt.alloc()).expect(&rt, "memory");
-    let leaf = leaf_of(alloc, LONG).expect(&rt, "memory");
+    let alloc = heap(&rt, rt.alloc());
+    let leaf = leaf_of(&rt, alloc, LONG);
     let insert = insert(&rt, alloc, 1, b"a", b"2");
-    let replay = Replay::new(alloc, &[&leaf], None, &[&insert]).expect(&rt, "memory");
-    alloc.refuse(1);
-    let _replay = replay.advance(2).expect(&rt, "memory");
-    assert_equal(&rt, alloc.left(), 1);
+    advances_in(&rt, alloc, &leaf, &[&insert], (2, 0));
 }
 
 #[test]
 fn of_two_parts_the_first_has_the_value(rt: HostRuntime) {
-    let alloc = heap(rt.alloc()).expect(&rt, "memory");
-    let (above, below) = (
-        leaf_of(alloc, b"9").expect(&rt, "memory"),
-        a_and_b(&rt, alloc),
-    );
-    let replay = Replay::new(alloc, &[&above, &below], None, &[]).expect(&rt, "memory");
+    let alloc = heap(&rt, rt.alloc());
+    let (above, below) = (leaf_of(&rt, alloc, b"9"), a_and_b(&rt, alloc));
+    let replay = replay_at(&rt, alloc, &[&above, &below], None, &[], 0);
     has_first(&rt, alloc, &replay, b"", 9, &[(b"a", b"9"), (b"b", b"2")]);
 }
 
 // A leaf may reach past the end of its page.
 #[test]
 fn below_its_end_a_leaf_is_read_with_its_writes(rt: HostRuntime) {
-    let alloc = heap(rt.alloc()).expect(&rt, "memory");
-    let (leaf, end) = (a_and_b(&rt, alloc), key(alloc, b"b").expect(&rt, "memory"));
+    let alloc = heap(&rt, rt.alloc());
+    let (leaf, end) = (a_and_b(&rt, alloc), key(&rt, alloc, b"b"));
     let insert = insert(&rt, alloc, 0, b"aa", b"3");
-    let replay = Replay::new(alloc, &[&leaf], Some(&end), &[&insert]).expect(&rt, "memory");
-    let replay = replay.advance(1).expect(&rt, "memory");
+    let replay = replay_at(&rt, alloc, &[&leaf], Some(&end), &[&insert], 1);
     has_last(&rt, alloc, &replay, b"b", 9, &[(b"aa", b"3"), (b"a", b"1")]);
 }
 
 #[test]
 fn below_their_end_two_parts_are_read(rt: HostRuntime) {
-    let alloc = heap(rt.alloc()).expect(&rt, "memory");
-    let (above, below) = (
-        leaf_of(alloc, b"9").expect(&rt, "memory"),
-        a_and_b(&rt, alloc),
-    );
-    let end = key(alloc, b"b").expect(&rt, "memory");
-    let replay = Replay::new(alloc, &[&above, &below], Some(&end), &[]).expect(&rt, "memory");
+    let alloc = heap(&rt, rt.alloc());
+    let (above, below) = (leaf_of(&rt, alloc, b"9"), a_and_b(&rt, alloc));
+    let end = key(&rt, alloc, b"b");
+    let replay = replay_at(&rt, alloc, &[&above, &below], Some(&end), &[], 0);
     has_last(&rt, alloc, &replay, b"b", 9, &[(b"a", b"9")]);
 }
 
 // What an update to 3 at 7, a delete at 2 and an insert of 9 at 5 leave of a 4 at `a`, as of stamps that rise.
-const LEFT: [(u64, Option<&'static [u8]>); 5] = [
+const LEFT: &[(u64, Option<&'static [u8]>)] = &[
     (2, Some(b"4")),
     (3, None),
     (5, None),
@@ -231,81 +203,68 @@ const LEFT: [(u64, Option<&'static [u8]>); 5] = [
     (8, Some(b"3")),
 ];
 
-// A replay of three writes over a leaf.
-fn replay_of<'a, R: Abort>(
+// Takes a replay on to a stamp, and compares its pairs.
+fn compare_at<'a, R: Abort>(
     rt: &R,
     alloc: Alloc,
-    leaf: &'a Leaf,
-    writes: (&'a Write, &'a Write, &'a Write),
-) -> Result<Replay<'a>, Memory>
-    ensures { IfOk result (λ replay. replay.stamp ≡ 0) }
-{
-    let (a, b, c) = writes;
-    assert!(rt; are_apart(a, b, c));
-    Replay::new(alloc, &[leaf], None, &[a, b, c])
-}
-
-// Takes a replay on to a stamp.
-fn advanced<'a, R: Abort>(rt: &R, replay: Replay<'a>, stamp: u64) -> Replay<'a> {
-    assert!(rt; replay.stamp() <= stamp);
-    let replay = replay.advance(stamp).expect(rt, "memory");
-    assert_eq!(rt; replay.stamp(), stamp);
+    replay: Replay<'a>,
+    least: &Key,
+    (stamp, wanted): (u64, Option<&'static [u8]>),
+) -> Replay<'a> {
+    let replay = advanced(rt, replay, stamp).expect(rt, "memory");
+    assert_equal(rt, replay.stamp(), stamp);
+    let pairs = first(alloc, &replay, (least, None), 9).expect(rt, "memory");
+    assert_that(rt, is_left(&pairs, wanted));
     replay
 }
 
-// Compares a replay of the three writes as of each stamp.
-fn compare<'a, R: Abort>(
-    rt: &R,
-    alloc: Alloc,
-    leaf: &'a Leaf,
-    writes: (&'a Write, &'a Write, &'a Write),
-) {
-    let least = key(alloc, b"").expect(rt, "memory");
-    let mut replay = replay_of(rt, alloc, leaf, writes).expect(rt, "memory");
-    for (stamp, wanted) in LEFT {
-        replay = advanced(rt, replay, stamp);
-        let pairs = first(alloc, &replay, &least, 9).expect(rt, "memory");
-        assert_that(rt, is_left(&pairs, wanted));
+// Compares a replay of the writes as of each stamp.
+fn compare<R: Abort>(rt: &R, alloc: Alloc, leaf: &Leaf, writes: &[&Write]) {
+    let least = key(rt, alloc, b"");
+    let mut replay = replay_of(rt, alloc, &[leaf], None, writes).expect(rt, "memory");
+    for row in LEFT {
+        replay = compare_at(rt, alloc, replay, &least, *row);
     }
 }
 
 #[test]
 fn a_replay_goes_on_from_stamp_to_stamp(rt: HostRuntime) {
-    let alloc = heap(rt.alloc()).expect(&rt, "memory");
-    let leaf = leaf_of(alloc, b"4").expect(&rt, "memory");
+    let alloc = heap(&rt, rt.alloc());
+    let leaf = leaf_of(&rt, alloc, b"4");
     let update = update(&rt, alloc, 7, b"3");
     let delete = delete(&rt, alloc, 2);
     let insert = insert(&rt, alloc, 5, b"a", b"9");
-    compare(&rt, alloc, &leaf, (&update, &delete, &insert));
-    compare(&rt, alloc, &leaf, (&insert, &update, &delete));
+    compare(&rt, alloc, &leaf, &[&update, &delete, &insert]);
+    compare(&rt, alloc, &leaf, &[&insert, &update, &delete]);
 }
 
 // The pairs as of a stamp, read at once.
-fn read_at<'a, R: Abort>(
+fn read_at<R: Abort>(
     rt: &R,
     alloc: Alloc,
-    leaf: &'a Leaf,
+    leaf: &Leaf,
     least: &Key,
-    writes: (&'a Write, &'a Write, &'a Write),
+    writes: &[&Write],
 ) -> Result<Pairs, Memory> {
-    let replay = replay_of(rt, alloc, leaf, writes)?.advance(9)?;
-    first(alloc, &replay, least, 9)
+    let replay = replay_of(rt, alloc, &[leaf], None, writes)?;
+    let replay = advanced(rt, replay, 9)?;
+    first(alloc, &replay, (least, None), 9)
 }
 
 // What an insert and an update leave of a leaf, where this growth is refused.
 fn read_leaf<R: Abort>(rt: &R, alloc: Alloc, growth: u64) -> Result<Pairs, Memory> {
-    let leaf = leaf_of(alloc, LONG).expect(rt, "memory");
-    let least = key(alloc, b"").expect(rt, "memory");
+    let leaf = leaf_of(rt, alloc, LONG);
+    let least = key(rt, alloc, b"");
     let insert = insert(rt, alloc, 2, LONG, LONG);
     let update = update(rt, alloc, 1, LONG);
     let late = delete(rt, alloc, 9);
     alloc.refuse(growth);
-    read_at(rt, alloc, &leaf, &least, (&late, &insert, &update))
+    read_at(rt, alloc, &leaf, &least, &[&late, &insert, &update])
 }
 
 #[test]
 fn each_growth_of_a_replay_is_refused(rt: HostRuntime) {
-    let alloc = heap(rt.alloc()).expect(&rt, "memory");
+    let alloc = heap(&rt, rt.alloc());
     for growth in 1..100 {
         let left = read_leaf(&rt, alloc, growth);
         if !was_refused(alloc, growth) {

@@ -1,18 +1,15 @@
 // Whose memory a write has, and how much.
+use super::making::{heap, heap_within, key, value};
 use crate::tests::assertions::{assert_equal, assert_that};
 use bw_delta::{Action, Memory, Op, Write};
-use bw_fixtures::{LONG, heap, key, value};
-use bw_memory::{Alloc, Heap};
+use bw_fixtures::LONG;
+use bw_memory::Alloc;
 use std::process::Abort;
-use std::test::Fail;
 
 // A swap at a long key, of a long value for another one: three blocks of 28 bytes.
 fn swap<R: Abort>(rt: &R, alloc: Alloc) -> Op {
-    let (old, new) = (
-        value(alloc, LONG).expect(rt, "memory"),
-        value(alloc, LONG).expect(rt, "memory"),
-    );
-    Op::SwapIf(key(alloc, LONG).expect(rt, "memory"), old, new)
+    let (old, new) = (value(rt, alloc, LONG), value(rt, alloc, LONG));
+    Op::SwapIf(key(rt, alloc, LONG), old, new)
 }
 
 // Whether a write is that swap with stamp 7.
@@ -28,9 +25,14 @@ fn is_swap(write: &Write) -> bool {
     }
 }
 
+// The write of an operation.
+fn write_of(alloc: Alloc, op: &Op) -> Result<Option<Write>, Memory> {
+    Write::from_op(alloc, op, 7)
+}
+
 // Makes the write of an operation in a heap, and drops it.
 fn write_in<R: Abort>(rt: &R, alloc: Alloc, op: &Op) {
-    match Write::from_op(alloc, op, 7).expect(rt, "memory") {
+    match write_of(alloc, op).expect(rt, "memory") {
         Some(write) => {
             assert_that(rt, is_swap(&write));
             assert_equal(rt, alloc.used(), 84);
@@ -40,32 +42,35 @@ fn write_in<R: Abort>(rt: &R, alloc: Alloc, op: &Op) {
 }
 
 #[test]
-fn a_write_has_the_memory_of_its_own_heap(rt: HostRuntime) -> Result<(), Fail> {
-    let ops = heap(rt.alloc()).expect(&rt, "memory");
-    let own = Heap::within(rt.alloc(), 84).leak(rt.alloc())?;
+fn a_write_has_the_memory_of_its_own_heap(rt: HostRuntime) {
+    let ops = heap(&rt, rt.alloc());
+    let own = heap_within(&rt, rt.alloc(), 84);
     let op = swap(&rt, ops);
     ops.refuse(1);
     write_in(&rt, own, &op);
     assert_equal(&rt, ops.left(), 1);
     assert_equal(&rt, own.used(), 0);
-    Ok(())
 }
 
 // Whether the write of an operation was refused.
 fn is_refused(alloc: Alloc, op: &Op) -> bool {
-    Write::from_op(alloc, op, 7).err() == Some(Memory)
+    write_of(alloc, op).err() == Some(Memory)
+}
+
+// Refuses each of the three growths of a write, and one behind them.
+fn refuse_growths<R: Abort>(rt: &R, alloc: Alloc, op: &Op) {
+    for growth in 1..=3 {
+        alloc.refuse(growth);
+        assert_that(rt, is_refused(alloc, op));
+        assert_equal(rt, alloc.left(), 0);
+    }
+    alloc.refuse(4);
+    assert_that(rt, !is_refused(alloc, op));
+    assert_equal(rt, alloc.left(), 1);
 }
 
 #[test]
 fn a_write_takes_one_growth_for_each_long_key_and_value(rt: HostRuntime) {
-    let alloc = heap(rt.alloc()).expect(&rt, "memory");
-    let op = swap(&rt, alloc);
-    for growth in 1..=3 {
-        alloc.refuse(growth);
-        assert_that(&rt, is_refused(alloc, &op));
-        assert_equal(&rt, alloc.left(), 0);
-    }
-    alloc.refuse(4);
-    assert_that(&rt, !is_refused(alloc, &op));
-    assert_equal(&rt, alloc.left(), 1);
+    let alloc = heap(&rt, rt.alloc());
+    refuse_growths(&rt, alloc, &swap(&rt, alloc));
 }

@@ -3,7 +3,7 @@ use Rattle.std.proofs.lemmas.Map.Keys.{IsDistinct-cons}
 use Rattle.std.specs.List.{AllByRecursion, IsDistinct}
 use Rattle.bw_delta.specs.History.{pointed_to, HasDistinctStamps}
 use Rattle.bw_delta.specs.Writes.{WriteView}
-use Rattle.bw_delta_tests.proofs.tests.merges.+are_distinct.Goals as goal
+use Rattle.bw_delta_tests.proofs.tests.making.+are_distinct.Goals as goal
 
 none : HasDistinctStamps []
 unfolding IsDistinct
