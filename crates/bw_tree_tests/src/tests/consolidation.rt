@@ -1,7 +1,5 @@
 // Levels above the leaves, and records and stamps that start over.
-ghost use Rattle.std.specs.Prelude.{◌≡◌, None};
-
-use super::making::{has, heap, key, stands, three_leaves};
+use super::making::{empty, has, has_no_batch, heap, key, stands, three_leaves};
 use crate::tests::assertions::assert_equal;
 use bw_tree::Tree;
 use std::process::Abort;
@@ -9,14 +7,13 @@ use std::process::Abort;
 #[test]
 fn one_leaf_has_no_page_above(rt: HostRuntime) {
     let alloc = heap(&rt, rt.alloc());
-    let tree = Tree::new(alloc).expect(&rt, "memory");
+    let tree = empty(&rt, alloc);
     assert_equal(&rt, tree.above(1, &key(&rt, alloc, b"a")), None);
 }
 
 // Starts over a tree of three leaves, where its mapping words name their base pages.
-fn start_over<R: Abort>(rt: &R, tree: &mut Tree)
-    requires { tree.old.staged ≡ None }
-{
+fn start_over<R: Abort>(rt: &R, tree: &mut Tree) {
+    has_no_batch(rt, tree);
     assert!(rt; tree.heads() == [0, 1, 2, 3].as_slice());
     tree.restart();
 }

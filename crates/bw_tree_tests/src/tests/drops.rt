@@ -1,5 +1,5 @@
 // Trees and scans that are dropped give their memory back. Those of an adopted batch stand in the tests of bw_post.
-use super::making::{LONG, key, three_with, value};
+use super::making::{LONG, key, stage, three_with, value};
 use crate::tests::assertions::{assert_equal, assert_that};
 use bw_memory::{Alloc, Heap};
 use bw_model::Op;
@@ -15,7 +15,7 @@ fn upsert<R: Abort>(rt: &R, alloc: Alloc) -> Op {
 // Makes a tree with a staged batch, and drops it.
 fn drop_tree<R: Abort>(rt: &R, alloc: Alloc) {
     let mut tree = three_with(rt, alloc, LONG);
-    tree.stage(&[upsert(rt, alloc)]).expect(rt, "memory");
+    stage(rt, &mut tree, &[upsert(rt, alloc)]).expect(rt, "memory");
     assert_that(rt, alloc.used() > 0);
     drop(tree);
 }

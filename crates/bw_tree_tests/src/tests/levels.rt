@@ -1,10 +1,10 @@
 // What a tree of three levels tells of each page, over a split that isn't finished.
-ghost use Rattle.std.specs.Prelude.{◌≡◌, None};
-
-use super::making::{LONG, are, heap, key, split_page, three_leaves, three_with, value};
+use super::making::{
+    LONG, TextPair, are, has_no_batch, heap, is_key, key, split_page, stage, three_leaves,
+    three_with, value,
+};
 use super::refused::was_refused;
 use crate::tests::assertions::{assert_equal, assert_that};
-use bw_key::Key;
 use bw_memory::Alloc;
 use bw_model::Op;
 use bw_page::{Inner, Page};
@@ -15,18 +15,13 @@ use std::process::Abort;
 type Bounds = (&'static [u8], Option<&'static [u8]>, Option<u32>);
 
 // Splits a page, which is a base page by itself with more than `keep` entries.
-fn split<R: Abort>(rt: &R, tree: &mut Tree, page: u32, keep: usize)
-    requires { tree.old.staged ≡ None }
-    ensures { tree.new.staged ≡ None }
-{
+fn split<R: Abort>(rt: &R, tree: &mut Tree, page: u32, keep: usize) {
     split_page(rt, tree, PageId(page), keep).expect(rt, "memory");
 }
 
 // Puts a root over a root that was split.
-fn grow<R: Abort>(rt: &R, tree: &mut Tree)
-    requires { tree.old.staged ≡ None }
-    ensures { tree.new.staged ≡ None }
-{
+fn grow<R: Abort>(rt: &R, tree: &mut Tree) {
+    has_no_batch(rt, tree);
     let Some(_) = tree.in_level(tree.root()) else {
         panic!(rt; "a root of no level");
     };
@@ -35,9 +30,7 @@ fn grow<R: Abort>(rt: &R, tree: &mut Tree)
 }
 
 // The leaves 0, 6, 1 and 2 under the pages 3 and 4 under the root 5. Leaf 6 was split off leaf 0, and isn't named yet.
-fn three_levels<R: Abort>(rt: &R, alloc: Alloc) -> Tree
-    ensures { result.staged ≡ None }
-{
+fn three_levels<R: Abort>(rt: &R, alloc: Alloc) -> Tree {
     let mut tree = three_leaves(rt, alloc);
     split(rt, &mut tree, 3, 2);
     grow(rt, &mut tree);
@@ -47,7 +40,10 @@ fn three_levels<R: Abort>(rt: &R, alloc: Alloc) -> Tree
 
 // The identifier of this number, if there is one.
 fn id(number: Option<u32>) -> Option<PageId> {
-    number.map(|n| PageId(n))
+    match number {
+        Some(number) => Some(PageId(number)),
+        None => None,
+    }
 }
 
 // Compares the left neighbour of a page, and the page that names it.
@@ -95,32 +91,22 @@ fn pages_without_a_record_are_plain(rt: HostRuntime) {
     }
 }
 
-// Whether a key is these bytes, or there is none.
-fn is(key: Option<&Key>, wanted: Option<&'static [u8]>) -> bool {
-    match (key, wanted) {
-        (Some(key), Some(bytes)) => key.bytes() == bytes,
-        (None, None) => true,
-        _ => false,
-    }
-}
-
 // Whether a leaf has these bounds and pairs.
-fn is_leaf(leaf: &Leaf, bounds: Bounds, pairs: &[(&'static [u8], &'static [u8])]) -> bool {
+fn is_leaf(leaf: &Leaf, bounds: Bounds, pairs: &[TextPair]) -> bool {
     leaf.low().bytes() == bounds.0
-        && is(leaf.high(), bounds.1)
+        && is_key(leaf.high(), bounds.1)
         && leaf.side() == id(bounds.2)
         && are(leaf.pairs(), pairs)
 }
 
-// Compares the state of a leaf as of stamp 0.
-fn has_leaf<R: Abort>(
-    rt: &R,
-    tree: &Tree,
-    page: u32,
-    bounds: Bounds,
-    pairs: &[(&'static [u8], &'static [u8])],
-) {
-    let state = tree.state(PageId(page), 0).expect(rt, "memory");
+// The state of a page as of stamp 0.
+fn state_of<R: Abort>(rt: &R, tree: &Tree, page: u32) -> Option<Page> {
+    tree.state(PageId(page), 0).expect(rt, "memory")
+}
+
+// Compares the state of a leaf.
+fn has_leaf<R: Abort>(rt: &R, tree: &Tree, page: u32, bounds: Bounds, pairs: &[TextPair]) {
+    let state = state_of(rt, tree, page);
     match &state {
         Some(Page::Leaf(leaf)) => assert_that(rt, is_leaf(leaf, bounds, pairs)),
         _ => panic!(rt; "page {page} is no leaf"),
@@ -131,7 +117,7 @@ fn has_leaf<R: Abort>(
 fn is_inner(inner: &Inner, level: u32, bounds: Bounds, children: usize) -> bool {
     inner.level() == level
         && inner.low().bytes() == bounds.0
-        && is(inner.high(), bounds.1)
+        && is_key(inner.high(), bounds.1)
         && inner.side() == id(bounds.2)
         && inner.children().len() == children
 }
@@ -145,7 +131,7 @@ fn has_inner<R: Abort>(
     bounds: Bounds,
     children: usize,
 ) {
-    let state = tree.state(PageId(page), 0).expect(rt, "memory");
+    let state = state_of(rt, tree, page);
     match &state {
         Some(Page::Inner(inner)) => assert_that(rt, is_inner(inner, level, bounds, children)),
         _ => panic!(rt; "page {page} is no inner page"),
@@ -154,7 +140,7 @@ fn has_inner<R: Abort>(
 
 // Whether an identifier names no page of a level.
 fn is_unused<R: Abort>(rt: &R, tree: &Tree, page: u32) -> bool {
-    tree.state(PageId(page), 0).expect(rt, "memory").is_none()
+    state_of(rt, tree, page).is_none()
 }
 
 #[test]
@@ -176,7 +162,7 @@ fn a_staged_batch_is_in_no_state_yet(rt: HostRuntime) {
     let alloc = heap(&rt, rt.alloc());
     let mut tree = three_leaves(&rt, alloc);
     let upsert = Op::Upsert(key(&rt, alloc, b"c"), value(&rt, alloc, b"9"));
-    tree.stage(&[upsert]).expect(&rt, "memory");
+    stage(&rt, &mut tree, &[upsert]).expect(&rt, "memory");
     has_leaf(&rt, &tree, 1, (b"c", Some(b"e"), Some(2)), &[(b"c", b"3")]);
 }
 

@@ -1,9 +1,8 @@
 // Pages that get their index entries at once, as the splits of one leaf leave them.
 ghost use Rattle.std.specs.Prelude.{◌≡◌, ◌<◌, ◌^◌, [], ◌∷◌, Some, None, IfOk, slice_index};
 ghost use Rattle.bw_look.specs.Unnamed.{IsUnnamed};
-ghost use Rattle.bw_tree.specs.Making.{AreAbutting};
 
-use super::making::{are, heap, key, stands};
+use super::making::{has_first, has_no_batch, heap, stands};
 use super::refused::was_refused;
 use super::splits::{FLOOR, has_entries, routes, split};
 use crate::tests::assertions::{assert_equal, assert_that};
@@ -42,9 +41,7 @@ fn from_d(alloc: Alloc) -> Result<Leaf, Memory>
 }
 
 // The tree of these two leaves, with page 2 as their root.
-fn two_leaves<R: Abort>(rt: &R, alloc: Alloc) -> Tree
-    ensures { result.staged ≡ None }
-{
+fn two_leaves<R: Abort>(rt: &R, alloc: Alloc) -> Tree {
     let left = up_to_d(alloc).expect(rt, "a leaf");
     let right = from_d(alloc).expect(rt, "a leaf");
     let leaves = vec![in alloc; left, right].expect(rt, "the leaves");
@@ -53,9 +50,7 @@ fn two_leaves<R: Abort>(rt: &R, alloc: Alloc) -> Tree
 
 // The same with the leaf that has the first one of these keys split into three leaves of a pair each: the new ones, of which
 // the page above knows nothing yet, are the pages 3 and 4.
-fn parted<R: Abort>(rt: &R, alloc: Alloc, keys: [&[u8]; 2]) -> Tree
-    ensures { result.staged ≡ None }
-{
+fn parted<R: Abort>(rt: &R, alloc: Alloc, keys: [&[u8]; 2]) -> Tree {
     let mut tree = two_leaves(rt, alloc);
     assert_equal(rt, split(rt, alloc, &mut tree, keys[0], 1), Ok(PageId(3)));
     assert_equal(rt, split(rt, alloc, &mut tree, keys[1], 1), Ok(PageId(4)));
@@ -91,10 +86,8 @@ fn entries_of(
 }
 
 // Gives the two pages right of a page their index entries at once.
-fn name_both<R: Abort>(rt: &R, alloc: Alloc, tree: &mut Tree, page: PageId) -> Result<(), Memory>
-    requires { tree.old.staged ≡ None }
-    ensures { tree.new.staged ≡ None }
-{
+fn name_both<R: Abort>(rt: &R, alloc: Alloc, tree: &mut Tree, page: PageId) -> Result<(), Memory> {
+    has_no_batch(rt, tree);
     tree.know_levels();
     tree.know_entries();
     let first = unnamed(rt, tree, page);
@@ -122,10 +115,8 @@ fn is_plain<R: Abort>(rt: &R, tree: &Tree, page: PageId)
 }
 
 // Gives the page right of a page its index entry, as a record.
-fn name_one<R: Abort>(rt: &R, tree: &mut Tree, page: PageId)
-    requires { tree.old.staged ≡ None }
-    ensures { tree.new.staged ≡ None }
-{
+fn name_one<R: Abort>(rt: &R, tree: &mut Tree, page: PageId) {
+    has_no_batch(rt, tree);
     tree.know_levels();
     tree.know_entries();
     let found = unnamed(rt, tree, page);
@@ -136,19 +127,19 @@ fn name_one<R: Abort>(rt: &R, tree: &mut Tree, page: PageId)
     tree.set_child(parent, sep, child).expect(rt, "memory");
 }
 
+// The six pairs.
+const PAIRS: &[(&[u8], &[u8])] = &[
+    (b"a", b"1"),
+    (b"b", b"2"),
+    (b"c", b"3"),
+    (b"d", b"4"),
+    (b"e", b"5"),
+    (b"f", b"6"),
+];
+
 // Compares what is read of the six pairs.
 fn holds<R: Abort>(rt: &R, alloc: Alloc, tree: &Tree) {
-    let least = key(rt, alloc, b"");
-    let all = tree.scan_at(&least, None, 9, 0).expect(rt, "the pairs");
-    let wanted: [(&[u8], &[u8]); 6] = [
-        (b"a", b"1"),
-        (b"b", b"2"),
-        (b"c", b"3"),
-        (b"d", b"4"),
-        (b"e", b"5"),
-        (b"f", b"6"),
-    ];
-    assert_that(rt, are(&all, &wanted));
+    has_first(rt, alloc, tree, (b"", None, 9), PAIRS);
 }
 
 #[test]

@@ -1,5 +1,5 @@
 // Each growth of memory refused in turn.
-use super::making::{LONG, has, heap, key, leaves, stands, three_leaves, three_with, value};
+use super::making::{LONG, has, heap, key, leaves, stage, stands, three_leaves, three_with, value};
 use crate::tests::assertions::{assert_equal, assert_that};
 pub use bw_fixtures::was_refused;
 use bw_memory::Alloc;
@@ -7,22 +7,26 @@ use bw_model::Op;
 use bw_tree::{Memory, Tree};
 use std::process::Abort;
 
+// Makes a tree of three leaves where this growth is refused. Whether it was.
+fn tree_refused<R: Abort>(rt: &R, alloc: Alloc, growth: u64) -> bool {
+    let all = leaves(rt, alloc, b"3");
+    alloc.refuse(growth);
+    let made = Tree::from_level(alloc, all);
+    let refused = was_refused(alloc, growth);
+    assert_equal(rt, made.is_err(), refused);
+    if let Ok(tree) = &made {
+        stands(rt, tree, 3, &[0, 1, 2, 3], 0);
+    }
+    refused
+}
+
 #[test]
 fn each_growth_of_a_tree_is_refused(rt: HostRuntime) {
     let alloc = heap(&rt, rt.alloc());
     for growth in 1..100 {
-        let all = leaves(&rt, alloc, b"3");
-        alloc.refuse(growth);
-        let made = Tree::from_level(alloc, all);
-        let refused = was_refused(alloc, growth);
-        match made {
-            Ok(tree) => {
-                assert_that(&rt, !refused);
-                assert_that(&rt, growth > 3);
-                stands(&rt, &tree, 3, &[0, 1, 2, 3], 0);
-                return;
-            }
-            Err(Memory) => assert_that(&rt, refused),
+        if !tree_refused(&rt, alloc, growth) {
+            assert_that(&rt, growth > 3);
+            return;
         }
     }
     panic!(rt; "no run met no refusal")
@@ -41,7 +45,7 @@ fn stage_refused<R: Abort>(rt: &R, alloc: Alloc, growth: u64) -> bool {
     let mut tree = three_leaves(rt, alloc);
     let ops = batch(rt, alloc);
     alloc.refuse(growth);
-    let staged = tree.stage(&ops);
+    let staged = stage(rt, &mut tree, &ops);
     let refused = was_refused(alloc, growth);
     assert_equal(rt, staged.is_err(), refused);
     stands(rt, &tree, 3, &[0, 1, 2, 3], if refused { 0 } else { 2 });
@@ -67,9 +71,9 @@ fn a_refused_batch_is_staged_again(rt: HostRuntime) {
     let mut tree = three_leaves(&rt, alloc);
     let ops = batch(&rt, alloc);
     alloc.refuse(4);
-    if tree.stage(&ops).is_err() {
+    if stage(&rt, &mut tree, &ops).is_err() {
         alloc.refuse(0);
-        let staged = tree.stage(&ops).expect(&rt, "memory");
+        let staged = stage(&rt, &mut tree, &ops).expect(&rt, "memory");
         assert_equal(
             &rt,
             (staged.base, staged.floor, staged.records),

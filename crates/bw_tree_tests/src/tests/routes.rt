@@ -3,7 +3,7 @@ ghost use Rattle.std.specs.Prelude.{◌≡◌, ◌<◌, [], is_some, T};
 ghost use Rattle.bw_model.specs.Contents.{is_below_end};
 ghost use Rattle.bw_tree.specs.Making.{AreAbutting};
 
-use super::making::{heap, key, one_leaf};
+use super::making::{heap, key, one};
 use crate::tests::assertions::{assert_equal, assert_that};
 use bw_key::Key;
 use bw_memory::Alloc;
@@ -120,7 +120,7 @@ fn steps_of_each_width_are_found(rt: HostRuntime) {
 #[test]
 fn one_leaf_has_all_keys(rt: HostRuntime) {
     let alloc = heap(&rt, rt.alloc());
-    let tree = Tree::from_level(alloc, one_leaf(&rt, alloc)).expect(&rt, "memory");
+    let tree = one(&rt, alloc);
     let mut routes = Routes::new(tree.look());
     for number in [3, 7, 0, 7] {
         is_found(&rt, alloc, &tree, &mut routes, number);

@@ -1,78 +1,91 @@
 // Scans over three leaves.
-use super::making::{are, heap, key, three_leaves};
+use super::making::{Range, TextPair, are, end_of, has_first, has_last, heap, key, three_leaves};
 use super::refused::was_refused;
 use crate::tests::assertions::{assert_equal, assert_that};
+use bw_key::Key;
 use bw_memory::Alloc;
 use bw_model::Pairs;
 use bw_tree::{Memory, Scans, Tree};
 use std::process::Abort;
 
-// Compares the pairs that a scan answered with the wanted ones.
-fn has_pairs<R: Abort>(
-    rt: &R,
-    pairs: Result<Pairs, Memory>,
-    wanted: &[(&'static [u8], &'static [u8])],
-) {
-    let pairs = pairs.expect(rt, "the pairs");
-    assert_that(rt, are(&pairs, wanted));
-}
-
 #[test]
 fn a_scan_goes_on_from_leaf_to_leaf(rt: HostRuntime) {
     let alloc = heap(&rt, rt.alloc());
     let tree = three_leaves(&rt, alloc);
-    let from = key(&rt, alloc, b"b");
-    has_pairs(
-        &rt,
-        tree.scan_at(&from, None, 2, 0),
-        &[(b"b", b"2"), (b"c", b"3")],
-    );
+    let wanted: &[TextPair] = &[(b"b", b"2"), (b"c", b"3")];
+    has_first(&rt, alloc, &tree, (b"b", None, 2), wanted);
 }
 
 #[test]
 fn a_scan_stops_before_its_end(rt: HostRuntime) {
     let alloc = heap(&rt, rt.alloc());
     let tree = three_leaves(&rt, alloc);
-    let from = key(&rt, alloc, b"");
-    let to = key(&rt, alloc, b"c");
-    has_pairs(
-        &rt,
-        tree.scan_at(&from, Some(&to), 9, 0),
-        &[(b"a", b"1"), (b"b", b"2")],
-    );
+    let wanted: &[TextPair] = &[(b"a", b"1"), (b"b", b"2")];
+    has_first(&rt, alloc, &tree, (b"", Some(b"c"), 9), wanted);
 }
 
 #[test]
 fn a_scan_back_goes_on_from_leaf_to_leaf(rt: HostRuntime) {
     let alloc = heap(&rt, rt.alloc());
     let tree = three_leaves(&rt, alloc);
-    let from = key(&rt, alloc, b"b");
-    has_pairs(
-        &rt,
-        tree.rscan_at(&from, None, u64::MAX, 0),
-        &[(b"e", b"5"), (b"c", b"3"), (b"b", b"2")],
-    );
+    let wanted: &[TextPair] = &[(b"e", b"5"), (b"c", b"3"), (b"b", b"2")];
+    has_last(&rt, alloc, &tree, (b"b", None, u64::MAX), wanted);
 }
 
 #[test]
 fn a_scan_back_begins_below_its_end(rt: HostRuntime) {
     let alloc = heap(&rt, rt.alloc());
     let tree = three_leaves(&rt, alloc);
-    let from = key(&rt, alloc, b"");
-    let to = key(&rt, alloc, b"e");
-    has_pairs(
-        &rt,
-        tree.rscan_at(&from, Some(&to), 2, 0),
-        &[(b"c", b"3"), (b"b", b"2")],
-    );
+    let wanted: &[TextPair] = &[(b"c", b"3"), (b"b", b"2")];
+    has_last(&rt, alloc, &tree, (b"", Some(b"e"), 2), wanted);
 }
 
 #[test]
 fn a_scan_back_of_no_range_has_no_pairs(rt: HostRuntime) {
     let alloc = heap(&rt, rt.alloc());
     let tree = three_leaves(&rt, alloc);
-    let from = key(&rt, alloc, b"c");
-    has_pairs(&rt, tree.rscan_at(&from, Some(&from), 9, 0), &[]);
+    has_last(&rt, alloc, &tree, (b"c", Some(b"c"), 9), &[]);
+}
+
+// Compares the first pairs of a range, which these scans find.
+fn scan<R: Abort>(
+    rt: &R,
+    alloc: Alloc,
+    scans: &mut Scans<'_>,
+    stamp: u64,
+    (from, to, most): Range,
+    wanted: &[TextPair],
+) {
+    let (from, to) = (key(rt, alloc, from), end_of(rt, alloc, to));
+    let pairs = scans
+        .scan(&from, to.as_ref(), most, stamp)
+        .expect(rt, "memory");
+    assert_that(rt, are(&pairs, wanted));
+}
+
+// Compares the last pairs of a range, the greatest key first.
+fn scan_back<R: Abort>(
+    rt: &R,
+    alloc: Alloc,
+    scans: &mut Scans<'_>,
+    stamp: u64,
+    (from, to, most): Range,
+    wanted: &[TextPair],
+) {
+    let (from, to) = (key(rt, alloc, from), end_of(rt, alloc, to));
+    let pairs = scans
+        .scan_back(&from, to.as_ref(), most, stamp)
+        .expect(rt, "memory");
+    assert_that(rt, are(&pairs, wanted));
+}
+
+// Scans from the first leaf on as of a stamp.
+fn scan_at<R: Abort>(rt: &R, alloc: Alloc, scans: &mut Scans<'_>, stamp: u64) {
+    let first: &[TextPair] = &[(b"b", b"2"), (b"c", b"3")];
+    let last: &[TextPair] = &[(b"e", b"5"), (b"c", b"3")];
+    scan(rt, alloc, scans, stamp, (b"b", None, 2), first);
+    scan_back(rt, alloc, scans, stamp, (b"b", None, 2), last);
+    scan(rt, alloc, scans, stamp, (b"b", None, 0), &[]);
 }
 
 #[test]
@@ -80,114 +93,113 @@ fn scans_follow_one_another_at_any_stamps(rt: HostRuntime) {
     let alloc = heap(&rt, rt.alloc());
     let tree = three_leaves(&rt, alloc);
     let mut scans = Scans::new(alloc, tree.look());
-    let from = key(&rt, alloc, b"b");
     for stamp in [3u64, 7, 7, 2] {
-        has_pairs(
-            &rt,
-            scans.scan(&from, None, 2, stamp),
-            &[(b"b", b"2"), (b"c", b"3")],
-        );
-        has_pairs(
-            &rt,
-            scans.scan_back(&from, None, 2, stamp),
-            &[(b"e", b"5"), (b"c", b"3")],
-        );
-        has_pairs(&rt, scans.scan(&from, None, 0, stamp), &[]);
+        scan_at(&rt, alloc, &mut scans, stamp);
     }
 }
 
-// The scans of a tree whose second and third leaf were read.
-fn read<'a, R: Abort>(rt: &R, alloc: Alloc, tree: &'a Tree) -> Scans<'a> {
-    let mut scans = Scans::new(alloc, tree.look());
-    let from = key(rt, alloc, b"c");
-    has_pairs(
-        rt,
-        scans.scan(&from, None, 2, 0),
-        &[(b"c", b"3"), (b"e", b"5")],
-    );
-    scans
+// Reads the second and third leaf.
+fn read<R: Abort>(rt: &R, alloc: Alloc, scans: &mut Scans<'_>) {
+    let wanted: &[TextPair] = &[(b"c", b"3"), (b"e", b"5")];
+    scan(rt, alloc, scans, 0, (b"c", None, 2), wanted);
+}
+
+// Scans these leaves again.
+fn scan_again<R: Abort>(rt: &R, alloc: Alloc, scans: &mut Scans<'_>) {
+    let wanted: &[TextPair] = &[(b"b", b"2"), (b"c", b"3")];
+    read(rt, alloc, scans);
+    scan(rt, alloc, scans, 0, (b"d", None, 9), &[(b"e", b"5")]);
+    scan(rt, alloc, scans, 0, (b"b", Some(b"d"), 9), wanted);
+    scan_back(rt, alloc, scans, 0, (b"d", None, 9), &[(b"e", b"5")]);
 }
 
 #[test]
 fn leaves_that_were_read_are_scanned_again(rt: HostRuntime) {
     let alloc = heap(&rt, rt.alloc());
     let tree = three_leaves(&rt, alloc);
-    let mut scans = read(&rt, alloc, &tree);
-    let (b, d) = (key(&rt, alloc, b"b"), key(&rt, alloc, b"d"));
-    has_pairs(&rt, scans.scan(&d, None, 9, 0), &[(b"e", b"5")]);
-    has_pairs(
-        &rt,
-        scans.scan(&b, Some(&d), 9, 0),
-        &[(b"b", b"2"), (b"c", b"3")],
-    );
-    has_pairs(&rt, scans.scan_back(&d, None, 9, 0), &[(b"e", b"5")]);
+    scan_again(&rt, alloc, &mut Scans::new(alloc, tree.look()));
+}
+
+// Scans them back, below an end.
+fn scan_back_again<R: Abort>(rt: &R, alloc: Alloc, scans: &mut Scans<'_>) {
+    let wanted: &[TextPair] = &[(b"c", b"3"), (b"b", b"2")];
+    read(rt, alloc, scans);
+    scan_back(rt, alloc, scans, 0, (b"", Some(b"e"), 1), &[(b"c", b"3")]);
+    scan_back(rt, alloc, scans, 0, (b"", Some(b"d"), 2), wanted);
 }
 
 #[test]
 fn leaves_that_were_read_are_scanned_again_below_an_end(rt: HostRuntime) {
     let alloc = heap(&rt, rt.alloc());
     let tree = three_leaves(&rt, alloc);
-    let mut scans = read(&rt, alloc, &tree);
-    let least = key(&rt, alloc, b"");
-    let e = key(&rt, alloc, b"e");
-    has_pairs(
-        &rt,
-        scans.scan_back(&least, Some(&e), 1, 0),
-        &[(b"c", b"3")],
-    );
-    let d = key(&rt, alloc, b"d");
-    has_pairs(
-        &rt,
-        scans.scan_back(&least, Some(&d), 2, 0),
-        &[(b"c", b"3"), (b"b", b"2")],
-    );
+    scan_back_again(&rt, alloc, &mut Scans::new(alloc, tree.look()));
+}
+
+// Scans a leaf back that stands below them.
+fn scan_below<R: Abort>(rt: &R, alloc: Alloc, scans: &mut Scans<'_>) {
+    read(rt, alloc, scans);
+    scan_back(rt, alloc, scans, 0, (b"", Some(b"c"), 1), &[(b"b", b"2")]);
 }
 
 #[test]
 fn a_leaf_below_one_that_was_read_is_scanned_back(rt: HostRuntime) {
     let alloc = heap(&rt, rt.alloc());
     let tree = three_leaves(&rt, alloc);
-    let mut scans = read(&rt, alloc, &tree);
-    let (least, c) = (key(&rt, alloc, b""), key(&rt, alloc, b"c"));
-    has_pairs(
-        &rt,
-        scans.scan_back(&least, Some(&c), 1, 0),
-        &[(b"b", b"2")],
-    );
+    scan_below(&rt, alloc, &mut Scans::new(alloc, tree.look()));
+}
+
+// The pairs from a key on, or the same from the last one on.
+fn pairs_from(tree: &Tree, from: &Key, back: bool) -> Result<Pairs, Memory> {
+    if back {
+        tree.rscan_at(from, None, 9, 0)
+    } else {
+        tree.scan_at(from, None, 9, 0)
+    }
+}
+
+// Scans where this growth is refused, and compares the pairs if there are any. Whether it was.
+fn scan_refused<R: Abort>(
+    rt: &R,
+    alloc: Alloc,
+    tree: &Tree,
+    from: &Key,
+    (back, growth): (bool, u64),
+    wanted: &[TextPair],
+) -> bool {
+    alloc.refuse(growth);
+    let pairs = pairs_from(tree, from, back);
+    let refused = was_refused(alloc, growth);
+    match &pairs {
+        Ok(pairs) => assert_that(rt, !refused && are(pairs, wanted)),
+        Err(Memory) => assert_that(rt, refused),
+    }
+    refused
+}
+
+// Sees that a scan from the first leaf on takes two growths.
+fn takes_two_growths<R: Abort>(rt: &R, alloc: Alloc, tree: &Tree, back: bool, wanted: &[TextPair]) {
+    let from = key(rt, alloc, b"b");
+    for growth in 1..100 {
+        if !scan_refused(rt, alloc, tree, &from, (back, growth), wanted) {
+            assert_equal(rt, growth, 3);
+            return;
+        }
+    }
+    panic!(rt; "no run met no refusal")
 }
 
 #[test]
 fn a_scan_of_leaves_without_writes_takes_memory_for_its_answer_alone(rt: HostRuntime) {
     let alloc = heap(&rt, rt.alloc());
     let tree = three_leaves(&rt, alloc);
-    let from = key(&rt, alloc, b"b");
-    for growth in 1..100 {
-        alloc.refuse(growth);
-        let pairs = tree.scan_at(&from, None, 9, 0);
-        if !was_refused(alloc, growth) {
-            has_pairs(&rt, pairs, &[(b"b", b"2"), (b"c", b"3"), (b"e", b"5")]);
-            assert_equal(&rt, growth, 3);
-            return;
-        }
-        assert_that(&rt, pairs.is_err());
-    }
-    panic!(rt; "no run met no refusal")
+    let wanted: &[TextPair] = &[(b"b", b"2"), (b"c", b"3"), (b"e", b"5")];
+    takes_two_growths(&rt, alloc, &tree, false, wanted);
 }
 
 #[test]
 fn a_scan_back_of_leaves_without_writes_takes_memory_for_its_answer_alone(rt: HostRuntime) {
     let alloc = heap(&rt, rt.alloc());
     let tree = three_leaves(&rt, alloc);
-    let from = key(&rt, alloc, b"b");
-    for growth in 1..100 {
-        alloc.refuse(growth);
-        let pairs = tree.rscan_at(&from, None, 9, 0);
-        if !was_refused(alloc, growth) {
-            has_pairs(&rt, pairs, &[(b"e", b"5"), (b"c", b"3"), (b"b", b"2")]);
-            assert_equal(&rt, growth, 3);
-            return;
-        }
-        assert_that(&rt, pairs.is_err());
-    }
-    panic!(rt; "no run met no refusal")
+    let wanted: &[TextPair] = &[(b"e", b"5"), (b"c", b"3"), (b"b", b"2")];
+    takes_two_growths(&rt, alloc, &tree, true, wanted);
 }

@@ -1,5 +1,5 @@
 // Trees of one leaf and of three, and a batch that is staged and undone.
-use super::making::{has, heap, key, leaves, one_leaf, stands, three_leaves, value};
+use super::making::{empty, has, heap, key, leaf_of_key, one, stage, stands, three_leaves, value};
 use crate::tests::assertions::{assert_equal, assert_that};
 use bw_delta::{Action, Write};
 use bw_memory::Alloc;
@@ -20,7 +20,7 @@ const AT_FIRST: &[(&[u8], Option<&[u8]>)] = &[
 #[test]
 fn three_leaves_have_a_root_behind_them(rt: HostRuntime) {
     let alloc = heap(&rt, rt.alloc());
-    let tree = Tree::from_level(alloc, leaves(&rt, alloc, b"3")).expect(&rt, "memory");
+    let tree = three_leaves(&rt, alloc);
     stands(&rt, &tree, 3, &[0, 1, 2, 3], 0);
     has(&rt, alloc, &tree, 0, AT_FIRST);
 }
@@ -41,7 +41,7 @@ fn each_key_is_sought_in_the_leaf_whose_range_has_it(rt: HostRuntime) {
     let tree = three_leaves(&rt, alloc);
     alloc.refuse(1);
     for &(bytes, page) in HOMES {
-        assert_equal(&rt, tree.route(&key(&rt, alloc, bytes)), PageId(page));
+        assert_equal(&rt, leaf_of_key(&rt, alloc, &tree, bytes), PageId(page));
     }
     assert_equal(&rt, alloc.left(), 1);
 }
@@ -49,19 +49,19 @@ fn each_key_is_sought_in_the_leaf_whose_range_has_it(rt: HostRuntime) {
 #[test]
 fn one_leaf_is_the_root(rt: HostRuntime) {
     let alloc = heap(&rt, rt.alloc());
-    let tree = Tree::from_level(alloc, one_leaf(&rt, alloc)).expect(&rt, "memory");
+    let tree = one(&rt, alloc);
     stands(&rt, &tree, 0, &[0], 0);
     has(&rt, alloc, &tree, 0, &[(b"a", Some(b"1")), (b"b", None)]);
-    assert_equal(&rt, tree.route(&key(&rt, alloc, b"b")), PageId(0));
+    assert_equal(&rt, leaf_of_key(&rt, alloc, &tree, b"b"), PageId(0));
 }
 
 #[test]
 fn a_new_tree_is_empty(rt: HostRuntime) {
     let alloc = heap(&rt, rt.alloc());
-    let tree = Tree::new(alloc).expect(&rt, "memory");
+    let tree = empty(&rt, alloc);
     stands(&rt, &tree, 0, &[0], 0);
     has(&rt, alloc, &tree, 0, &[(b"", None), (b"a", None)]);
-    assert_equal(&rt, tree.route(&key(&rt, alloc, b"")), PageId(0));
+    assert_equal(&rt, leaf_of_key(&rt, alloc, &tree, b""), PageId(0));
 }
 
 // Two writes and a scan: upsert c 9, delete e, scan % * 9.
@@ -81,7 +81,7 @@ fn batch<R: Abort>(rt: &R, alloc: Alloc) -> [Op; 3] {
 fn a_staged_batch_is_undone(rt: HostRuntime) {
     let alloc = heap(&rt, rt.alloc());
     let mut tree = three_leaves(&rt, alloc);
-    let staged = tree.stage(&batch(&rt, alloc)).expect(&rt, "memory");
+    let staged = stage(&rt, &mut tree, &batch(&rt, alloc)).expect(&rt, "memory");
     assert_equal(
         &rt,
         staged,
@@ -100,7 +100,8 @@ fn a_staged_batch_is_undone(rt: HostRuntime) {
     alloc.refuse(0);
     stands(&rt, &tree, 3, &[0, 1, 2, 3], 0);
     has(&rt, alloc, &tree, 2, AT_FIRST);
-    assert_equal(&rt, tree.stage(&batch(&rt, alloc)), Ok(staged));
+    let again = stage(&rt, &mut tree, &batch(&rt, alloc));
+    assert_equal(&rt, again, Ok(staged));
 }
 
 #[test]
@@ -108,7 +109,7 @@ fn a_batch_is_staged_until_it_is_undone(rt: HostRuntime) {
     let alloc = heap(&rt, rt.alloc());
     let mut tree = three_leaves(&rt, alloc);
     assert_that(&rt, tree.staged().is_none());
-    let staged = tree.stage(&batch(&rt, alloc)).expect(&rt, "memory");
+    let staged = stage(&rt, &mut tree, &batch(&rt, alloc)).expect(&rt, "memory");
     assert_equal(&rt, tree.staged(), Some(staged));
     tree.undo();
     assert_that(&rt, tree.staged().is_none());
@@ -131,7 +132,7 @@ fn each_staged_write_has_the_stamp_of_its_operation(rt: HostRuntime) {
         Op::Get(key(&rt, alloc, b"a")),
         Op::Delete(key(&rt, alloc, b"e")),
     ];
-    tree.stage(&ops).expect(&rt, "memory");
+    stage(&rt, &mut tree, &ops).expect(&rt, "memory");
     let upsert = Write {
         stamp: 0,
         key: key(&rt, alloc, b"c"),
@@ -150,7 +151,7 @@ fn each_staged_write_has_the_stamp_of_its_operation(rt: HostRuntime) {
 fn a_batch_of_reads_has_no_record(rt: HostRuntime) {
     let alloc = heap(&rt, rt.alloc());
     let mut tree = three_leaves(&rt, alloc);
-    let staged = tree.stage(&[Op::Get(key(&rt, alloc, b"a"))]);
+    let staged = stage(&rt, &mut tree, &[Op::Get(key(&rt, alloc, b"a"))]);
     assert_equal(
         &rt,
         staged,
