@@ -1,10 +1,10 @@
 // Pages that are dropped give their memory back, with all that is in them.
+use super::making::small_heap;
 use crate::tests::assertions::{assert_equal, assert_that};
 use bw_fixtures::{LONG, key, one, pair};
-use bw_memory::{Alloc, Heap};
+use bw_memory::Alloc;
 use bw_page::{Inner, Leaf, PageId};
 use std::process::Abort;
-use std::test::Fail;
 
 // Above the other long text.
 const LONGER: &[u8] = b"b text of more than 24 bytes";
@@ -37,11 +37,10 @@ fn drop_inner<R: Abort>(rt: &R, alloc: Alloc) {
 }
 
 #[test]
-fn what_is_dropped_gives_its_memory_back(rt: HostRuntime) -> Result<(), Fail> {
-    let alloc = Heap::within(rt.alloc(), 4096).leak(rt.alloc())?;
+fn what_is_dropped_gives_its_memory_back(rt: HostRuntime) {
+    let alloc = small_heap(&rt, rt.alloc());
     drop_leaf(&rt, alloc);
     assert_equal(&rt, alloc.used(), 0);
     drop_inner(&rt, alloc);
     assert_equal(&rt, alloc.used(), 0);
-    Ok(())
 }

@@ -1,20 +1,12 @@
 // Inner pages.
-use super::making::{c_with, from_c, from_start, from_start_and_c};
+use super::making::{
+    c_with, from_c, from_start, from_start_and_c, has_children, heap, key, upper_half_inner,
+    with_child, without_child,
+};
 use crate::tests::assertions::{assert_equal, assert_that};
-use bw_fixtures::{heap, key};
-use bw_key::Key;
 use bw_memory::Alloc;
 use bw_page::{Inner, Page, PageId, RemovedPage};
 use std::process::Abort;
-
-// Compares a page's separators and children with the wanted ones.
-fn has_children<R: Abort>(rt: &R, inner: &Inner, wanted: &[(&'static [u8], u32)]) {
-    assert_equal(rt, inner.children().len(), wanted.len());
-    for (child, (sep, page)) in inner.children().iter().zip(wanted) {
-        assert_equal(rt, child.0.bytes(), *sep);
-        assert_equal(rt, child.1.0, *page);
-    }
-}
 
 // Compares the low key of a page over leaves, which is the last one.
 fn is_last_from<R: Abort>(rt: &R, inner: &Inner, low: &[u8]) {
@@ -26,7 +18,7 @@ fn is_last_from<R: Abort>(rt: &R, inner: &Inner, low: &[u8]) {
 
 // The child that a page has for a key of its range.
 fn child_for<R: Abort>(rt: &R, alloc: Alloc, inner: &Inner, bytes: &[u8]) -> u32 {
-    let key = key(alloc, bytes).expect(rt, "memory");
+    let key = key(rt, alloc, bytes);
     assert!(rt; key >= *inner.low());
     alloc.refuse(1);
     let child = inner.child_for(&key);
@@ -37,7 +29,7 @@ fn child_for<R: Abort>(rt: &R, alloc: Alloc, inner: &Inner, bytes: &[u8]) -> u32
 
 #[test]
 fn an_inner_page_has_its_bounds_and_children(rt: HostRuntime) {
-    let alloc = heap(rt.alloc()).expect(&rt, "memory");
+    let alloc = heap(&rt, rt.alloc());
     let inner = from_start(&rt, alloc);
     assert_equal(&rt, inner.level(), 1);
     assert_equal(&rt, inner.low().bytes(), b"".as_slice());
@@ -52,7 +44,7 @@ fn an_inner_page_has_its_bounds_and_children(rt: HostRuntime) {
 
 #[test]
 fn two_inner_pages_join(rt: HostRuntime) {
-    let alloc = heap(rt.alloc()).expect(&rt, "memory");
+    let alloc = heap(&rt, rt.alloc());
     let inner = from_start_and_c(&rt, alloc);
     is_last_from(&rt, &inner, b"");
     has_children(&rt, &inner, &[(b"", 0), (b"c", 1)]);
@@ -60,49 +52,43 @@ fn two_inner_pages_join(rt: HostRuntime) {
 
 #[test]
 fn a_child_is_put_between_two_others(rt: HostRuntime) {
-    let alloc = heap(rt.alloc()).expect(&rt, "memory");
+    let alloc = heap(&rt, rt.alloc());
     let inner = from_start_and_c(&rt, alloc);
-    let more = inner
-        .with_child(&key(alloc, b"b").expect(&rt, "memory"), PageId(5))
-        .expect(&rt, "memory");
+    let more = with_child(&rt, &inner, &key(&rt, alloc, b"b"), PageId(5)).expect(&rt, "memory");
     is_last_from(&rt, &more, b"");
     has_children(&rt, &more, &[(b"", 0), (b"b", 5), (b"c", 1)]);
 }
 
 #[test]
 fn a_child_is_put_in_place_of_another(rt: HostRuntime) {
-    let alloc = heap(rt.alloc()).expect(&rt, "memory");
+    let alloc = heap(&rt, rt.alloc());
     let inner = from_start_and_c(&rt, alloc);
-    let other = inner
-        .with_child(&key(alloc, b"c").expect(&rt, "memory"), PageId(6))
-        .expect(&rt, "memory");
+    let other = with_child(&rt, &inner, &key(&rt, alloc, b"c"), PageId(6)).expect(&rt, "memory");
     is_last_from(&rt, &other, b"");
     has_children(&rt, &other, &[(b"", 0), (b"c", 6)]);
 }
 
 #[test]
 fn a_child_is_taken_out(rt: HostRuntime) {
-    let alloc = heap(rt.alloc()).expect(&rt, "memory");
+    let alloc = heap(&rt, rt.alloc());
     let inner = from_start_and_c(&rt, alloc);
-    let less = inner
-        .without_child(&key(alloc, b"c").expect(&rt, "memory"))
-        .expect(&rt, "memory");
+    let less = without_child(&rt, &inner, &key(&rt, alloc, b"c")).expect(&rt, "memory");
     is_last_from(&rt, &less, b"");
     has_children(&rt, &less, &[(b"", 0)]);
 }
 
 #[test]
 fn the_upper_half_begins_with_the_first_child_that_moves(rt: HostRuntime) {
-    let alloc = heap(rt.alloc()).expect(&rt, "memory");
+    let alloc = heap(&rt, rt.alloc());
     let inner = from_start_and_c(&rt, alloc);
-    let half = inner.upper_half(1).expect(&rt, "memory");
+    let half = upper_half_inner(&rt, &inner, 1).expect(&rt, "memory");
     is_last_from(&rt, &half, b"c");
     has_children(&rt, &half, &[(b"c", 1)]);
 }
 
 #[test]
 fn a_key_belongs_to_the_last_separator_up_to_it(rt: HostRuntime) {
-    let alloc = heap(rt.alloc()).expect(&rt, "memory");
+    let alloc = heap(&rt, rt.alloc());
     let inner = from_start_and_c(&rt, alloc);
     let wanted = [
         (b"".as_slice(), 0),
@@ -128,8 +114,8 @@ fn told(page: &Page) -> u32 {
 }
 
 // A leaf that began at c and was taken over by this page.
-fn removed_into(rt: &impl Abort, alloc: Alloc, left: PageId) -> Page {
-    let low = Key::new(alloc, b"c").expect(rt, "memory");
+fn removed_into<R: Abort>(rt: &R, alloc: Alloc, left: PageId) -> Page {
+    let low = key(rt, alloc, b"c");
     Page::Gone(RemovedPage {
         left,
         level: 0,
@@ -139,7 +125,7 @@ fn removed_into(rt: &impl Abort, alloc: Alloc, left: PageId) -> Page {
 
 #[test]
 fn a_page_is_of_one_kind(rt: HostRuntime) {
-    let alloc = heap(rt.alloc()).expect(&rt, "memory");
+    let alloc = heap(&rt, rt.alloc());
     assert_equal(&rt, told(&Page::Leaf(c_with(&rt, alloc, b"3"))), 0);
     assert_equal(&rt, told(&Page::Inner(from_c(&rt, alloc))), 1);
     assert_equal(&rt, told(&removed_into(&rt, alloc, PageId(4))), 4);

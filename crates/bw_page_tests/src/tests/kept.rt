@@ -1,24 +1,17 @@
 // What pages keep of a heap: no more than their pairs or children need.
-ghost use Rattle.std.specs.Prelude.{◌≡◌, [], ◌∷◌, Some, length};
-
-use super::making::from_start_and_c;
+use super::making::{cut, cut_inner, from_start_and_c, joined, small_heap, upper_half};
 use crate::tests::assertions::{assert_equal, assert_that};
 use bw_fixtures::key;
-use bw_memory::{Alloc, Heap};
+use bw_memory::Alloc;
 use bw_model::Pairs;
 use bw_page::{Leaf, PageId};
 use std::process::Abort;
-use std::test::Fail;
 
 // A pair of 8 and 8 bytes takes 24 in a list that has just the room for its pairs, and no bound takes any here.
 const PAIR: u64 = 24;
 
 // The leaf from the start on and below `e`, with page 1 at its right: four pairs of 8 and 8 bytes, and room for more.
-fn four<R: Abort>(rt: &R, alloc: Alloc) -> Leaf
-    ensures low { result.low ≡ [] }
-    ensures high { result.high ≡ Some (101 ∷ []) }
-    ensures pairs { length result.pairs ≡ 4 }
-{
+fn four<R: Abort>(rt: &R, alloc: Alloc) -> Leaf {
     let mut pairs = Pairs::with_capacity(alloc, 10, 1000).expect(rt, "memory");
     pairs.push(b"aaaaaaaa", b"11111111").expect(rt, "memory");
     pairs.push(b"bbbbbbbb", b"22222222").expect(rt, "memory");
@@ -32,9 +25,7 @@ fn four<R: Abort>(rt: &R, alloc: Alloc) -> Leaf
 }
 
 // The last leaf, from `e` on: one such pair, and room for more.
-fn from_e<R: Abort>(rt: &R, alloc: Alloc) -> Leaf
-    ensures low { result.low ≡ 101 ∷ [] }
-{
+fn from_e<R: Abort>(rt: &R, alloc: Alloc) -> Leaf {
     let mut pairs = Pairs::with_capacity(alloc, 10, 1000).expect(rt, "memory");
     pairs.push(b"eeeeeeee", b"55555555").expect(rt, "memory");
     Leaf::from_pairs(key(alloc, b"e").expect(rt, "memory"), None, None, pairs)
@@ -43,7 +34,7 @@ fn from_e<R: Abort>(rt: &R, alloc: Alloc) -> Leaf
 // Copies the upper half of a leaf, which is let go then.
 fn keep_a_half<R: Abort>(rt: &R, alloc: Alloc) {
     let leaf = four(rt, alloc);
-    let half = leaf.upper_half(1).expect(rt, "memory");
+    let half = upper_half(rt, &leaf, 1).expect(rt, "memory");
     drop(leaf);
     assert_equal(rt, alloc.used(), 3 * PAIR);
     assert_equal(rt, half.pairs().len(), 3);
@@ -52,7 +43,7 @@ fn keep_a_half<R: Abort>(rt: &R, alloc: Alloc) {
 // Cuts a leaf, and lets each part go in turn.
 fn keep_both_parts<R: Abort>(rt: &R, alloc: Alloc) {
     let mut leaf = four(rt, alloc);
-    let half = leaf.cut(1).expect(rt, "memory");
+    let half = cut(rt, &mut leaf, 1).expect(rt, "memory");
     assert_equal(rt, alloc.used(), 4 * PAIR);
     drop(half);
     assert_equal(rt, alloc.used(), PAIR);
@@ -62,7 +53,7 @@ fn keep_both_parts<R: Abort>(rt: &R, alloc: Alloc) {
 // Joins two leaves, which are let go then.
 fn keep_a_joined_leaf<R: Abort>(rt: &R, alloc: Alloc) {
     let (left, right) = (four(rt, alloc), from_e(rt, alloc));
-    let leaf = left.joined(&right).expect(rt, "memory");
+    let leaf = joined(rt, &left, &right).expect(rt, "memory");
     drop(left);
     drop(right);
     assert_equal(rt, alloc.used(), 5 * PAIR);
@@ -70,21 +61,19 @@ fn keep_a_joined_leaf<R: Abort>(rt: &R, alloc: Alloc) {
 }
 
 #[test]
-fn a_half_of_a_leaf_keeps_what_its_pairs_need(rt: HostRuntime) -> Result<(), Fail> {
-    let alloc = Heap::within(rt.alloc(), 4096).leak(rt.alloc())?;
+fn a_half_of_a_leaf_keeps_what_its_pairs_need(rt: HostRuntime) {
+    let alloc = small_heap(&rt, rt.alloc());
     keep_a_half(&rt, alloc);
     assert_equal(&rt, alloc.used(), 0);
     keep_both_parts(&rt, alloc);
     assert_equal(&rt, alloc.used(), 0);
-    Ok(())
 }
 
 #[test]
-fn a_joined_leaf_keeps_what_its_pairs_need(rt: HostRuntime) -> Result<(), Fail> {
-    let alloc = Heap::within(rt.alloc(), 4096).leak(rt.alloc())?;
+fn a_joined_leaf_keeps_what_its_pairs_need(rt: HostRuntime) {
+    let alloc = small_heap(&rt, rt.alloc());
     keep_a_joined_leaf(&rt, alloc);
     assert_equal(&rt, alloc.used(), 0);
-    Ok(())
 }
 
 // What a page of two children keeps.
@@ -97,7 +86,7 @@ fn kept_whole<R: Abort>(rt: &R, alloc: Alloc) -> u64 {
 // Cuts such a page, and answers what both parts keep, and then the one that stays.
 fn kept_by_parts<R: Abort>(rt: &R, alloc: Alloc) -> (u64, u64) {
     let mut inner = from_start_and_c(rt, alloc);
-    let half = inner.cut(1).expect(rt, "memory");
+    let half = cut_inner(rt, &mut inner, 1).expect(rt, "memory");
     let both = alloc.used();
     drop(half);
     (both, alloc.used())
@@ -105,13 +94,12 @@ fn kept_by_parts<R: Abort>(rt: &R, alloc: Alloc) -> (u64, u64) {
 
 // A joined page has just the room that its children need, so the parts have as much as it had, and each a half of that.
 #[test]
-fn the_parts_of_an_inner_page_keep_what_their_children_need(rt: HostRuntime) -> Result<(), Fail> {
-    let alloc = Heap::within(rt.alloc(), 4096).leak(rt.alloc())?;
+fn the_parts_of_an_inner_page_keep_what_their_children_need(rt: HostRuntime) {
+    let alloc = small_heap(&rt, rt.alloc());
     let whole = kept_whole(&rt, alloc);
     let (both, one) = kept_by_parts(&rt, alloc);
     assert_that(&rt, whole > 0);
     assert_equal(&rt, both, whole);
     assert_equal(&rt, one, whole / 2);
     assert_equal(&rt, alloc.used(), 0);
-    Ok(())
 }

@@ -1,7 +1,7 @@
 // Leaves.
-use super::making::c_with;
+use super::making::{TextPair, c_with, heap, joined, key, up_to_c, upper_half};
 use crate::tests::assertions::{assert_equal, assert_that};
-use bw_fixtures::{are, heap, key, up_to_c};
+use bw_fixtures::are;
 use bw_key::Key;
 use bw_memory::Alloc;
 use bw_model::Pairs;
@@ -16,14 +16,14 @@ fn c_to_h<R: Abort>(rt: &R, alloc: Alloc) -> Leaf {
     pairs.push(b"dd", b"").expect(rt, "memory");
     pairs.push(b"f", b"6").expect(rt, "memory");
     let (low, high) = (
-        key(alloc, b"c").expect(rt, "memory"),
-        key(alloc, b"h").expect(rt, "memory"),
+        bw_fixtures::key(alloc, b"c").expect(rt, "memory"),
+        bw_fixtures::key(alloc, b"h").expect(rt, "memory"),
     );
     Leaf::from_pairs(low, Some(high), Some(PageId(7)), pairs)
 }
 
 // Compares a leaf's pairs with the bytes of the wanted ones.
-fn has_pairs<R: Abort>(rt: &R, leaf: &Leaf, wanted: &[(&'static [u8], &'static [u8])]) {
+fn has_pairs<R: Abort>(rt: &R, leaf: &Leaf, wanted: &[TextPair]) {
     assert_that(rt, are(leaf.pairs(), wanted));
 }
 
@@ -36,21 +36,18 @@ fn is_last_from<R: Abort>(rt: &R, leaf: &Leaf, low: &[u8]) {
 
 #[test]
 fn an_empty_leaf_has_all_keys_and_no_pair(rt: HostRuntime) {
-    let alloc = heap(rt.alloc()).expect(&rt, "memory");
+    let alloc = heap(&rt, rt.alloc());
     alloc.refuse(1);
     let leaf = Leaf::empty(alloc);
     assert_equal(&rt, alloc.left(), 1);
     is_last_from(&rt, &leaf, b"");
     has_pairs(&rt, &leaf, &[]);
-    assert_that(
-        &rt,
-        leaf.find(&key(alloc, b"").expect(&rt, "memory")).is_none(),
-    );
+    assert_equal(&rt, leaf.find(&key(&rt, alloc, b"")), None);
 }
 
 #[test]
 fn a_leaf_has_its_bounds_and_pairs(rt: HostRuntime) {
-    let alloc = heap(rt.alloc()).expect(&rt, "memory");
+    let alloc = heap(&rt, rt.alloc());
     let leaf = c_to_h(&rt, alloc);
     assert_equal(&rt, leaf.low().bytes(), b"c".as_slice());
     assert_equal(
@@ -66,28 +63,35 @@ fn a_leaf_has_its_bounds_and_pairs(rt: HostRuntime) {
     );
 }
 
+// Keys of that leaf with their values, and some that it doesn't have.
+const FOUND: &[(&[u8], Option<&[u8]>)] = &[
+    (b"c", Some(b"3")),
+    (b"d", Some(b"4")),
+    (b"dd", Some(b"")),
+    (b"f", Some(b"6")),
+    (b"", None),
+    (b"b", None),
+    (b"cc", None),
+    (b"e", None),
+    (b"g", None),
+    (b"h", None),
+    (b"z", None),
+];
+
+// Compares the value that a leaf has at a key. Finding it takes no memory.
+fn has_at<R: Abort>(rt: &R, alloc: Alloc, leaf: &Leaf, bytes: &[u8], wanted: Option<&[u8]>) {
+    let key = key(rt, alloc, bytes);
+    alloc.refuse(1);
+    assert_equal(rt, leaf.find(&key), wanted);
+    assert_equal(rt, alloc.left(), 1);
+}
+
 #[test]
 fn a_key_is_found_among_the_pairs_alone(rt: HostRuntime) {
-    let alloc = heap(rt.alloc()).expect(&rt, "memory");
+    let alloc = heap(&rt, rt.alloc());
     let leaf = c_to_h(&rt, alloc);
-    let found = [
-        (b"c".as_slice(), b"3".as_slice()),
-        (b"d", b"4"),
-        (b"dd", b""),
-        (b"f", b"6"),
-    ];
-    for (bytes, wanted) in found {
-        let key = key(alloc, bytes).expect(&rt, "memory");
-        alloc.refuse(1);
-        assert_equal(&rt, leaf.find(&key), Some(wanted));
-        assert_equal(&rt, alloc.left(), 1);
-    }
-    for bytes in [b"".as_slice(), b"b", b"cc", b"e", b"g", b"h", b"z"] {
-        assert_that(
-            &rt,
-            leaf.find(&key(alloc, bytes).expect(&rt, "memory"))
-                .is_none(),
-        );
+    for (bytes, wanted) in FOUND {
+        has_at(&rt, alloc, &leaf, *bytes, *wanted);
     }
 }
 
@@ -108,12 +112,12 @@ fn has_between<R: Abort>(
 
 #[test]
 fn a_range_has_its_pairs_and_takes_no_memory(rt: HostRuntime) {
-    let alloc = heap(rt.alloc()).expect(&rt, "memory");
+    let alloc = heap(&rt, rt.alloc());
     let leaf = c_to_h(&rt, alloc);
     let (d, e, f) = (
-        key(alloc, b"d").expect(&rt, "memory"),
-        key(alloc, b"e").expect(&rt, "memory"),
-        key(alloc, b"f").expect(&rt, "memory"),
+        key(&rt, alloc, b"d"),
+        key(&rt, alloc, b"e"),
+        key(&rt, alloc, b"f"),
     );
     alloc.refuse(1);
     has_between(&rt, &leaf, &d, Some(&f), &[b"d", b"dd"]);
@@ -122,25 +126,25 @@ fn a_range_has_its_pairs_and_takes_no_memory(rt: HostRuntime) {
     assert_equal(&rt, alloc.left(), 1);
 }
 
+// Two leaves as one: a 1, b 2, c 3.
+fn a_to_c<R: Abort>(rt: &R, alloc: Alloc) -> Leaf {
+    let (left, right) = (up_to_c(rt, alloc), c_with(rt, alloc, b"3"));
+    joined(rt, &left, &right).expect(rt, "memory")
+}
+
 #[test]
 fn two_leaves_join(rt: HostRuntime) {
-    let alloc = heap(rt.alloc()).expect(&rt, "memory");
-    let leaf = up_to_c(alloc)
-        .expect(&rt, "memory")
-        .joined(&c_with(&rt, alloc, b"3"))
-        .expect(&rt, "memory");
+    let alloc = heap(&rt, rt.alloc());
+    let leaf = a_to_c(&rt, alloc);
     is_last_from(&rt, &leaf, b"");
     has_pairs(&rt, &leaf, &[(b"a", b"1"), (b"b", b"2"), (b"c", b"3")]);
 }
 
 #[test]
 fn the_upper_half_begins_with_the_first_pair_that_moves(rt: HostRuntime) {
-    let alloc = heap(rt.alloc()).expect(&rt, "memory");
-    let leaf = up_to_c(alloc)
-        .expect(&rt, "memory")
-        .joined(&c_with(&rt, alloc, b"3"))
-        .expect(&rt, "memory");
-    let half = leaf.upper_half(1).expect(&rt, "memory");
+    let alloc = heap(&rt, rt.alloc());
+    let leaf = a_to_c(&rt, alloc);
+    let half = upper_half(&rt, &leaf, 1).expect(&rt, "memory");
     is_last_from(&rt, &half, b"b");
     has_pairs(&rt, &half, &[(b"b", b"2"), (b"c", b"3")]);
 }
@@ -154,7 +158,7 @@ fn page_names_are_their_numbers(rt: HostRuntime) {
 
 #[test]
 fn a_key_at_a_place_is_one_of_its_own(rt: HostRuntime) {
-    let alloc = heap(rt.alloc()).expect(&rt, "memory");
+    let alloc = heap(&rt, rt.alloc());
     let leaf = c_to_h(&rt, alloc);
     assert!(rt; leaf.pairs().len() == 4);
     let key = leaf.key_at(2).expect(&rt, "memory");

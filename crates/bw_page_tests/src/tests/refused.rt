@@ -1,92 +1,86 @@
 // Each growth of memory refused in turn. A refused call asks for no further one.
-use super::making::{c_with, from_c, from_start, from_start_and_c};
-use crate::tests::assertions::{assert_equal, assert_that};
-use bw_fixtures::{LONG, heap, key, up_to_c};
+use super::making::{
+    c_with, from_c, from_start, from_start_and_c, heap, joined, joined_inner, key, three_children,
+    up_to_c, upper_half, upper_half_inner, with_child, without_child,
+};
+use crate::tests::assertions::assert_equal;
+use bw_fixtures::LONG;
+use bw_memory::Alloc;
 use bw_page::PageId;
+use std::process::Abort;
+
+// Compares whether a call was refused, and how many growths it left until one would have been.
+fn is_refused<R: Abort>(rt: &R, alloc: Alloc, refused: bool, wanted: bool) {
+    assert_equal(rt, refused, wanted);
+    assert_equal(rt, alloc.left(), if wanted { 0 } else { 1 });
+}
 
 #[test]
 fn the_half_of_a_leaf_takes_two_growths(rt: HostRuntime) {
-    let alloc = heap(rt.alloc()).expect(&rt, "memory");
-    let leaf = up_to_c(alloc).expect(&rt, "memory");
-    for growth in 1..=2 {
+    let alloc = heap(&rt, rt.alloc());
+    let leaf = up_to_c(&rt, alloc);
+    for growth in 1..=3 {
         alloc.refuse(growth);
-        assert_that(&rt, leaf.upper_half(1).is_err());
-        assert_equal(&rt, alloc.left(), 0);
+        let refused = upper_half(&rt, &leaf, 1).is_err();
+        is_refused(&rt, alloc, refused, growth <= 2);
     }
-    alloc.refuse(3);
-    assert_that(&rt, leaf.upper_half(1).is_ok());
-    assert_equal(&rt, alloc.left(), 1);
 }
 
 #[test]
 fn two_leaves_take_two_growths_and_none_for_a_long_value(rt: HostRuntime) {
-    let alloc = heap(rt.alloc()).expect(&rt, "memory");
-    let left = up_to_c(alloc).expect(&rt, "memory");
+    let alloc = heap(&rt, rt.alloc());
+    let left = up_to_c(&rt, alloc);
     let right = c_with(&rt, alloc, LONG);
-    for growth in 1..=2 {
+    for growth in 1..=3 {
         alloc.refuse(growth);
-        assert_that(&rt, left.joined(&right).is_err());
-        assert_equal(&rt, alloc.left(), 0);
+        let refused = joined(&rt, &left, &right).is_err();
+        is_refused(&rt, alloc, refused, growth <= 2);
     }
-    alloc.refuse(3);
-    assert_that(&rt, left.joined(&right).is_ok());
-    assert_equal(&rt, alloc.left(), 1);
 }
 
 #[test]
 fn two_inner_pages_take_one_growth(rt: HostRuntime) {
-    let alloc = heap(rt.alloc()).expect(&rt, "memory");
+    let alloc = heap(&rt, rt.alloc());
     let left = from_start(&rt, alloc);
     let right = from_c(&rt, alloc);
-    alloc.refuse(1);
-    assert_that(&rt, left.joined(&right).is_err());
-    assert_equal(&rt, alloc.left(), 0);
-    alloc.refuse(2);
-    assert_that(&rt, left.joined(&right).is_ok());
-    assert_equal(&rt, alloc.left(), 1);
+    for growth in 1..=2 {
+        alloc.refuse(growth);
+        let refused = joined_inner(&rt, &left, &right).is_err();
+        is_refused(&rt, alloc, refused, growth <= 1);
+    }
 }
 
 #[test]
 fn another_child_takes_one_growth_and_one_for_a_long_separator(rt: HostRuntime) {
-    let alloc = heap(rt.alloc()).expect(&rt, "memory");
+    let alloc = heap(&rt, rt.alloc());
     let inner = from_start_and_c(&rt, alloc);
-    let sep = key(alloc, LONG).expect(&rt, "memory");
-    for growth in 1..=2 {
+    let sep = key(&rt, alloc, LONG);
+    for growth in 1..=3 {
         alloc.refuse(growth);
-        assert_that(&rt, inner.with_child(&sep, PageId(5)).is_err());
-        assert_equal(&rt, alloc.left(), 0);
+        let refused = with_child(&rt, &inner, &sep, PageId(5)).is_err();
+        is_refused(&rt, alloc, refused, growth <= 2);
     }
-    alloc.refuse(3);
-    assert_that(&rt, inner.with_child(&sep, PageId(5)).is_ok());
-    assert_equal(&rt, alloc.left(), 1);
 }
 
 #[test]
 fn one_child_less_takes_one_growth(rt: HostRuntime) {
-    let alloc = heap(rt.alloc()).expect(&rt, "memory");
+    let alloc = heap(&rt, rt.alloc());
     let inner = from_start_and_c(&rt, alloc);
-    let sep = key(alloc, b"c").expect(&rt, "memory");
-    alloc.refuse(1);
-    assert_that(&rt, inner.without_child(&sep).is_err());
-    assert_equal(&rt, alloc.left(), 0);
-    alloc.refuse(2);
-    assert_that(&rt, inner.without_child(&sep).is_ok());
-    assert_equal(&rt, alloc.left(), 1);
+    let sep = key(&rt, alloc, b"c");
+    for growth in 1..=2 {
+        alloc.refuse(growth);
+        let refused = without_child(&rt, &inner, &sep).is_err();
+        is_refused(&rt, alloc, refused, growth <= 1);
+    }
 }
 
 #[test]
 fn the_half_of_an_inner_page_takes_one_growth_and_two_for_a_long_low_key(rt: HostRuntime) {
-    let alloc = heap(rt.alloc()).expect(&rt, "memory");
-    let inner = from_start_and_c(&rt, alloc)
-        .with_child(&key(alloc, LONG).expect(&rt, "memory"), PageId(5))
-        .expect(&rt, "memory");
-    assert!(rt; inner.children().len() == 3);
-    for growth in 1..=3 {
+    let alloc = heap(&rt, rt.alloc());
+    let inner = three_children(&rt, alloc);
+    for growth in 1..=4 {
         alloc.refuse(growth);
-        assert_that(&rt, inner.upper_half(1).is_err());
-        assert_equal(&rt, alloc.left(), 0);
+        let refused = upper_half_inner(&rt, &inner, 1).is_err();
+        is_refused(&rt, alloc, refused, growth <= 3);
     }
-    alloc.refuse(4);
-    assert_that(&rt, inner.upper_half(1).is_ok());
-    assert_equal(&rt, alloc.left(), 1);
 }
