@@ -6,45 +6,48 @@ use bw_key::Key;
 use bw_memory::Alloc;
 use bw_model::Pairs;
 use bw_tree::{Memory, Scans, Tree};
+use std::alloc::Global;
 use std::process::Abort;
+
+// Compares the first pairs of a range of three leaves.
+fn first_of_three<R: Abort>(rt: &R, global: Global, range: Range, wanted: &[TextPair]) {
+    let alloc = heap(rt, global);
+    has_first(rt, alloc, &three_leaves(rt, alloc), range, wanted);
+}
+
+// Compares the last pairs of a range of three leaves, the greatest key first.
+fn last_of_three<R: Abort>(rt: &R, global: Global, range: Range, wanted: &[TextPair]) {
+    let alloc = heap(rt, global);
+    has_last(rt, alloc, &three_leaves(rt, alloc), range, wanted);
+}
 
 #[test]
 fn a_scan_goes_on_from_leaf_to_leaf(rt: HostRuntime) {
-    let alloc = heap(&rt, rt.alloc());
-    let tree = three_leaves(&rt, alloc);
     let wanted: &[TextPair] = &[(b"b", b"2"), (b"c", b"3")];
-    has_first(&rt, alloc, &tree, (b"b", None, 2), wanted);
+    first_of_three(&rt, rt.alloc(), (b"b", None, 2), wanted);
 }
 
 #[test]
 fn a_scan_stops_before_its_end(rt: HostRuntime) {
-    let alloc = heap(&rt, rt.alloc());
-    let tree = three_leaves(&rt, alloc);
     let wanted: &[TextPair] = &[(b"a", b"1"), (b"b", b"2")];
-    has_first(&rt, alloc, &tree, (b"", Some(b"c"), 9), wanted);
+    first_of_three(&rt, rt.alloc(), (b"", Some(b"c"), 9), wanted);
 }
 
 #[test]
 fn a_scan_back_goes_on_from_leaf_to_leaf(rt: HostRuntime) {
-    let alloc = heap(&rt, rt.alloc());
-    let tree = three_leaves(&rt, alloc);
     let wanted: &[TextPair] = &[(b"e", b"5"), (b"c", b"3"), (b"b", b"2")];
-    has_last(&rt, alloc, &tree, (b"b", None, u64::MAX), wanted);
+    last_of_three(&rt, rt.alloc(), (b"b", None, u64::MAX), wanted);
 }
 
 #[test]
 fn a_scan_back_begins_below_its_end(rt: HostRuntime) {
-    let alloc = heap(&rt, rt.alloc());
-    let tree = three_leaves(&rt, alloc);
     let wanted: &[TextPair] = &[(b"c", b"3"), (b"b", b"2")];
-    has_last(&rt, alloc, &tree, (b"", Some(b"e"), 2), wanted);
+    last_of_three(&rt, rt.alloc(), (b"", Some(b"e"), 2), wanted);
 }
 
 #[test]
 fn a_scan_back_of_no_range_has_no_pairs(rt: HostRuntime) {
-    let alloc = heap(&rt, rt.alloc());
-    let tree = three_leaves(&rt, alloc);
-    has_last(&rt, alloc, &tree, (b"c", Some(b"c"), 9), &[]);
+    last_of_three(&rt, rt.alloc(), (b"c", Some(b"c"), 9), &[]);
 }
 
 // Compares the first pairs of a range, which these scans find.
@@ -177,10 +180,11 @@ fn scan_refused<R: Abort>(
 }
 
 // Sees that a scan from the first leaf on takes two growths.
-fn takes_two_growths<R: Abort>(rt: &R, alloc: Alloc, tree: &Tree, back: bool, wanted: &[TextPair]) {
-    let from = key(rt, alloc, b"b");
+fn takes_two_growths<R: Abort>(rt: &R, global: Global, back: bool, wanted: &[TextPair]) {
+    let alloc = heap(rt, global);
+    let (tree, from) = (three_leaves(rt, alloc), key(rt, alloc, b"b"));
     for growth in 1..100 {
-        if !scan_refused(rt, alloc, tree, &from, (back, growth), wanted) {
+        if !scan_refused(rt, alloc, &tree, &from, (back, growth), wanted) {
             assert_equal(rt, growth, 3);
             return;
         }
@@ -190,16 +194,12 @@ fn takes_two_growths<R: Abort>(rt: &R, alloc: Alloc, tree: &Tree, back: bool, wa
 
 #[test]
 fn a_scan_of_leaves_without_writes_takes_memory_for_its_answer_alone(rt: HostRuntime) {
-    let alloc = heap(&rt, rt.alloc());
-    let tree = three_leaves(&rt, alloc);
     let wanted: &[TextPair] = &[(b"b", b"2"), (b"c", b"3"), (b"e", b"5")];
-    takes_two_growths(&rt, alloc, &tree, false, wanted);
+    takes_two_growths(&rt, rt.alloc(), false, wanted);
 }
 
 #[test]
 fn a_scan_back_of_leaves_without_writes_takes_memory_for_its_answer_alone(rt: HostRuntime) {
-    let alloc = heap(&rt, rt.alloc());
-    let tree = three_leaves(&rt, alloc);
     let wanted: &[TextPair] = &[(b"e", b"5"), (b"c", b"3"), (b"b", b"2")];
-    takes_two_growths(&rt, alloc, &tree, true, wanted);
+    takes_two_growths(&rt, rt.alloc(), true, wanted);
 }
