@@ -3,6 +3,7 @@ ghost use Rattle.std.specs.Prelude.{◌≡◌, true, false, map, nat_eq};
 ghost use Rattle.std.specs.List.{AllByRecursion};
 ghost use Rattle.bw_delta.specs.History.{pointed_to, HasDistinctStamps};
 
+use crate::tests::assertions::assert_equal;
 use bw_delta::{Action, Memory, Replay, Write, leaf_as_of, value_as_of};
 use bw_fixtures::{are, pair, two};
 use bw_key::Key;
@@ -162,7 +163,9 @@ pub fn replay_at<'a, R: Abort>(
     stamp: u64,
 ) -> Replay<'a> {
     let replay = replay_of(rt, alloc, parts, high, writes).expect(rt, "memory");
-    advanced(rt, replay, stamp).expect(rt, "memory")
+    let replay = advanced(rt, replay, stamp).expect(rt, "memory");
+    assert_equal(rt, replay.stamp(), stamp);
+    replay
 }
 
 /// The first pairs of a replay from `low` on and below `high`.

@@ -141,7 +141,8 @@ fn a_change_takes_no_memory_for_the_pairs_beside_it(rt: HostRuntime) {
 fn used_by<R: Abort>(rt: &R, alloc: Alloc, leaf: &Leaf, writes: &[&Write]) -> u64 {
     let replay = replay_of(rt, alloc, &[leaf], None, writes).expect(rt, "memory");
     let before = alloc.used();
-    let _replay = advanced(rt, replay, 9).expect(rt, "memory");
+    let replay = advanced(rt, replay, 9).expect(rt, "memory");
+    assert_equal(rt, replay.stamp(), 9);
     alloc.used().saturating_sub(before)
 }
 
