@@ -18,6 +18,16 @@ fn key_of<R: Abort>(rt: &R, alloc: Alloc, number: u16) -> Key {
     key(alloc, &bytes[from..]).expect(rt, "a key")
 }
 
+// A copy of a key, if there is one.
+fn copied<R: Abort>(rt: &R, key: Option<&Key>) -> Option<Key>
+    ensures { result ≡ option_copied key.entry }
+{
+    match key {
+        Some(key) => Some(key.copy().expect(rt, "a key")),
+        None => None,
+    }
+}
+
 // The leaf of one pair, that of this number.
 fn leaf_of_one<R: Abort>(
     rt: &R,
@@ -39,8 +49,7 @@ fn leaf_of_one<R: Abort>(
     let bytes = value(alloc, at.bytes()).expect(rt, "a value");
     let pairs = one(alloc, (at, bytes)).expect(rt, "the pair");
     let begin = low.copy().expect(rt, "a key");
-    let end = high.map(|key| key.copy().expect(rt, "a key"));
-    Leaf::from_pairs(begin, end, side, pairs)
+    Leaf::from_pairs(begin, copied(rt, high), side, pairs)
 }
 
 // The leaf of the pairs of the numbers from `from` on and below `to`, and of one at least.

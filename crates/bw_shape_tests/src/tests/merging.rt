@@ -1,307 +1,338 @@
 // Pages merged into their left neighbours, index entries that go, and roots with one child.
-ghost use Rattle.std.specs.Prelude.{◌≡◌, [], ◌∷◌, Some, None, IfOk};
+ghost use Rattle.std.specs.Prelude.{◌≡◌, [], ◌∷◌, Some, None};
 
-use super::making::{
-    FLOOR, consolidate_does, finds, finish_does, five, grow_does, split_does, stands,
+use super::making::{FLOOR, Pair, memory};
+use super::scripts::Call::{
+    Absorb, Consolidate, DropRoot, FinishAbsorb, FinishSplit, GrowRoot, Split,
 };
-use super::shapes::{Wanted, has_pages};
-use super::tidying::{did, four_pairs};
-use crate::tests::assertions::{assert_equal, assert_that};
-use bw_fixtures::{are, heap, key};
+use super::scripts::Start::{FivePairs, TwoPairs};
+use super::scripts::Step::{Done, NotNeeded, Seen, Tidied};
+use super::scripts::{Step, play, take_all, tree_after};
+use super::shapes::Wanted;
+use super::sights::Sight::{
+    Finds, Holds, Level, Namer, NamerOfRemoved, NoLowKey, Pages, Removed, RemovedInto, Stands,
+};
+use bw_fixtures::key;
 use bw_memory::Alloc;
 use bw_model::Pairs;
 use bw_page::Leaf;
-use bw_shape::{Did, Memory, PageId, Tree, absorb, drop_root, finish_absorb, tidy};
+use bw_shape::{PageId, Tree};
 use std::process::Abort;
 
-/// Merges a page into its left neighbour, and compares what that did.
-pub fn absorb_does<R: Abort>(rt: &R, tree: &mut Tree, page: u32, wanted: Did)
-    requires { tree.old.staged ≡ None }
-    ensures { tree.new.staged ≡ None }
-{
-    assert_equal(rt, absorb(tree, PageId(page)), Ok(wanted));
-}
-
-/// Finishes a merge, and compares what that did.
-pub fn forget_does<R: Abort>(rt: &R, tree: &mut Tree, page: u32, wanted: Did)
-    requires { tree.old.staged ≡ None }
-    ensures { tree.new.staged ≡ None }
-{
-    assert_equal(rt, finish_absorb(tree, PageId(page)), Ok(wanted));
-}
-
-/// Lowers the root, and compares what that did.
-pub fn drop_does<R: Abort>(rt: &R, tree: &mut Tree, wanted: Did)
-    requires { tree.old.staged ≡ None }
-    ensures { tree.new.staged ≡ None }
-{
-    assert_equal(rt, drop_root(tree), Ok(wanted));
-}
-
 // The leaf up to c, with page 1 at its right: a 1.
-fn up_to_c(alloc: Alloc) -> Result<Leaf, Memory>
-    ensures low { IfOk result (λ leaf. leaf.low ≡ []) }
-    ensures high { IfOk result (λ leaf. leaf.high ≡ Some (99 ∷ [])) }
-    ensures side { IfOk result (λ leaf. leaf.side ≡ Some 1) }
+fn up_to_c<R: Abort>(rt: &R, alloc: Alloc) -> Leaf
+    ensures low { result.low ≡ [] }
+    ensures high { result.high ≡ Some (99 ∷ []) }
+    ensures side { result.side ≡ Some 1 }
 {
     let mut pairs = Pairs::new(alloc);
-    pairs.push(b"a", b"1")?;
-    let (low, high) = (key(alloc, b"")?, key(alloc, b"c")?);
-    Ok(Leaf::from_pairs(low, Some(high), Some(PageId(1)), pairs))
+    pairs.push(b"a", b"1").expect(rt, "a pair");
+    let low = key(alloc, b"").expect(rt, "a key");
+    let high = key(alloc, b"c").expect(rt, "a key");
+    Leaf::from_pairs(low, Some(high), Some(PageId(1)), pairs)
 }
 
 // The leaf from c on: c 3.
-fn from_c(alloc: Alloc) -> Result<Leaf, Memory>
-    ensures low { IfOk result (λ leaf. leaf.low ≡ 99 ∷ []) }
-    ensures high { IfOk result (λ leaf. leaf.high ≡ None) }
-    ensures side { IfOk result (λ leaf. leaf.side ≡ None) }
+fn from_c<R: Abort>(rt: &R, alloc: Alloc) -> Leaf
+    ensures low { result.low ≡ 99 ∷ [] }
+    ensures high { result.high ≡ None }
+    ensures side { result.side ≡ None }
 {
     let mut pairs = Pairs::new(alloc);
-    pairs.push(b"c", b"3")?;
-    Ok(Leaf::from_pairs(key(alloc, b"c")?, None, None, pairs))
+    pairs.push(b"c", b"3").expect(rt, "a pair");
+    Leaf::from_pairs(key(alloc, b"c").expect(rt, "a key"), None, None, pairs)
 }
 
 /// The tree of these two leaves, with page 2 as their root.
 pub fn of_two_pairs<R: Abort>(rt: &R, alloc: Alloc) -> Tree
     ensures { result.staged ≡ None }
 {
-    let left = up_to_c(alloc).expect(rt, "a leaf");
-    let right = from_c(alloc).expect(rt, "a leaf");
-    let leaves = vec![in alloc; left, right].expect(rt, "the leaves");
+    let leaves = vec![in alloc; up_to_c(rt, alloc), from_c(rt, alloc)].expect(rt, "the leaves");
     Tree::from_level(alloc, leaves).expect(rt, "a tree")
 }
 
-// All that is read of that tree.
-const TWO_PAIRS: &[(&[u8], &[u8])] = &[(b"a", b"1"), (b"c", b"3")];
+/// All that is read of that tree.
+pub const TWO_PAIRS: &[Pair] = &[(b"a", b"1"), (b"c", b"3")];
 
-/// Compares all that is read of that tree.
-pub fn has_two_pairs<R: Abort>(rt: &R, alloc: Alloc, tree: &Tree) {
-    let from = key(alloc, b"").expect(rt, "a key");
-    let pairs = tree.scan_at(&from, None, 9, 0).expect(rt, "the pairs");
-    assert_that(rt, are(&pairs, TWO_PAIRS));
-}
-
-/// The tree of five pairs as two leaves without records, 0 and 1, under the root 2, which names both.
-pub fn two_leaves<R: Abort>(rt: &R, alloc: Alloc) -> Tree
-    ensures { result.staged ≡ None }
-{
-    let mut tree = five(rt, alloc);
-    split_does(rt, &mut tree, 0, 2, Did::Done);
-    grow_does(rt, &mut tree, Did::Done);
-    consolidate_does(rt, &mut tree, 0, Did::Done);
-    tree
-}
+/// What leads to the tree of five pairs as two leaves without records, 0 and 1, under the root 2, which names both.
+pub const TWO_LEAVES: &[Step] = &[Done(Split(0, 2)), Done(GrowRoot), Done(Consolidate(0))];
 
 /// Both pairs on one leaf.
 pub const ONE_LEAF: &[Wanted] = &[(0, 0, b"", None, 2, 0)];
 
+const A_LEFT_MERGE_IS_FINISHED: &[Step] = &[
+    Done(Absorb(1)),
+    Tidied(0, 0),
+    Seen(Pages(ONE_LEAF)),
+    Seen(Holds(TWO_PAIRS)),
+];
+
 // A merge was left where the page above still names the leaf. Tidying all pages finishes it, and the root goes.
 #[test]
 fn a_merge_that_was_left_is_finished(rt: HostRuntime) {
-    let alloc = heap(rt.alloc()).expect(&rt, "memory");
-    let mut tree = of_two_pairs(&rt, alloc);
-    absorb_does(&rt, &mut tree, 1, Did::Done);
-    assert_equal(&rt, tidy(&mut tree, &four_pairs()), did(0, 0));
-    has_pages(&rt, &tree, ONE_LEAF);
-    has_two_pairs(&rt, alloc, &tree);
+    play(&rt, rt.alloc(), TwoPairs, &[], A_LEFT_MERGE_IS_FINISHED);
 }
+
+const A_LEAF_IS_MERGED: &[Step] = &[
+    Seen(Stands(2, &[0, 1, 2])),
+    Done(Absorb(1)),
+    Seen(Stands(2, &[FLOOR + 2, 1, 2])),
+    Seen(Level(1, None)),
+    Seen(Finds(0, b"c", Some(0))),
+    Seen(Finds(0, b"b", Some(0))),
+    NotNeeded(Absorb(1)),
+    Done(FinishAbsorb(1)),
+    Seen(Stands(2, &[FLOOR + 2, 1, FLOOR + 3])),
+    NotNeeded(FinishAbsorb(1)),
+    Done(DropRoot),
+    Seen(Stands(0, &[FLOOR + 2, 1, 2])),
+    NotNeeded(DropRoot),
+    Done(Consolidate(0)),
+    Seen(Stands(0, &[0, 1, 2])),
+    Done(Split(0, 1)),
+    Seen(Stands(0, &[FLOOR + 4, 1, 2, 3])),
+];
 
 #[test]
 fn a_leaf_is_merged_into_its_left_neighbour(rt: HostRuntime) {
-    let alloc = heap(rt.alloc()).expect(&rt, "memory");
-    let mut tree = two_leaves(&rt, alloc);
-    stands(&rt, alloc, &tree, 2, &[0, 1, 2]);
-    absorb_does(&rt, &mut tree, 1, Did::Done);
-    stands(&rt, alloc, &tree, 2, &[FLOOR + 2, 1, 2]);
-    assert_equal(&rt, tree.in_level(PageId(1)), None);
-    finds(&rt, alloc, &tree, 0, b"c", Some(0));
-    finds(&rt, alloc, &tree, 0, b"b", Some(0));
-    absorb_does(&rt, &mut tree, 1, Did::NotNeeded);
-    forget_does(&rt, &mut tree, 1, Did::Done);
-    stands(&rt, alloc, &tree, 2, &[FLOOR + 2, 1, FLOOR + 3]);
-    forget_does(&rt, &mut tree, 1, Did::NotNeeded);
-    drop_does(&rt, &mut tree, Did::Done);
-    stands(&rt, alloc, &tree, 0, &[FLOOR + 2, 1, 2]);
-    drop_does(&rt, &mut tree, Did::NotNeeded);
-    consolidate_does(&rt, &mut tree, 0, Did::Done);
-    stands(&rt, alloc, &tree, 0, &[0, 1, 2]);
-    split_does(&rt, &mut tree, 0, 1, Did::Done);
-    stands(&rt, alloc, &tree, 0, &[FLOOR + 4, 1, 2, 3]);
+    play(&rt, rt.alloc(), FivePairs, TWO_LEAVES, A_LEAF_IS_MERGED);
 }
+
+const NO_MERGE_IS_NEEDED: &[Step] = &[
+    NotNeeded(Absorb(0)),
+    NotNeeded(Absorb(2)),
+    NotNeeded(Absorb(9)),
+    NotNeeded(FinishAbsorb(1)),
+    NotNeeded(FinishAbsorb(9)),
+    NotNeeded(DropRoot),
+    Seen(Stands(2, &[0, 1, 2])),
+];
 
 #[test]
 fn a_merge_that_is_not_needed_changes_nothing(rt: HostRuntime) {
-    let alloc = heap(rt.alloc()).expect(&rt, "memory");
-    let mut tree = two_leaves(&rt, alloc);
-    absorb_does(&rt, &mut tree, 0, Did::NotNeeded);
-    absorb_does(&rt, &mut tree, 2, Did::NotNeeded);
-    absorb_does(&rt, &mut tree, 9, Did::NotNeeded);
-    forget_does(&rt, &mut tree, 1, Did::NotNeeded);
-    forget_does(&rt, &mut tree, 9, Did::NotNeeded);
-    drop_does(&rt, &mut tree, Did::NotNeeded);
-    stands(&rt, alloc, &tree, 2, &[0, 1, 2]);
+    play(&rt, rt.alloc(), FivePairs, TWO_LEAVES, NO_MERGE_IS_NEEDED);
 }
+
+const A_RECORD_IS_IN_THE_WAY: &[Step] = &[
+    Done(Split(1, 1)),
+    Seen(Stands(2, &[0, FLOOR + 1, 2, 3])),
+    NotNeeded(Absorb(1)),
+    NotNeeded(Absorb(3)),
+    Done(Consolidate(1)),
+    NotNeeded(Absorb(3)),
+    Done(Absorb(1)),
+    Seen(Stands(2, &[FLOOR + 3, 1, 2, 3])),
+    Seen(Finds(0, b"c", Some(0))),
+    Seen(Finds(0, b"d", Some(3))),
+];
 
 // A page that has a record, or whose left neighbour has one, isn't merged; nor is one that the level above doesn't name.
 #[test]
 fn a_page_with_a_record_is_not_merged(rt: HostRuntime) {
-    let alloc = heap(rt.alloc()).expect(&rt, "memory");
-    let mut tree = two_leaves(&rt, alloc);
-    split_does(&rt, &mut tree, 1, 1, Did::Done);
-    stands(&rt, alloc, &tree, 2, &[0, FLOOR + 1, 2, 3]);
-    absorb_does(&rt, &mut tree, 1, Did::NotNeeded);
-    absorb_does(&rt, &mut tree, 3, Did::NotNeeded);
-    consolidate_does(&rt, &mut tree, 1, Did::Done);
-    absorb_does(&rt, &mut tree, 3, Did::NotNeeded);
-    absorb_does(&rt, &mut tree, 1, Did::Done);
-    stands(&rt, alloc, &tree, 2, &[FLOOR + 3, 1, 2, 3]);
-    finds(&rt, alloc, &tree, 0, b"c", Some(0));
-    finds(&rt, alloc, &tree, 0, b"d", Some(3));
+    play(
+        &rt,
+        rt.alloc(),
+        FivePairs,
+        TWO_LEAVES,
+        A_RECORD_IS_IN_THE_WAY,
+    );
 }
 
-/// Leaves 0, 1 and 3 under the root 2, which names the last one by a record, behind the merge of that one into leaf 1.
-pub fn merged_under_a_record<R: Abort>(rt: &R, alloc: Alloc) -> Tree
-    ensures { result.staged ≡ None }
-{
-    let mut tree = two_leaves(rt, alloc);
-    split_does(rt, &mut tree, 1, 1, Did::Done);
-    finish_does(rt, &mut tree, 1, Did::Done);
-    consolidate_does(rt, &mut tree, 1, Did::Done);
-    absorb_does(rt, &mut tree, 3, Did::Done);
-    tree
-}
+/// What leads to leaves 0, 1 and 3 under the root 2, which names the last one by a record, behind the merge of that one into
+/// leaf 1.
+pub const MERGED_UNDER_A_RECORD: &[Step] = &[
+    Done(Split(0, 2)),
+    Done(GrowRoot),
+    Done(Consolidate(0)),
+    Done(Split(1, 1)),
+    Done(FinishSplit(1)),
+    Done(Consolidate(1)),
+    Done(Absorb(3)),
+];
+
+const AN_ENTRY_GOES_BEHIND_A_RECORD: &[Step] = &[
+    Seen(Stands(2, &[0, FLOOR + 4, FLOOR + 2, 3])),
+    Done(FinishAbsorb(3)),
+    Seen(Stands(2, &[0, FLOOR + 4, FLOOR + 5, 3])),
+    NotNeeded(FinishAbsorb(3)),
+    Seen(Finds(0, b"d", Some(1))),
+    NotNeeded(DropRoot),
+];
 
 #[test]
 fn a_page_above_with_a_record_drops_an_entry(rt: HostRuntime) {
-    let alloc = heap(rt.alloc()).expect(&rt, "memory");
-    let mut tree = merged_under_a_record(&rt, alloc);
-    stands(&rt, alloc, &tree, 2, &[0, FLOOR + 4, FLOOR + 2, 3]);
-    forget_does(&rt, &mut tree, 3, Did::Done);
-    stands(&rt, alloc, &tree, 2, &[0, FLOOR + 4, FLOOR + 5, 3]);
-    forget_does(&rt, &mut tree, 3, Did::NotNeeded);
-    finds(&rt, alloc, &tree, 0, b"d", Some(1));
-    drop_does(&rt, &mut tree, Did::NotNeeded);
+    play(
+        &rt,
+        rt.alloc(),
+        FivePairs,
+        MERGED_UNDER_A_RECORD,
+        AN_ENTRY_GOES_BEHIND_A_RECORD,
+    );
 }
+
+// What leads from those two leaves to a new page that begins where the removed one did.
+const MERGED_AND_PARTED: &[Step] = &[
+    Done(Split(0, 2)),
+    Done(GrowRoot),
+    Done(Consolidate(0)),
+    Done(Absorb(1)),
+    Done(Consolidate(0)),
+    Done(Split(0, 2)),
+];
+
+const AN_ENTRY_IS_TAKEN: &[Step] = &[
+    Seen(Stands(2, &[FLOOR + 3, 1, 2, 3])),
+    Seen(Finds(0, b"c", Some(3))),
+    Seen(Namer(3, None)),
+    Seen(NamerOfRemoved(1, Some(2))),
+    Done(FinishSplit(0)),
+    Seen(Namer(3, Some(2))),
+    Seen(NamerOfRemoved(1, None)),
+    NotNeeded(FinishAbsorb(1)),
+    NotNeeded(FinishSplit(0)),
+    Seen(Stands(2, &[FLOOR + 3, 1, FLOOR + 4, 3])),
+    Seen(Finds(0, b"c", Some(3))),
+];
 
 // A page may begin where a removed one did before that merge is finished. It takes the place of that one's entry.
 #[test]
 fn a_new_page_takes_the_entry_of_a_removed_one(rt: HostRuntime) {
-    let alloc = heap(rt.alloc()).expect(&rt, "memory");
-    let mut tree = two_leaves(&rt, alloc);
-    absorb_does(&rt, &mut tree, 1, Did::Done);
-    consolidate_does(&rt, &mut tree, 0, Did::Done);
-    split_does(&rt, &mut tree, 0, 2, Did::Done);
-    stands(&rt, alloc, &tree, 2, &[FLOOR + 3, 1, 2, 3]);
-    finds(&rt, alloc, &tree, 0, b"c", Some(3));
-    assert_equal(&rt, tree.namer(PageId(3)), None);
-    assert_equal(&rt, tree.namer_of_removed(PageId(1)), Some(PageId(2)));
-    finish_does(&rt, &mut tree, 0, Did::Done);
-    assert_equal(&rt, tree.namer(PageId(3)), Some(PageId(2)));
-    assert_equal(&rt, tree.namer_of_removed(PageId(1)), None);
-    forget_does(&rt, &mut tree, 1, Did::NotNeeded);
-    finish_does(&rt, &mut tree, 0, Did::NotNeeded);
-    stands(&rt, alloc, &tree, 2, &[FLOOR + 3, 1, FLOOR + 4, 3]);
-    finds(&rt, alloc, &tree, 0, b"c", Some(3));
+    play(
+        &rt,
+        rt.alloc(),
+        FivePairs,
+        MERGED_AND_PARTED,
+        AN_ENTRY_IS_TAKEN,
+    );
 }
+
+const AN_ENTRY_OF_ITS_OWN: &[Step] = &[
+    Done(FinishAbsorb(1)),
+    Done(FinishSplit(0)),
+    Seen(Stands(2, &[FLOOR + 3, 1, FLOOR + 5, 3])),
+    Seen(Finds(0, b"c", Some(3))),
+];
 
 // And where the merge is finished first, it gets an entry of its own.
 #[test]
 fn a_new_page_gets_an_entry_where_a_removed_one_had_its(rt: HostRuntime) {
-    let alloc = heap(rt.alloc()).expect(&rt, "memory");
-    let mut tree = two_leaves(&rt, alloc);
-    absorb_does(&rt, &mut tree, 1, Did::Done);
-    consolidate_does(&rt, &mut tree, 0, Did::Done);
-    split_does(&rt, &mut tree, 0, 2, Did::Done);
-    forget_does(&rt, &mut tree, 1, Did::Done);
-    finish_does(&rt, &mut tree, 0, Did::Done);
-    stands(&rt, alloc, &tree, 2, &[FLOOR + 3, 1, FLOOR + 5, 3]);
-    finds(&rt, alloc, &tree, 0, b"c", Some(3));
+    play(
+        &rt,
+        rt.alloc(),
+        FivePairs,
+        MERGED_AND_PARTED,
+        AN_ENTRY_OF_ITS_OWN,
+    );
 }
+
+/// What leads to those two leaves, the second of which was removed, and is still named.
+pub const MERGED: &[Step] = &[
+    Done(Split(0, 2)),
+    Done(GrowRoot),
+    Done(Consolidate(0)),
+    Done(Absorb(1)),
+];
+
+// Compares the children of page 2, which has no record: the second one of two is page 1.
+fn names_the_removed_page<R: Abort>(rt: &R, tree: &Tree) {
+    assert!(rt; tree.is_plain(PageId(2)));
+    assert!(rt; tree.child_at(PageId(2), 1) == Some(PageId(1)));
+    assert!(rt; tree.child_at(PageId(2), 2) == None);
+}
+
+const NO_PAGE_BEGINS: &[Step] = &[
+    NotNeeded(Split(2, 1)),
+    Seen(Stands(2, &[FLOOR + 2, 1, 2])),
+    Done(FinishAbsorb(1)),
+    Seen(Stands(2, &[FLOOR + 2, 1, FLOOR + 3])),
+];
 
 // An inner page isn't split in front of an entry of a removed page, so that it can always drop that one.
 #[test]
 fn no_page_begins_with_a_removed_one(rt: HostRuntime) {
-    let alloc = heap(rt.alloc()).expect(&rt, "memory");
-    let mut tree = two_leaves(&rt, alloc);
-    absorb_does(&rt, &mut tree, 1, Did::Done);
-    assert!(rt; tree.is_plain(PageId(2)));
-    assert!(rt; tree.child_at(PageId(2), 1) == Some(PageId(1)));
-    assert!(rt; tree.child_at(PageId(2), 2) == None);
-    split_does(&rt, &mut tree, 2, 1, Did::NotNeeded);
-    stands(&rt, alloc, &tree, 2, &[FLOOR + 2, 1, 2]);
-    forget_does(&rt, &mut tree, 1, Did::Done);
-    stands(&rt, alloc, &tree, 2, &[FLOOR + 2, 1, FLOOR + 3]);
+    let alloc = memory(&rt, rt.alloc());
+    let mut tree = tree_after(&rt, alloc, FivePairs, MERGED);
+    names_the_removed_page(&rt, &tree);
+    take_all(&rt, alloc, &mut tree, NO_PAGE_BEGINS);
 }
+
+const UNDER_TWO_PAGES: &[Step] = &[
+    Done(Split(2, 1)),
+    NotNeeded(Absorb(1)),
+    NotNeeded(Absorb(3)),
+    NotNeeded(DropRoot),
+    Seen(Stands(2, &[0, 1, FLOOR + 1, 3])),
+];
 
 // And the root doesn't go: it has one child, and a right neighbour.
 #[test]
 fn leaves_under_two_pages_are_not_merged(rt: HostRuntime) {
-    let alloc = heap(rt.alloc()).expect(&rt, "memory");
-    let mut tree = two_leaves(&rt, alloc);
-    split_does(&rt, &mut tree, 2, 1, Did::Done);
-    absorb_does(&rt, &mut tree, 1, Did::NotNeeded);
-    absorb_does(&rt, &mut tree, 3, Did::NotNeeded);
-    drop_does(&rt, &mut tree, Did::NotNeeded);
-    stands(&rt, alloc, &tree, 2, &[0, 1, FLOOR + 1, 3]);
+    play(&rt, rt.alloc(), FivePairs, TWO_LEAVES, UNDER_TWO_PAGES);
 }
+
+const INNER_PAGES_ARE_MERGED: &[Step] = &[
+    Done(Split(2, 1)),
+    Done(GrowRoot),
+    Done(Consolidate(2)),
+    Seen(Stands(4, &[0, 1, 2, 3, 4])),
+    Done(Absorb(3)),
+    Seen(Stands(4, &[0, 1, FLOOR + 3, 3, 4])),
+    Seen(Finds(1, b"c", Some(2))),
+    Seen(Finds(0, b"c", Some(1))),
+    Done(FinishAbsorb(3)),
+    Done(DropRoot),
+    Seen(Stands(2, &[0, 1, FLOOR + 3, 3, 4])),
+    NotNeeded(DropRoot),
+    Done(Consolidate(2)),
+    Done(Absorb(1)),
+    Done(FinishAbsorb(1)),
+    Done(DropRoot),
+    Seen(Stands(0, &[FLOOR + 6, 1, 2, 3, 4])),
+];
 
 #[test]
 fn inner_pages_are_merged_too(rt: HostRuntime) {
-    let alloc = heap(rt.alloc()).expect(&rt, "memory");
-    let mut tree = two_leaves(&rt, alloc);
-    split_does(&rt, &mut tree, 2, 1, Did::Done);
-    grow_does(&rt, &mut tree, Did::Done);
-    consolidate_does(&rt, &mut tree, 2, Did::Done);
-    stands(&rt, alloc, &tree, 4, &[0, 1, 2, 3, 4]);
-    absorb_does(&rt, &mut tree, 3, Did::Done);
-    stands(&rt, alloc, &tree, 4, &[0, 1, FLOOR + 3, 3, 4]);
-    finds(&rt, alloc, &tree, 1, b"c", Some(2));
-    finds(&rt, alloc, &tree, 0, b"c", Some(1));
-    forget_does(&rt, &mut tree, 3, Did::Done);
-    drop_does(&rt, &mut tree, Did::Done);
-    stands(&rt, alloc, &tree, 2, &[0, 1, FLOOR + 3, 3, 4]);
-    drop_does(&rt, &mut tree, Did::NotNeeded);
-    consolidate_does(&rt, &mut tree, 2, Did::Done);
-    absorb_does(&rt, &mut tree, 1, Did::Done);
-    forget_does(&rt, &mut tree, 1, Did::Done);
-    drop_does(&rt, &mut tree, Did::Done);
-    stands(&rt, alloc, &tree, 0, &[FLOOR + 6, 1, 2, 3, 4]);
+    play(
+        &rt,
+        rt.alloc(),
+        FivePairs,
+        TWO_LEAVES,
+        INNER_PAGES_ARE_MERGED,
+    );
 }
+
+const WHERE_A_PAGE_BEGAN: &[Step] = &[
+    Seen(Removed(1, false)),
+    Seen(Removed(9, false)),
+    Seen(NamerOfRemoved(1, None)),
+    Done(Absorb(1)),
+    Seen(RemovedInto(1, 0, 0, b"c")),
+    Seen(NamerOfRemoved(1, Some(2))),
+    Done(FinishAbsorb(1)),
+    Seen(Removed(1, true)),
+    Seen(NamerOfRemoved(1, None)),
+];
 
 #[test]
 fn what_is_left_of_a_page_says_where_it_began(rt: HostRuntime) {
-    let alloc = heap(rt.alloc()).expect(&rt, "memory");
-    let mut tree = two_leaves(&rt, alloc);
-    assert_that(&rt, tree.removed(PageId(1)).is_none());
-    assert_that(&rt, tree.removed(PageId(9)).is_none());
-    assert_equal(&rt, tree.namer_of_removed(PageId(1)), None);
-    absorb_does(&rt, &mut tree, 1, Did::Done);
-    let removed = tree.removed(PageId(1)).expect(&rt, "a removed page");
-    assert_equal(&rt, removed.left, PageId(0));
-    assert_equal(&rt, removed.level, 0);
-    assert_equal(&rt, removed.low.bytes(), b"c".as_slice());
-    assert_equal(&rt, tree.namer_of_removed(PageId(1)), Some(PageId(2)));
-    forget_does(&rt, &mut tree, 1, Did::Done);
-    assert_that(&rt, tree.removed(PageId(1)).is_some());
-    assert_equal(&rt, tree.namer_of_removed(PageId(1)), None);
+    play(&rt, rt.alloc(), FivePairs, TWO_LEAVES, WHERE_A_PAGE_BEGAN);
 }
+
+const A_ROOT_LEADS_TO_ITS_CHILD: &[Step] = &[
+    Done(Absorb(1)),
+    Done(FinishAbsorb(1)),
+    Seen(Removed(2, false)),
+    Done(DropRoot),
+    Seen(RemovedInto(2, 0, 1, b"")),
+    Seen(Level(2, None)),
+    Seen(NoLowKey(2)),
+    Seen(NamerOfRemoved(2, None)),
+    NotNeeded(FinishAbsorb(2)),
+    Seen(Holds(TWO_PAIRS)),
+];
 
 // A root that goes is a removed page, which leads to the page that takes its place.
 #[test]
 fn what_is_left_of_a_root_leads_to_its_child(rt: HostRuntime) {
-    let alloc = heap(rt.alloc()).expect(&rt, "memory");
-    let mut tree = of_two_pairs(&rt, alloc);
-    absorb_does(&rt, &mut tree, 1, Did::Done);
-    forget_does(&rt, &mut tree, 1, Did::Done);
-    assert_that(&rt, tree.removed(PageId(2)).is_none());
-    drop_does(&rt, &mut tree, Did::Done);
-    let removed = tree.removed(PageId(2)).expect(&rt, "a removed page");
-    assert_equal(&rt, removed.left, PageId(0));
-    assert_equal(&rt, removed.level, 1);
-    assert_equal(&rt, removed.low.bytes(), b"".as_slice());
-    assert_equal(&rt, tree.in_level(PageId(2)), None);
-    assert_that(&rt, tree.low_key(PageId(2)).is_none());
-    assert_equal(&rt, tree.namer_of_removed(PageId(2)), None);
-    forget_does(&rt, &mut tree, 2, Did::NotNeeded);
-    has_two_pairs(&rt, alloc, &tree);
+    play(&rt, rt.alloc(), TwoPairs, &[], A_ROOT_LEADS_TO_ITS_CHILD);
 }

@@ -1,14 +1,18 @@
 // Halves of one leaf that get their index entries at once: the tree is the one that the public steps make.
 ghost use Rattle.std.specs.Prelude.{◌≡◌, None};
+ghost use Rattle.bw_shape.specs.Limits.{AreWithinBut};
 
 use super::leaves::{reads_numbers, tree_of};
-use super::making::{finish_does, grow_does, split_does};
-use super::shapes::{abut_within, are_alike};
-use super::tidying::{are_within_but, due_of, four_pairs};
-use crate::tests::assertions::{assert_equal, assert_that};
-use bw_fixtures::{heap, was_refused};
+use super::making::memory;
+use super::scripts::Call::{FinishSplit, GrowRoot, Split};
+use super::scripts::Step::Done;
+use super::scripts::{Step, does, take_all};
+use super::shapes::{counts_pages, has_pages_of, has_small_pages};
+use super::tidying::{due_within, four_pairs, tidied, tidy_short};
+use crate::tests::assertions::assert_that;
 use bw_memory::Alloc;
-use bw_shape::{Did, PageId, Tree, consolidate, finish_split, tidy_due};
+use bw_shape::{Did, Due, Limits, PageId, Tree, consolidate, finish_split, tidy_due};
+use bw_tree::PageShape;
 use std::process::Abort;
 
 // The pairs' numbers, each of whose keys has two bytes.
@@ -16,16 +20,12 @@ const FROM: u16 = 4096;
 
 const TO: u16 = 6096;
 
-// Tidies a tree where these pages are due.
+// Tidies a tree where these pages are due, to the end.
 fn tidy_whole<R: Abort>(rt: &R, alloc: Alloc, tree: &mut Tree, pages: &[PageId])
     requires { tree.old.staged ≡ None }
     ensures { tree.new.staged ≡ None }
 {
-    let limits = four_pairs();
-    assert!(rt; are_within_but(tree, &limits, pages));
-    let mut due = due_of(rt, alloc, tree, pages);
-    let did = tidy_due(tree, &limits, &mut due);
-    assert!(rt; !did.stopped);
+    assert_that(rt, !tidied(rt, alloc, tree, pages).stopped);
 }
 
 // How many entries a page has.
@@ -50,9 +50,9 @@ fn halve<R: Abort>(rt: &R, tree: &mut Tree, page: PageId) -> Option<PageId>
     }
     consolidate(tree, page).expect(rt, "memory");
     let right = count_pages(rt, tree);
-    split_does(rt, tree, page.0, count / 2, Did::Done);
+    does(rt, tree, Split(page.0, count / 2), Did::Done);
     if finish_split(tree, page).expect(rt, "memory") == Did::NotNeeded {
-        grow_does(rt, tree, Did::Done);
+        does(rt, tree, GrowRoot, Did::Done);
     }
     Some(PageId(right))
 }
@@ -82,15 +82,20 @@ fn halve_all<R: Abort>(rt: &R, tree: &mut Tree, mut pages: Vec<PageId, Alloc>)
     }
 }
 
-// The pages of a level, the first one last.
-fn level_of<R: Abort>(rt: &R, alloc: Alloc, tree: &Tree, level: u32) -> Vec<PageId, Alloc> {
-    let mut pages = Vec::new(alloc);
-    let all = tree.shape().expect(rt, "the pages");
-    for page in &all {
+// Adds the pages of a level to a list.
+fn add_level<R: Abort>(rt: &R, all: &[PageShape], level: u32, pages: &mut Vec<PageId, Alloc>) {
+    for page in all {
         if page.level == level {
             pages.push(page.page).expect(rt, "a list");
         }
     }
+}
+
+// The pages of a level, the first one last.
+fn level_of<R: Abort>(rt: &R, alloc: Alloc, tree: &Tree, level: u32) -> Vec<PageId, Alloc> {
+    let mut pages = Vec::new(alloc);
+    let all = tree.shape().expect(rt, "the pages");
+    add_level(rt, &all, level, &mut pages);
     pages.reverse();
     pages
 }
@@ -110,10 +115,8 @@ fn tidy_by_steps<R: Abort>(rt: &R, alloc: Alloc, tree: &mut Tree)
 fn stands_as_by_steps<R: Abort>(rt: &R, alloc: Alloc, tree: &Tree) {
     let mut other = tree_of(rt, alloc, FROM, &[TO]);
     tidy_by_steps(rt, alloc, &mut other);
-    let pages = tree.shape().expect(rt, "the pages");
-    let wanted = other.shape().expect(rt, "the pages");
-    assert_that(rt, abut_within(&pages, 4));
-    assert_that(rt, are_alike(&pages, &wanted));
+    has_small_pages(rt, tree);
+    has_pages_of(rt, tree, &other);
 }
 
 // Compares that each right neighbour of a page has its index entry.
@@ -122,13 +125,13 @@ fn are_named<R: Abort>(rt: &R, tree: &mut Tree)
     ensures { tree.new.staged ≡ None }
 {
     for page in 0..count_pages(rt, tree) {
-        finish_does(rt, tree, page, Did::NotNeeded);
+        does(rt, tree, FinishSplit(page), Did::NotNeeded);
     }
 }
 
 #[test]
 fn a_leaf_of_2000_pairs_is_what_steps_make_of_it(rt: HostRuntime) {
-    let alloc = heap(rt.alloc()).expect(&rt, "memory");
+    let alloc = memory(&rt, rt.alloc());
     let mut tree = tree_of(&rt, alloc, FROM, &[TO]);
     tidy_whole(&rt, alloc, &mut tree, &[PageId(0)]);
     stands_as_by_steps(&rt, alloc, &tree);
@@ -144,7 +147,7 @@ const MOST: u64 = 2600;
 
 #[test]
 fn new_pages_of_2000_pairs_are_named_at_once(rt: HostRuntime) {
-    let alloc = heap(rt.alloc()).expect(&rt, "memory");
+    let alloc = memory(&rt, rt.alloc());
     let mut tree = tree_of(&rt, alloc, FROM, &[TO]);
     alloc.refuse(0);
     tidy_whole(&rt, alloc, &mut tree, &[PageId(0)]);
@@ -157,22 +160,32 @@ fn new_pages_of_2000_pairs_are_named_at_once(rt: HostRuntime) {
 const MIDDLE: &[u16] = &[4098, 4118, 4120];
 
 // Tidies three leaves where this growth is refused, and then to the end. Whether it was refused.
+fn tidy_in_two<R: Abort>(
+    rt: &R,
+    alloc: Alloc,
+    tree: &mut Tree,
+    limits: &Limits,
+    due: &mut Due,
+    growth: u64,
+) -> bool
+    requires none { tree.old.staged ≡ None }
+    requires within { AreWithinBut limits.now tree.old due.old.pages }
+    ensures { tree.new.staged ≡ None }
+{
+    let (_, refused) = tidy_short(rt, alloc, tree, limits, due, growth);
+    reads_numbers(rt, alloc, tree, FROM, 4120);
+    assert_that(rt, !tidy_due(tree, limits, due).stopped);
+    refused
+}
+
+// The same where the leaf in the middle is due.
 fn tidy_on<R: Abort>(rt: &R, alloc: Alloc, tree: &mut Tree, growth: u64) -> bool
     requires { tree.old.staged ≡ None }
     ensures { tree.new.staged ≡ None }
 {
     let limits = four_pairs();
-    let pages = [PageId(1)];
-    assert!(rt; are_within_but(tree, &limits, &pages));
-    let mut due = due_of(rt, alloc, tree, &pages);
-    alloc.refuse(growth);
-    let stopped = tidy_due(tree, &limits, &mut due).stopped;
-    let refused = was_refused(alloc, growth);
-    assert!(rt; refused || !stopped);
-    reads_numbers(rt, alloc, tree, FROM, 4120);
-    let did = tidy_due(tree, &limits, &mut due);
-    assert!(rt; !did.stopped);
-    refused
+    let mut due = due_within(rt, alloc, tree, &limits, &[PageId(1)]);
+    tidy_in_two(rt, alloc, tree, &limits, &mut due, growth)
 }
 
 // Does that, and compares the pages with those of a tree that was tidied at once. Whether the growth was refused.
@@ -184,16 +197,9 @@ fn middle_refused<R: Abort>(rt: &R, alloc: Alloc, wanted: &Tree, growth: u64) ->
     refused
 }
 
-// Compares the pages of two trees.
-fn has_pages_of<R: Abort>(rt: &R, tree: &Tree, wanted: &Tree) {
-    let pages = tree.shape().expect(rt, "the pages");
-    let wanted = wanted.shape().expect(rt, "the pages");
-    assert_that(rt, are_alike(&pages, &wanted));
-}
-
 #[test]
 fn a_stop_at_each_growth_leaves_what_is_tidied_to_the_same_pages(rt: HostRuntime) {
-    let alloc = heap(rt.alloc()).expect(&rt, "memory");
+    let alloc = memory(&rt, rt.alloc());
     let mut wanted = tree_of(&rt, alloc, FROM, MIDDLE);
     tidy_whole(&rt, alloc, &mut wanted, &[PageId(1)]);
     for growth in 1..1000 {
@@ -205,16 +211,17 @@ fn a_stop_at_each_growth_leaves_what_is_tidied_to_the_same_pages(rt: HostRuntime
     panic!(rt; "no run met no refusal")
 }
 
+// What gives the page above three leaves a record.
+const A_RECORD: &[Step] = &[Done(Split(1, 2)), Done(FinishSplit(1))];
+
 #[test]
 fn new_pages_are_named_over_a_page_with_a_record(rt: HostRuntime) {
-    let alloc = heap(rt.alloc()).expect(&rt, "memory");
+    let alloc = memory(&rt, rt.alloc());
     let mut tree = tree_of(&rt, alloc, FROM, &[4098, 4102, 4112]);
-    split_does(&rt, &mut tree, 1, 2, Did::Done);
-    finish_does(&rt, &mut tree, 1, Did::Done);
+    take_all(&rt, alloc, &mut tree, A_RECORD);
     tidy_whole(&rt, alloc, &mut tree, &[PageId(2)]);
     are_named(&rt, &mut tree);
-    let pages = tree.shape().expect(&rt, "the pages");
-    assert_equal(&rt, pages.len(), 10);
-    assert_that(&rt, abut_within(&pages, 4));
+    has_small_pages(&rt, &tree);
+    counts_pages(&rt, &tree, 10);
     reads_numbers(&rt, alloc, &tree, FROM, 4112);
 }

@@ -10,11 +10,7 @@ pub type Wanted = (u32, u32, &'static [u8], Option<&'static [u8]>, usize, usize)
 
 // Whether a range ends there.
 fn ends(high: Option<&Key>, wanted: Option<&'static [u8]>) -> bool {
-    match (high, wanted) {
-        (Some(high), Some(bytes)) => high.bytes() == bytes,
-        (None, None) => true,
-        _ => false,
-    }
+    high.map(|key| key.bytes()) == wanted
 }
 
 // Whether a page is listed so.
@@ -44,8 +40,8 @@ fn follows(page: &PageShape, end: Option<&Key>) -> bool {
     }
 }
 
-/// Whether the pages of each level abut, over all keys, and have no more entries than so many.
-pub fn abut_within(pages: &[PageShape], most: usize) -> bool {
+// Whether the pages of each level abut, over all keys, and have no more entries than so many.
+fn abut_within(pages: &[PageShape], most: usize) -> bool {
     let mut level = 0u32;
     let mut end = None;
     for page in pages {
@@ -70,12 +66,31 @@ fn is_alike(page: &PageShape, other: &PageShape) -> bool {
         && page.writes == other.writes
 }
 
-/// Whether two lists of pages are alike.
-pub fn are_alike(pages: &[PageShape], others: &[PageShape]) -> bool {
+// Whether two lists of pages are alike.
+fn are_alike(pages: &[PageShape], others: &[PageShape]) -> bool {
     for (page, other) in pages.iter().zip(others) {
         if !is_alike(page, other) {
             return false;
         }
     }
     pages.len() == others.len()
+}
+
+/// Compares the pages of two trees.
+pub fn has_pages_of<R: Abort>(rt: &R, tree: &Tree, wanted: &Tree) {
+    let pages = tree.shape().expect(rt, "the pages");
+    let wanted = wanted.shape().expect(rt, "the pages");
+    assert_that(rt, are_alike(&pages, &wanted));
+}
+
+/// Compares how many pages a tree has.
+pub fn counts_pages<R: Abort>(rt: &R, tree: &Tree, wanted: usize) {
+    let pages = tree.shape().expect(rt, "the pages");
+    assert_equal(rt, pages.len(), wanted);
+}
+
+/// Looks whether the pages of each level abut, and have four entries at most.
+pub fn has_small_pages<R: Abort>(rt: &R, tree: &Tree) {
+    let pages = tree.shape().expect(rt, "the pages");
+    assert_that(rt, abut_within(&pages, 4));
 }

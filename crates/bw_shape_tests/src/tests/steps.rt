@@ -1,86 +1,84 @@
 // Splits of leaves and of inner pages, roots that grow, and consolidation.
-use super::making::{
-    FLOOR, consolidate_does, finds, finish_does, five, grow_does, named_once, split_does, stands,
-};
-use super::shapes::{Wanted, has_pages};
+use super::making::{FLOOR, Pair};
+use super::scripts::Call::{Consolidate, FinishSplit, GrowRoot, Split};
+use super::scripts::Start::FivePairs;
+use super::scripts::Step::{Done, NotNeeded, Seen};
+use super::scripts::{Step, play};
+use super::shapes::Wanted;
+use super::sights::Sight::{Finds, Folds, Leaf, Level, Pages, Routes, Stands};
 use super::tidying::ROOTLESS;
-use crate::tests::assertions::{assert_equal, assert_that};
-use bw_fixtures::{are, heap, key};
-use bw_memory::Alloc;
-use bw_page::Page;
-use bw_shape::{Did, PageId, Tree, fold_beside};
-use std::process::Abort;
+
+const A_LEAF_PARTS_AND_THE_ROOT_GROWS: &[Step] = &[
+    Done(Split(0, 2)),
+    Seen(Stands(0, &[FLOOR, 1])),
+    Seen(Pages(ROOTLESS)),
+    Seen(Routes(b"c", 1)),
+    Seen(Finds(0, b"b", Some(0))),
+    Seen(Finds(0, b"c", Some(1))),
+    Seen(Finds(1, b"c", None)),
+    NotNeeded(Split(0, 2)),
+    Done(GrowRoot),
+    Seen(Stands(2, &[FLOOR, 1, 2])),
+    Seen(Finds(1, b"c", Some(2))),
+    Seen(Level(2, Some(1))),
+    NotNeeded(GrowRoot),
+];
 
 #[test]
 fn a_leaf_of_five_pairs_parts_and_the_root_grows(rt: HostRuntime) {
-    let alloc = heap(rt.alloc()).expect(&rt, "memory");
-    let mut tree = five(&rt, alloc);
-    split_does(&rt, &mut tree, 0, 2, Did::Done);
-    stands(&rt, alloc, &tree, 0, &[FLOOR, 1]);
-    has_pages(&rt, &tree, ROOTLESS);
-    routes_to(&rt, alloc, &tree, b"c", 1);
-    finds(&rt, alloc, &tree, 0, b"b", Some(0));
-    finds(&rt, alloc, &tree, 0, b"c", Some(1));
-    finds(&rt, alloc, &tree, 1, b"c", None);
-    split_does(&rt, &mut tree, 0, 2, Did::NotNeeded);
-    grow_does(&rt, &mut tree, Did::Done);
-    stands(&rt, alloc, &tree, 2, &[FLOOR, 1, 2]);
-    finds(&rt, alloc, &tree, 1, b"c", Some(2));
-    assert_equal(&rt, tree.in_level(PageId(2)), Some(1));
-    grow_does(&rt, &mut tree, Did::NotNeeded);
+    play(
+        &rt,
+        rt.alloc(),
+        FivePairs,
+        &[],
+        A_LEAF_PARTS_AND_THE_ROOT_GROWS,
+    );
 }
+
+const NO_STEP_IS_NEEDED: &[Step] = &[
+    NotNeeded(Split(0, 0)),
+    NotNeeded(Split(0, 5)),
+    NotNeeded(Split(9, 1)),
+    NotNeeded(FinishSplit(0)),
+    NotNeeded(FinishSplit(9)),
+    NotNeeded(Consolidate(0)),
+    NotNeeded(Consolidate(9)),
+    NotNeeded(GrowRoot),
+    Seen(Level(9, None)),
+    Seen(Stands(0, &[0])),
+];
 
 #[test]
 fn a_step_that_is_not_needed_changes_nothing(rt: HostRuntime) {
-    let alloc = heap(rt.alloc()).expect(&rt, "memory");
-    let mut tree = five(&rt, alloc);
-    split_does(&rt, &mut tree, 0, 0, Did::NotNeeded);
-    split_does(&rt, &mut tree, 0, 5, Did::NotNeeded);
-    split_does(&rt, &mut tree, 9, 1, Did::NotNeeded);
-    finish_does(&rt, &mut tree, 0, Did::NotNeeded);
-    finish_does(&rt, &mut tree, 9, Did::NotNeeded);
-    consolidate_does(&rt, &mut tree, 0, Did::NotNeeded);
-    consolidate_does(&rt, &mut tree, 9, Did::NotNeeded);
-    grow_does(&rt, &mut tree, Did::NotNeeded);
-    assert_equal(&rt, tree.in_level(PageId(9)), None);
-    stands(&rt, alloc, &tree, 0, &[0]);
+    play(&rt, rt.alloc(), FivePairs, &[], NO_STEP_IS_NEEDED);
 }
+
+const AN_INNER_PAGE_PARTS: &[Step] = &[
+    Done(Split(0, 2)),
+    Done(GrowRoot),
+    Done(Split(2, 1)),
+    Seen(Stands(2, &[FLOOR, 1, FLOOR + 1, 3])),
+    Seen(Finds(1, b"b", Some(2))),
+    Seen(Finds(1, b"c", Some(3))),
+    Done(GrowRoot),
+    Seen(Stands(4, &[FLOOR, 1, FLOOR + 1, 3, 4])),
+    Done(Consolidate(2)),
+    NotNeeded(Consolidate(2)),
+    Done(Consolidate(0)),
+    Seen(Stands(4, &[0, 1, 2, 3, 4])),
+    Done(Split(0, 1)),
+    Seen(Stands(4, &[FLOOR + 2, 1, 2, 3, 4, 5])),
+    Seen(Finds(0, b"b", Some(5))),
+];
 
 #[test]
 fn an_inner_page_parts_too(rt: HostRuntime) {
-    let alloc = heap(rt.alloc()).expect(&rt, "memory");
-    let mut tree = five(&rt, alloc);
-    split_does(&rt, &mut tree, 0, 2, Did::Done);
-    grow_does(&rt, &mut tree, Did::Done);
-    split_does(&rt, &mut tree, 2, 1, Did::Done);
-    stands(&rt, alloc, &tree, 2, &[FLOOR, 1, FLOOR + 1, 3]);
-    finds(&rt, alloc, &tree, 1, b"b", Some(2));
-    finds(&rt, alloc, &tree, 1, b"c", Some(3));
-    grow_does(&rt, &mut tree, Did::Done);
-    stands(&rt, alloc, &tree, 4, &[FLOOR, 1, FLOOR + 1, 3, 4]);
-    consolidate_does(&rt, &mut tree, 2, Did::Done);
-    consolidate_does(&rt, &mut tree, 2, Did::NotNeeded);
-    consolidate_does(&rt, &mut tree, 0, Did::Done);
-    stands(&rt, alloc, &tree, 4, &[0, 1, 2, 3, 4]);
-    split_does(&rt, &mut tree, 0, 1, Did::Done);
-    stands(&rt, alloc, &tree, 4, &[FLOOR + 2, 1, 2, 3, 4, 5]);
-    finds(&rt, alloc, &tree, 0, b"b", Some(5));
+    play(&rt, rt.alloc(), FivePairs, &[], AN_INNER_PAGE_PARTS);
 }
 
-// Compares the pairs of a leaf.
-fn has_leaf<R: Abort>(rt: &R, tree: &Tree, page: u32, pairs: &[(&'static [u8], &'static [u8])]) {
-    let state = tree.state(PageId(page), 0).expect(rt, "memory");
-    match &state {
-        Some(Page::Leaf(leaf)) => assert_that(rt, are(leaf.pairs(), pairs)),
-        _ => panic!(rt; "page {page} is no leaf"),
-    }
-}
+const FIRST_TWO: &[Pair] = &[(b"a", b"1"), (b"b", b"2")];
 
-// Compares the leaf that has a key in its range.
-fn routes_to<R: Abort>(rt: &R, alloc: Alloc, tree: &Tree, bytes: &[u8], wanted: u32) {
-    let at = key(alloc, bytes).expect(rt, "a key");
-    assert_equal(rt, tree.route(&at), PageId(wanted));
-}
+const LAST_THREE: &[Pair] = &[(b"c", b"3"), (b"d", b"4"), (b"e", b"5")];
 
 // What five pairs become where their leaf is split, and a root comes over the halves.
 const HALVES: &[Wanted] = &[
@@ -97,110 +95,108 @@ const THREE: &[Wanted] = &[
     (2, 1, b"", None, 3, 0),
 ];
 
+const A_LEAF_PARTS_AND_ITS_RIGHT_HALF: &[Step] = &[
+    Done(Split(0, 2)),
+    Seen(Leaf(1, LAST_THREE)),
+    NotNeeded(FinishSplit(0)),
+    Done(GrowRoot),
+    NotNeeded(GrowRoot),
+    NotNeeded(FinishSplit(0)),
+    Seen(Routes(b"a", 0)),
+    Seen(Routes(b"c", 1)),
+    Seen(Pages(HALVES)),
+    Done(Split(1, 1)),
+    Seen(Stands(2, &[FLOOR, FLOOR + 1, 2, 3])),
+    Done(FinishSplit(1)),
+    Seen(Stands(2, &[FLOOR, FLOOR + 1, FLOOR + 2, 3])),
+    NotNeeded(FinishSplit(1)),
+    NotNeeded(FinishSplit(3)),
+    NotNeeded(GrowRoot),
+    Done(Consolidate(2)),
+    NotNeeded(Consolidate(2)),
+    Seen(Routes(b"c", 1)),
+    Seen(Routes(b"d", 3)),
+    Seen(Pages(THREE)),
+    Seen(Stands(2, &[FLOOR, FLOOR + 1, 2, 3])),
+];
+
 // The root that comes over the halves of a leaf names both. What comes of the right half's split it names by a record, until
 // it is consolidated.
 #[test]
 fn a_leaf_parts_and_then_its_right_half(rt: HostRuntime) {
-    let alloc = heap(rt.alloc()).expect(&rt, "memory");
-    let mut tree = five(&rt, alloc);
-    split_does(&rt, &mut tree, 0, 2, Did::Done);
-    has_leaf(&rt, &tree, 1, &[(b"c", b"3"), (b"d", b"4"), (b"e", b"5")]);
-    finish_does(&rt, &mut tree, 0, Did::NotNeeded);
-    grow_does(&rt, &mut tree, Did::Done);
-    grow_does(&rt, &mut tree, Did::NotNeeded);
-    finish_does(&rt, &mut tree, 0, Did::NotNeeded);
-    routes_to(&rt, alloc, &tree, b"a", 0);
-    routes_to(&rt, alloc, &tree, b"c", 1);
-    has_pages(&rt, &tree, HALVES);
-    split_does(&rt, &mut tree, 1, 1, Did::Done);
-    stands(&rt, alloc, &tree, 2, &[FLOOR, FLOOR + 1, 2, 3]);
-    finish_does(&rt, &mut tree, 1, Did::Done);
-    stands(&rt, alloc, &tree, 2, &[FLOOR, FLOOR + 1, FLOOR + 2, 3]);
-    finish_does(&rt, &mut tree, 1, Did::NotNeeded);
-    finish_does(&rt, &mut tree, 3, Did::NotNeeded);
-    grow_does(&rt, &mut tree, Did::NotNeeded);
-    consolidate_does(&rt, &mut tree, 2, Did::Done);
-    consolidate_does(&rt, &mut tree, 2, Did::NotNeeded);
-    routes_to(&rt, alloc, &tree, b"c", 1);
-    routes_to(&rt, alloc, &tree, b"d", 3);
-    has_pages(&rt, &tree, THREE);
-    stands(&rt, alloc, &tree, 2, &[FLOOR, FLOOR + 1, 2, 3]);
+    play(
+        &rt,
+        rt.alloc(),
+        FivePairs,
+        &[],
+        A_LEAF_PARTS_AND_ITS_RIGHT_HALF,
+    );
 }
 
-// Compares the pairs and the right neighbour that the chain of a key's leaf makes of it.
-fn folds_to<R: Abort>(
-    rt: &R,
-    alloc: Alloc,
-    tree: &Tree,
-    bytes: &[u8],
-    pairs: &[(&'static [u8], &'static [u8])],
-    side: Option<u32>,
-) {
-    let page = tree.route(&key(alloc, bytes).expect(rt, "a key"));
-    let leaf = fold_beside(tree, page, 0).expect(rt, "memory");
-    assert_that(rt, are(leaf.pairs(), pairs));
-    assert_equal(rt, leaf.side().map(|page| page.0), side);
-}
-
-const FIRST_TWO: &[(&[u8], &[u8])] = &[(b"a", b"1"), (b"b", b"2")];
-
-const LAST_THREE: &[(&[u8], &[u8])] = &[(b"c", b"3"), (b"d", b"4"), (b"e", b"5")];
+const HALVES_ARE_FOLDED: &[Step] = &[
+    Done(Split(0, 2)),
+    Seen(Folds(b"a", FIRST_TWO, Some(1))),
+    Seen(Folds(b"c", LAST_THREE, None)),
+    Seen(Stands(0, &[FLOOR, 1])),
+];
 
 #[test]
 fn a_leaf_that_was_split_is_made_without_its_chain(rt: HostRuntime) {
-    let alloc = heap(rt.alloc()).expect(&rt, "memory");
-    let mut tree = five(&rt, alloc);
-    split_does(&rt, &mut tree, 0, 2, Did::Done);
-    folds_to(&rt, alloc, &tree, b"a", FIRST_TWO, Some(1));
-    folds_to(&rt, alloc, &tree, b"c", LAST_THREE, None);
-    stands(&rt, alloc, &tree, 0, &[FLOOR, 1]);
+    play(&rt, rt.alloc(), FivePairs, &[], HALVES_ARE_FOLDED);
 }
+
+/// What leads to a root over the leaves 0, 1, 3 and 4, which names the first three, the third one by a record. Leaf 3 was split.
+pub const NAMED_ONCE: &[Step] = &[
+    Done(Split(0, 2)),
+    Done(GrowRoot),
+    Done(Split(1, 1)),
+    Done(FinishSplit(1)),
+    Done(Split(3, 1)),
+];
+
+const A_RECORD_IS_CONSOLIDATED_FIRST: &[Step] = &[
+    Done(FinishSplit(3)),
+    Seen(Stands(2, &[FLOOR, FLOOR + 1, FLOOR + 4, FLOOR + 3, 4])),
+    NotNeeded(FinishSplit(3)),
+    NotNeeded(FinishSplit(1)),
+    Done(Consolidate(2)),
+    NotNeeded(FinishSplit(3)),
+    Seen(Stands(2, &[FLOOR, FLOOR + 1, 2, FLOOR + 3, 4])),
+    Seen(Finds(0, b"e", Some(4))),
+];
 
 #[test]
 fn a_page_above_that_has_a_record_is_consolidated_first(rt: HostRuntime) {
-    let alloc = heap(rt.alloc()).expect(&rt, "memory");
-    let mut tree = named_once(&rt, alloc);
-    finish_does(&rt, &mut tree, 3, Did::Done);
-    stands(
+    play(
         &rt,
-        alloc,
-        &tree,
-        2,
-        &[FLOOR, FLOOR + 1, FLOOR + 4, FLOOR + 3, 4],
+        rt.alloc(),
+        FivePairs,
+        NAMED_ONCE,
+        A_RECORD_IS_CONSOLIDATED_FIRST,
     );
-    finish_does(&rt, &mut tree, 3, Did::NotNeeded);
-    finish_does(&rt, &mut tree, 1, Did::NotNeeded);
-    consolidate_does(&rt, &mut tree, 2, Did::Done);
-    finish_does(&rt, &mut tree, 3, Did::NotNeeded);
-    stands(&rt, alloc, &tree, 2, &[FLOOR, FLOOR + 1, 2, FLOOR + 3, 4]);
-    finds(&rt, alloc, &tree, 0, b"e", Some(4));
 }
+
+const AN_INNER_SPLIT_IS_FINISHED: &[Step] = &[
+    Done(Split(0, 2)),
+    Done(GrowRoot),
+    Done(Split(2, 1)),
+    NotNeeded(FinishSplit(2)),
+    Done(GrowRoot),
+    Done(Consolidate(0)),
+    Done(Split(0, 1)),
+    Done(FinishSplit(0)),
+    Seen(Stands(4, &[FLOOR + 2, 1, FLOOR + 3, 3, 4, 5])),
+    Done(Consolidate(2)),
+    Done(Split(2, 1)),
+    Done(FinishSplit(2)),
+    Seen(Stands(4, &[FLOOR + 2, 1, FLOOR + 4, 3, FLOOR + 5, 5, 6])),
+    NotNeeded(FinishSplit(2)),
+    NotNeeded(GrowRoot),
+    Seen(Finds(1, b"b", Some(6))),
+    Seen(Finds(0, b"b", Some(5))),
+];
 
 #[test]
 fn a_split_of_an_inner_page_is_finished(rt: HostRuntime) {
-    let alloc = heap(rt.alloc()).expect(&rt, "memory");
-    let mut tree = five(&rt, alloc);
-    split_does(&rt, &mut tree, 0, 2, Did::Done);
-    grow_does(&rt, &mut tree, Did::Done);
-    split_does(&rt, &mut tree, 2, 1, Did::Done);
-    finish_does(&rt, &mut tree, 2, Did::NotNeeded);
-    grow_does(&rt, &mut tree, Did::Done);
-    consolidate_does(&rt, &mut tree, 0, Did::Done);
-    split_does(&rt, &mut tree, 0, 1, Did::Done);
-    finish_does(&rt, &mut tree, 0, Did::Done);
-    stands(&rt, alloc, &tree, 4, &[FLOOR + 2, 1, FLOOR + 3, 3, 4, 5]);
-    consolidate_does(&rt, &mut tree, 2, Did::Done);
-    split_does(&rt, &mut tree, 2, 1, Did::Done);
-    finish_does(&rt, &mut tree, 2, Did::Done);
-    stands(
-        &rt,
-        alloc,
-        &tree,
-        4,
-        &[FLOOR + 2, 1, FLOOR + 4, 3, FLOOR + 5, 5, 6],
-    );
-    finish_does(&rt, &mut tree, 2, Did::NotNeeded);
-    grow_does(&rt, &mut tree, Did::NotNeeded);
-    finds(&rt, alloc, &tree, 1, b"b", Some(6));
-    finds(&rt, alloc, &tree, 0, b"b", Some(5));
+    play(&rt, rt.alloc(), FivePairs, &[], AN_INNER_SPLIT_IS_FINISHED);
 }

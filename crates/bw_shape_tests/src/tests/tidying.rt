@@ -7,10 +7,10 @@ ghost use Rattle.bw_tree.specs.Slots.{slot_at};
 ghost use Rattle.bw_shape.specs.Limits.{AreWithinBut, IsWithin};
 
 use super::leaves::{reads_numbers, tree_of};
-use super::making::{five, reads_all};
-use super::shapes::{Wanted, abut_within, has_pages};
+use super::making::{five, memory, reads_all};
+use super::shapes::{Wanted, counts_pages, has_pages, has_small_pages};
 use crate::tests::assertions::{assert_equal, assert_that};
-use bw_fixtures::{heap, was_refused};
+use bw_fixtures::was_refused;
 use bw_memory::Alloc;
 use bw_shape::{Due, Limits, PageId, Tidy, Tree, tidy_due};
 use std::process::Abort;
@@ -76,8 +76,8 @@ fn know_words(tree: &Tree)
     tree.know_records();
 }
 
-/// Whether each page is one of these, or keeps to the limits of a leaf.
-pub fn are_within_but(tree: &Tree, limits: &Limits, pages: &[PageId]) -> bool
+// Whether each page is one of these, or keeps to the limits of a leaf.
+fn are_within_but(tree: &Tree, limits: &Limits, pages: &[PageId]) -> bool
     ensures { result ≡ true → AreWithinBut limits.now tree.now (reverse pages.now) }
 {
     know_words(tree);
@@ -89,8 +89,8 @@ pub fn are_within_but(tree: &Tree, limits: &Limits, pages: &[PageId]) -> bool
     true
 }
 
-/// These pages, the first one next.
-pub fn due_of<R: Abort>(rt: &R, alloc: Alloc, tree: &Tree, pages: &[PageId]) -> Due
+// These pages, the first one next.
+fn due_of<R: Abort>(rt: &R, alloc: Alloc, tree: &Tree, pages: &[PageId]) -> Due
     ensures { result.pages ≡ reverse pages.now }
 {
     let mut list = Vec::new(alloc);
@@ -98,6 +98,41 @@ pub fn due_of<R: Abort>(rt: &R, alloc: Alloc, tree: &Tree, pages: &[PageId]) -> 
     let mut due = Due::new(alloc);
     due.add(tree, list, &[]).expect(rt, "a list");
     due
+}
+
+/// The same, where each other page keeps to the limits of a leaf.
+pub fn due_within<R: Abort>(
+    rt: &R,
+    alloc: Alloc,
+    tree: &Tree,
+    limits: &Limits,
+    pages: &[PageId],
+) -> Due
+    ensures { AreWithinBut limits.now tree.now result.pages }
+{
+    assert!(rt; are_within_but(tree, limits, pages));
+    due_of(rt, alloc, tree, pages)
+}
+
+/// Tidies a tree where this growth is refused. What that did, and whether the growth was refused.
+pub fn tidy_short<R: Abort>(
+    rt: &R,
+    alloc: Alloc,
+    tree: &mut Tree,
+    limits: &Limits,
+    due: &mut Due,
+    growth: u64,
+) -> (Tidy, bool)
+    requires none { tree.old.staged ≡ None }
+    requires within { AreWithinBut limits.now tree.old due.old.pages }
+    ensures none { tree.new.staged ≡ None }
+    ensures within { AreWithinBut limits.now tree.new due.new.pages }
+{
+    alloc.refuse(growth);
+    let did = tidy_due(tree, limits, due);
+    let refused = was_refused(alloc, growth);
+    assert_that(rt, refused || !did.stopped);
+    (did, refused)
 }
 
 /// What tidying did that wasn't stopped.
@@ -110,20 +145,27 @@ pub fn did(consolidated: u64, splits: u64) -> Tidy {
     }
 }
 
+/// Tidies a tree where these pages are due. What that did.
+pub fn tidied<R: Abort>(rt: &R, alloc: Alloc, tree: &mut Tree, pages: &[PageId]) -> Tidy
+    requires { tree.old.staged ≡ None }
+    ensures { tree.new.staged ≡ None }
+{
+    let limits = four_pairs();
+    let mut due = due_within(rt, alloc, tree, &limits, pages);
+    tidy_due(tree, &limits, &mut due)
+}
+
 // Tidies a tree where these pages are due, and compares what that did.
 fn tidy_does<R: Abort>(rt: &R, alloc: Alloc, tree: &mut Tree, pages: &[PageId], wanted: Tidy)
     requires { tree.old.staged ≡ None }
     ensures { tree.new.staged ≡ None }
 {
-    let limits = four_pairs();
-    assert!(rt; are_within_but(tree, &limits, pages));
-    let mut due = due_of(rt, alloc, tree, pages);
-    assert!(rt; tidy_due(tree, &limits, &mut due) == wanted);
+    assert_equal(rt, tidied(rt, alloc, tree, pages), wanted);
 }
 
 #[test]
 fn a_leaf_of_five_pairs_is_split_once(rt: HostRuntime) {
-    let alloc = heap(rt.alloc()).expect(&rt, "memory");
+    let alloc = memory(&rt, rt.alloc());
     let mut tree = five(&rt, alloc);
     tidy_does(&rt, alloc, &mut tree, &[PageId(0)], did(0, 1));
     has_pages(&rt, &tree, FIVE);
@@ -135,7 +177,7 @@ fn a_leaf_of_five_pairs_is_split_once(rt: HostRuntime) {
 
 #[test]
 fn a_leaf_of_seventeen_pairs_is_split_level_by_level(rt: HostRuntime) {
-    let alloc = heap(rt.alloc()).expect(&rt, "memory");
+    let alloc = memory(&rt, rt.alloc());
     let mut tree = tree_of(&rt, alloc, A, &[BEHIND_Q]);
     tidy_does(&rt, alloc, &mut tree, &[PageId(0)], did(1, 5));
     has_pages(&rt, &tree, SEVENTEEN);
@@ -152,7 +194,7 @@ const ONE_SPLIT: &[Wanted] = &[
 
 #[test]
 fn of_three_leaves_that_are_due_one_is_split(rt: HostRuntime) {
-    let alloc = heap(rt.alloc()).expect(&rt, "memory");
+    let alloc = memory(&rt, rt.alloc());
     let mut tree = tree_of(&rt, alloc, A, &[BEHIND_B, BEHIND_H, BEHIND_J]);
     let due = [PageId(0), PageId(1), PageId(2)];
     tidy_does(&rt, alloc, &mut tree, &due, did(0, 1));
@@ -173,7 +215,7 @@ const ROOT_SPLIT: &[Wanted] = &[
 
 #[test]
 fn a_root_with_a_fifth_child_is_split_too(rt: HostRuntime) {
-    let alloc = heap(rt.alloc()).expect(&rt, "memory");
+    let alloc = memory(&rt, rt.alloc());
     let mut tree = tree_of(&rt, alloc, A, &[BEHIND_B, BEHIND_H, BEHIND_J, BEHIND_L]);
     let due = [PageId(0), PageId(1), PageId(2), PageId(3)];
     tidy_does(&rt, alloc, &mut tree, &due, did(0, 2));
@@ -185,7 +227,7 @@ const FOUR: &[Wanted] = &[(0, 0, b"", None, 4, 0)];
 
 #[test]
 fn a_leaf_of_four_pairs_stays(rt: HostRuntime) {
-    let alloc = heap(rt.alloc()).expect(&rt, "memory");
+    let alloc = memory(&rt, rt.alloc());
     let mut tree = tree_of(&rt, alloc, A, &[BEHIND_D]);
     tidy_does(&rt, alloc, &mut tree, &[PageId(0), PageId(9)], did(0, 0));
     has_pages(&rt, &tree, FOUR);
@@ -203,7 +245,28 @@ fn both(before: Tidy, after: Tidy) -> Tidy {
 }
 
 // Tidies a tree of one leaf where this growth is refused, and where it was, tidies it again without a refusal. Compares what
-// that did in all, and what is read in between. Whether the growth was refused.
+// is read in between. What that did in all, and whether the growth was refused.
+fn tidy_in_two<R: Abort>(
+    rt: &R,
+    alloc: Alloc,
+    tree: &mut Tree,
+    limits: &Limits,
+    due: &mut Due,
+    growth: u64,
+    end: u16,
+) -> (Tidy, bool)
+    requires none { tree.old.staged ≡ None }
+    requires within { AreWithinBut limits.now tree.old due.old.pages }
+{
+    let (did, refused) = tidy_short(rt, alloc, tree, limits, due, growth);
+    reads_numbers(rt, alloc, tree, A, end);
+    if !refused {
+        return (did, false);
+    }
+    (both(did, tidy_due(tree, limits, due)), true)
+}
+
+// Does that, and compares what was done. Whether the growth was refused.
 fn tidy_refused<R: Abort>(
     rt: &R,
     alloc: Alloc,
@@ -215,18 +278,9 @@ fn tidy_refused<R: Abort>(
     requires { tree.old.staged ≡ None }
 {
     let limits = four_pairs();
-    let pages = [PageId(0)];
-    assert!(rt; are_within_but(tree, &limits, &pages));
-    let mut due = due_of(rt, alloc, tree, &pages);
-    alloc.refuse(growth);
-    let mut did = tidy_due(tree, &limits, &mut due);
-    let refused = was_refused(alloc, growth);
-    assert!(rt; refused || !did.stopped);
-    reads_numbers(rt, alloc, tree, A, end);
-    if refused {
-        did = both(did, tidy_due(tree, &limits, &mut due));
-    }
-    assert!(rt; did == wanted);
+    let mut due = due_within(rt, alloc, tree, &limits, &[PageId(0)]);
+    let (did, refused) = tidy_in_two(rt, alloc, tree, &limits, &mut due, growth, end);
+    assert_equal(rt, did, wanted);
     refused
 }
 
@@ -241,7 +295,7 @@ fn five_refused<R: Abort>(rt: &R, alloc: Alloc, growth: u64) -> bool {
 
 #[test]
 fn each_growth_of_a_split_leaf_is_refused(rt: HostRuntime) {
-    let alloc = heap(rt.alloc()).expect(&rt, "memory");
+    let alloc = memory(&rt, rt.alloc());
     for growth in 1..1000 {
         if !five_refused(&rt, alloc, growth) {
             assert_that(&rt, growth > 6);
@@ -262,7 +316,7 @@ fn seventeen_refused<R: Abort>(rt: &R, alloc: Alloc, growth: u64) -> bool {
 
 #[test]
 fn each_growth_of_leaves_and_pages_above_is_refused(rt: HostRuntime) {
-    let alloc = heap(rt.alloc()).expect(&rt, "memory");
+    let alloc = memory(&rt, rt.alloc());
     for growth in 1..1000 {
         if !seventeen_refused(&rt, alloc, growth) {
             assert_that(&rt, growth > 12);
@@ -272,51 +326,46 @@ fn each_growth_of_leaves_and_pages_above_is_refused(rt: HostRuntime) {
     panic!(rt; "no run met no refusal")
 }
 
-// Tidies a tree of one leaf where this growth is refused. What that did, and what is due behind it.
-fn tidied_to_a_refusal<R: Abort>(
-    rt: &R,
-    alloc: Alloc,
-    tree: &mut Tree,
-    limits: &Limits,
-    growth: u64,
-) -> (Tidy, Due)
-    requires { tree.old.staged ≡ None }
-    ensures none { tree.new.staged ≡ None }
-    ensures within { AreWithinBut limits.now tree.new result.1.pages }
-{
-    let pages = [PageId(0)];
-    assert!(rt; are_within_but(tree, limits, &pages));
-    let mut due = due_of(rt, alloc, tree, &pages);
-    alloc.refuse(growth);
-    let tidy = tidy_due(tree, limits, &mut due);
-    alloc.refuse(0);
-    (tidy, due)
-}
-
 /// Five pairs on two leaves without a root over them.
 pub const ROOTLESS: &[Wanted] = &[(0, 0, b"", Some(b"c"), 2, 0), (1, 0, b"c", None, 3, 0)];
 
 // Tidies a leaf of five pairs where this growth is refused. Where that leaves two leaves without a root over them, all pairs
 // are read, and tidying again puts it there. Whether it left them so.
-fn root_refused<R: Abort>(rt: &R, alloc: Alloc, growth: u64) -> bool {
-    let limits = four_pairs();
-    let mut tree = five(rt, alloc);
-    let (stopped, mut due) = tidied_to_a_refusal(rt, alloc, &mut tree, &limits, growth);
+fn leaves_no_root<R: Abort>(
+    rt: &R,
+    alloc: Alloc,
+    tree: &mut Tree,
+    limits: &Limits,
+    due: &mut Due,
+    growth: u64,
+) -> bool
+    requires none { tree.old.staged ≡ None }
+    requires within { AreWithinBut limits.now tree.old due.old.pages }
+{
+    let (stopped, _) = tidy_short(rt, alloc, tree, limits, due, growth);
     if !stopped.stopped || tree.heads().len() != 2 {
         return false;
     }
     assert_equal(rt, (stopped.consolidated, stopped.splits), (0, 1));
-    has_pages(rt, &tree, ROOTLESS);
-    reads_all(rt, alloc, &tree);
-    assert_equal(rt, tidy_due(&mut tree, &limits, &mut due), did(0, 0));
-    has_pages(rt, &tree, FIVE);
-    reads_all(rt, alloc, &tree);
+    has_pages(rt, tree, ROOTLESS);
+    reads_all(rt, alloc, tree);
+    assert_equal(rt, tidy_due(tree, limits, due), did(0, 0));
+    has_pages(rt, tree, FIVE);
+    reads_all(rt, alloc, tree);
     true
+}
+
+// The same with a tree of its own.
+fn root_refused<R: Abort>(rt: &R, alloc: Alloc, growth: u64) -> bool {
+    let limits = four_pairs();
+    let mut tree = five(rt, alloc);
+    let mut due = due_within(rt, alloc, &tree, &limits, &[PageId(0)]);
+    leaves_no_root(rt, alloc, &mut tree, &limits, &mut due, growth)
 }
 
 #[test]
 fn a_refused_root_is_put_there_by_the_next_tidying(rt: HostRuntime) {
-    let alloc = heap(rt.alloc()).expect(&rt, "memory");
+    let alloc = memory(&rt, rt.alloc());
     let mut runs = 0u64;
     for growth in 1..100 {
         if root_refused(&rt, alloc, growth) {
@@ -333,11 +382,10 @@ const FROM: u16 = 4096;
 
 #[test]
 fn a_leaf_of_many_pairs_becomes_levels_of_small_pages(rt: HostRuntime) {
-    let alloc = heap(rt.alloc()).expect(&rt, "memory");
+    let alloc = memory(&rt, rt.alloc());
     let mut tree = tree_of(&rt, alloc, FROM, &[FROM + MANY]);
     tidy_does(&rt, alloc, &mut tree, &[PageId(0)], did(511, 1359));
-    let pages = tree.shape().expect(&rt, "the pages");
-    assert_equal(&rt, pages.len(), 1365);
-    assert_that(&rt, abut_within(&pages, 4));
+    counts_pages(&rt, &tree, 1365);
+    has_small_pages(&rt, &tree);
     reads_numbers(&rt, alloc, &tree, FROM, FROM + MANY);
 }
