@@ -1,14 +1,14 @@
 // A batch posted over a board of all mapping words: those of the leaves that get a write, of one that gets none, and of the root.
-ghost use Rattle.std.specs.Prelude.{◌≡◌, ◌≤◌, ◌<◌, ◌+◌, ℕ, true, false, length};
+ghost use Rattle.std.specs.Prelude.{◌≡◌, ◌≤◌, ◌<◌, ◌+◌, ℕ, true, false, None, length};
 ghost use Rattle.bw_core.specs.World.{owns};
 ghost use Rattle.bw_board.specs.Working.{HasLeft, HasPostedAll};
 ghost use Rattle.bw_tree.specs.Stages.{is_adopted};
 ghost use Rattle.bw_tree.specs.PageWords.{IsPostedStageOn};
 
-use super::making::{FLOOR, batch, has, holds, post, stands, three};
+use super::making::{BATCH, FLOOR, Found, Pair, batch, has, holds, memory, post, stands, three};
+use super::rows::undo_without_memory;
 use crate::tests::assertions::assert_equal;
 use bw_board::{Board, Closed, Seat};
-use bw_fixtures::heap;
 use bw_memory::Alloc;
 use bw_page::PageId;
 use bw_post::{Posting, Tree};
@@ -71,75 +71,73 @@ fn adopt_all<R: Abort>(rt: &R, tree: &mut Tree, pages: &[PageId], two: &Closed, 
     tree.adopt(all);
 }
 
-// The tree over three leaves with the batch of two writes adopted so. The first leaf and the root get none.
+// Posts the batch of two writes, and adopts the words of all pages. The first leaf and the root get none.
+fn adopt_over_all<R: Abort + Threads + Sync>(rt: &R, alloc: Alloc, tree: &mut Tree)
+    requires { tree.old.staged ≡ None }
+    ensures { is_adopted tree.new.staged ≡ true }
+{
+    let ops = batch(rt, alloc, BATCH);
+    let Posting { pages, closed, .. } = post(rt, alloc, tree, &ops, 1);
+    let all = posted_over_all(rt, alloc);
+    assert_equal(rt, all.links(), [1, 2].as_slice());
+    alloc.refuse(1);
+    adopt_all(rt, tree, &pages, &closed, all);
+    assert_equal(rt, alloc.left(), 1);
+    alloc.refuse(0);
+}
+
+// The tree over three leaves with the batch adopted so.
 fn adopted_over_all<R: Abort + Threads + Sync>(rt: &R, alloc: Alloc) -> Tree
     ensures { is_adopted result.staged ≡ true }
 {
     let mut tree = three(rt, alloc);
-    let Posting { pages, closed, .. } = post(rt, alloc, &mut tree, &batch(rt, alloc), 1);
-    let all = posted_over_all(rt, alloc);
-    assert_equal(rt, all.links(), [1, 2].as_slice());
-    alloc.refuse(1);
-    adopt_all(rt, &mut tree, &pages, &closed, all);
-    assert_equal(rt, alloc.left(), 1);
-    alloc.refuse(0);
+    adopt_over_all(rt, alloc, &mut tree);
     stands(rt, &tree, &[0, FLOOR, FLOOR + 1, 3], 2, 0);
     tree
 }
 
-// Compares what is read as of each stamp of the batch: before both writes, between them and behind them.
+// What is read as of each stamp of the batch: before both writes, between them and behind them.
+const AS_OF_0: &[Found] = &[(b"c", Some(b"3")), (b"d", None), (b"e", Some(b"5"))];
+
+const AS_OF_1: &[Found] = &[(b"c", Some(b"9")), (b"e", Some(b"5"))];
+
+const AS_OF_2: &[Found] = &[(b"a", Some(b"1")), (b"c", Some(b"9")), (b"e", None)];
+
+// Compares what is read as of each of them.
 fn is_read_in_turn<R: Abort>(rt: &R, alloc: Alloc, tree: &Tree) {
-    let (c, d, e) = (b"c".as_slice(), b"d".as_slice(), b"e".as_slice());
-    has(
-        rt,
-        alloc,
-        tree,
-        0,
-        &[(c, Some(b"3")), (d, None), (e, Some(b"5"))],
-    );
-    has(rt, alloc, tree, 1, &[(c, Some(b"9")), (e, Some(b"5"))]);
-    has(
-        rt,
-        alloc,
-        tree,
-        2,
-        &[(b"a", Some(b"1")), (c, Some(b"9")), (e, None)],
-    );
+    has(rt, alloc, tree, 0, AS_OF_0);
+    has(rt, alloc, tree, 1, AS_OF_1);
+    has(rt, alloc, tree, 2, AS_OF_2);
 }
+
+const AFTER: &[Pair] = &[(b"a", b"1"), (b"b", b"2"), (b"c", b"9")];
+
+const BEFORE: &[Pair] = &[(b"a", b"1"), (b"b", b"2"), (b"c", b"3"), (b"e", b"5")];
 
 #[test]
 fn the_words_of_all_four_pages_are_adopted_and_accepted(rt: HostRuntime) {
-    let alloc = heap(rt.alloc()).expect(&rt, "memory");
+    let alloc = memory(&rt, rt.alloc());
     let mut tree = adopted_over_all(&rt, alloc);
     is_read_in_turn(&rt, alloc, &tree);
     tree.accept();
     is_read_in_turn(&rt, alloc, &tree);
     stands(&rt, &tree, &[0, FLOOR, FLOOR + 1, 3], 2, 3);
-    let left = [
-        (b"a".as_slice(), b"1".as_slice()),
-        (b"b", b"2"),
-        (b"c", b"9"),
-    ];
-    holds(&rt, alloc, &tree, 3, &left);
+    holds(&rt, alloc, &tree, 3, AFTER);
+}
+
+// Compares that a tree is as before the batch.
+fn is_as_before<R: Abort>(rt: &R, alloc: Alloc, tree: &Tree) {
+    stands(rt, tree, &[0, 1, 2, 3], 0, 0);
+    for stamp in 0..3 {
+        holds(rt, alloc, tree, stamp, BEFORE);
+    }
 }
 
 #[test]
 fn the_words_of_all_four_pages_are_adopted_and_undone(rt: HostRuntime) {
-    let alloc = heap(rt.alloc()).expect(&rt, "memory");
+    let alloc = memory(&rt, rt.alloc());
     let mut tree = adopted_over_all(&rt, alloc);
     is_read_in_turn(&rt, alloc, &tree);
-    alloc.refuse(1);
-    tree.undo();
-    assert_equal(&rt, alloc.left(), 1);
-    alloc.refuse(0);
-    stands(&rt, &tree, &[0, 1, 2, 3], 0, 0);
-    let before = [
-        (b"a".as_slice(), b"1".as_slice()),
-        (b"b", b"2"),
-        (b"c", b"3"),
-        (b"e", b"5"),
-    ];
-    for stamp in 0..3 {
-        holds(&rt, alloc, &tree, stamp, &before);
-    }
+    undo_without_memory(&rt, alloc, &mut tree);
+    is_as_before(&rt, alloc, &tree);
 }

@@ -2,127 +2,75 @@
 ghost use Rattle.std.specs.Prelude.{◌≡◌, None};
 
 use super::half_done::{
-    five_pairs, has_put_on_halves, has_put_on_leaves, put_on_halves, put_on_leaves,
+    AS_OF_5, AS_OF_7, AS_OF_8, AS_OF_9, AS_OF_10, BEHIND_HALVES, BEHIND_LEAVES, ON_HALVES,
+    ON_LEAVES,
 };
-use super::making::{has, holds};
-use super::shapes::has_pages;
-use super::tidying::{five_tidied, run, tidy_does};
-use crate::tests::assertions::{assert_equal, assert_that};
-use bw_fixtures::{are, heap, key};
-use bw_memory::Alloc;
-use bw_model::Op;
-use bw_page::PageId;
+use super::making::{Pair, memory};
+use super::scripts::Call::{Absorb, Consolidate, DropRoot, FinishAbsorb, GrowRoot, Split, Sweep};
+use super::scripts::Start::Empty;
+use super::scripts::Step::{Done, Run, Seen, Tidied};
+use super::scripts::{Step, play, take_all, tree_after};
+use super::sights::Range;
+use super::sights::Sight::{Has, Holds, Pages, Records, Scans, ScansBack};
+use super::tidying::Bounds::{FivePairs, FourPairs};
+use super::tidying::{FIVE, FIVE_PUTS};
+use crate::tests::assertions::assert_equal;
+use bw_fixtures::TextOp::Delete;
 use bw_post::Tree;
-use bw_shape::{
-    Did, Limits, Tidy, absorb, consolidate, drop_root, finish_absorb, grow_root, split, sweep, tidy,
-};
+use bw_shape::{Limits, Tidy, tidy};
 use std::process::Abort;
-use std::thread::Threads;
-
-// Drops the index entry of a removed page.
-fn finish<R: Abort>(rt: &R, tree: &mut Tree, page: u32)
-    requires { tree.old.staged ≡ None }
-    ensures next { tree.new.next ≡ tree.old.next }
-    ensures staged { tree.new.staged ≡ None }
-{
-    assert_equal(rt, finish_absorb(tree, PageId(page)), Ok(Did::Done));
-}
 
 // Two leaves under a root, the right one of which was merged into the left one.
-fn half_merged<R: Abort + Threads + Sync>(rt: &R, alloc: Alloc) -> Tree
-    ensures next { result.next ≡ 5 }
-    ensures staged { result.staged ≡ None }
-{
-    let mut tree = five_tidied(rt, alloc);
-    assert_equal(rt, consolidate(&mut tree, PageId(0)), Ok(Did::Done));
-    assert_equal(rt, absorb(&mut tree, PageId(1)), Ok(Did::Done));
-    has_pages(
-        rt,
-        &tree,
-        &[(0, 0, b"", None, 5, 0), (2, 1, b"", None, 2, 0)],
-    );
-    tree
-}
+const HALF_MERGED: &[Step] = &[
+    Run(FIVE_PUTS, &[0]),
+    Tidied(FourPairs, &[0], (1, 1)),
+    Seen(Pages(FIVE)),
+    Done(Consolidate(0)),
+    Done(Absorb(1)),
+    Seen(Pages(&[(0, 0, b"", None, 5, 0), (2, 1, b"", None, 2, 0)])),
+];
+
+const POSTED_TO_A_MERGED_LEAF: &[Step] = &[
+    Run(ON_HALVES, &[0]),
+    Seen(Has(5, AS_OF_5)),
+    Seen(Has(6, AS_OF_5)),
+    Seen(Has(7, AS_OF_7)),
+    Seen(Holds(8, BEHIND_HALVES)),
+    Done(FinishAbsorb(1)),
+    Seen(Pages(&[(0, 0, b"", None, 5, 2), (2, 1, b"", None, 1, 0)])),
+    Done(DropRoot),
+    Seen(Has(5, AS_OF_5)),
+    Seen(Has(6, AS_OF_5)),
+    Seen(Has(7, AS_OF_7)),
+    Seen(Holds(8, BEHIND_HALVES)),
+    Run(ON_LEAVES, &[0]),
+    Seen(Has(8, AS_OF_8)),
+    Seen(Has(9, AS_OF_9)),
+    Seen(Has(10, AS_OF_10)),
+    Seen(Holds(11, BEHIND_LEAVES)),
+    Seen(Pages(&[(0, 0, b"", None, 4, 4)])),
+    Tidied(FivePairs, &[0], (1, 0)),
+    Seen(Pages(&[(0, 0, b"", None, 4, 0)])),
+];
 
 #[test]
 fn a_batch_is_posted_to_a_merged_leaf(rt: HostRuntime) {
-    let alloc = heap(rt.alloc()).expect(&rt, "memory");
-    let mut tree = half_merged(&rt, alloc);
-    put_on_halves(&rt, alloc, &mut tree, &[PageId(0)]);
-    has_put_on_halves(&rt, alloc, &tree);
-    finish(&rt, &mut tree, 1);
-    has_pages(
-        &rt,
-        &tree,
-        &[(0, 0, b"", None, 5, 2), (2, 1, b"", None, 1, 0)],
-    );
-    assert_equal(&rt, drop_root(&mut tree), Ok(Did::Done));
-    has_put_on_halves(&rt, alloc, &tree);
-    put_on_leaves(&rt, alloc, &mut tree, &[PageId(0)]);
-    has_put_on_leaves(&rt, alloc, &tree);
-    has_pages(&rt, &tree, &[(0, 0, b"", None, 4, 4)]);
-    tidy_does(&rt, alloc, &mut tree, &five_pairs(), &[PageId(0)], (1, 0));
-    has_pages(&rt, &tree, &[(0, 0, b"", None, 4, 0)]);
+    play(&rt, rt.alloc(), Empty, HALF_MERGED, POSTED_TO_A_MERGED_LEAF);
 }
+
+const SWEPT_AND_FINISHED: &[Step] = &[
+    Run(ON_HALVES, &[0]),
+    Done(Sweep),
+    Seen(Records(0)),
+    Seen(Holds(0, BEHIND_HALVES)),
+    Done(FinishAbsorb(1)),
+    Seen(Holds(0, BEHIND_HALVES)),
+    Seen(Pages(&[(0, 0, b"", None, 5, 0), (2, 1, b"", None, 1, 0)])),
+];
 
 #[test]
 fn a_sweep_leaves_a_merge_to_be_finished(rt: HostRuntime) {
-    let alloc = heap(rt.alloc()).expect(&rt, "memory");
-    let mut tree = half_merged(&rt, alloc);
-    put_on_halves(&rt, alloc, &mut tree, &[PageId(0)]);
-    assert_equal(&rt, sweep(&mut tree), Ok(()));
-    assert_equal(&rt, tree.records(), 0);
-    let wanted: [(&[u8], &[u8]); 5] = [
-        (b"a", b"1"),
-        (b"b", b"8"),
-        (b"c", b"3"),
-        (b"d", b"9"),
-        (b"e", b"5"),
-    ];
-    holds(&rt, alloc, &tree, 0, &wanted);
-    finish(&rt, &mut tree, 1);
-    holds(&rt, alloc, &tree, 0, &wanted);
-    has_pages(
-        &rt,
-        &tree,
-        &[(0, 0, b"", None, 5, 0), (2, 1, b"", None, 1, 0)],
-    );
-}
-
-// Where a scan begins and ends, how many pairs it wants, and as of which stamp it is.
-struct Range {
-    from: &'static [u8],
-    to: Option<&'static [u8]>,
-    most: u64,
-    stamp: u64,
-}
-
-// Compares the pairs of a range.
-fn scans<R: Abort>(
-    rt: &R,
-    alloc: Alloc,
-    tree: &Tree,
-    range: &Range,
-    wanted: &[(&'static [u8], &'static [u8])],
-) {
-    let from = key(alloc, range.from).expect(rt, "a key");
-    let to = range.to.map(|bytes| key(alloc, bytes).expect(rt, "a key"));
-    let pairs = tree.scan_at(&from, to.as_ref(), range.most, range.stamp);
-    assert_that(rt, are(&pairs.expect(rt, "memory"), wanted));
-}
-
-// Compares the pairs of a range from its end.
-fn scans_back<R: Abort>(
-    rt: &R,
-    alloc: Alloc,
-    tree: &Tree,
-    range: &Range,
-    wanted: &[(&'static [u8], &'static [u8])],
-) {
-    let from = key(alloc, range.from).expect(rt, "a key");
-    let to = range.to.map(|bytes| key(alloc, bytes).expect(rt, "a key"));
-    let pairs = tree.rscan_at(&from, to.as_ref(), range.most, range.stamp);
-    assert_that(rt, are(&pairs.expect(rt, "memory"), wanted));
+    play(&rt, rt.alloc(), Empty, HALF_MERGED, SWEPT_AND_FINISHED);
 }
 
 // Page 1, which is removed, began at c.
@@ -147,88 +95,111 @@ const TWO: Range = Range {
     stamp: 8,
 };
 
+const OLD: &[Pair] = &[(b"c", b"3"), (b"d", b"4"), (b"e", b"5")];
+
+const BOTH: &[Pair] = &[(b"b", b"8"), (b"c", b"3")];
+
+const SCANS_GO_ON: &[Step] = &[
+    Run(ON_HALVES, &[0]),
+    Seen(Scans(FROM_REMOVED, OLD)),
+    Seen(Scans(OVER_BOTH, BOTH)),
+    Seen(Scans(TWO, BOTH)),
+    Seen(ScansBack(OVER_BOTH, &[(b"c", b"3"), (b"b", b"8")])),
+    Seen(ScansBack(TWO, &[(b"e", b"5"), (b"d", b"9")])),
+    Seen(Has(8, &[(b"cc", None), (b"f", None)])),
+];
+
 #[test]
 fn scans_go_on_in_what_was_a_removed_page(rt: HostRuntime) {
-    let alloc = heap(rt.alloc()).expect(&rt, "memory");
-    let mut tree = half_merged(&rt, alloc);
-    put_on_halves(&rt, alloc, &mut tree, &[PageId(0)]);
-    let old: [(&[u8], &[u8]); 3] = [(b"c", b"3"), (b"d", b"4"), (b"e", b"5")];
-    scans(&rt, alloc, &tree, &FROM_REMOVED, &old);
-    let both: [(&[u8], &[u8]); 2] = [(b"b", b"8"), (b"c", b"3")];
-    scans(&rt, alloc, &tree, &OVER_BOTH, &both);
-    scans(&rt, alloc, &tree, &TWO, &both);
-    let back: [(&[u8], &[u8]); 2] = [(b"c", b"3"), (b"b", b"8")];
-    scans_back(&rt, alloc, &tree, &OVER_BOTH, &back);
-    let last: [(&[u8], &[u8]); 2] = [(b"e", b"5"), (b"d", b"9")];
-    scans_back(&rt, alloc, &tree, &TWO, &last);
-    has(&rt, alloc, &tree, 8, &[(b"cc", None), (b"f", None)]);
+    play(&rt, rt.alloc(), Empty, HALF_MERGED, SCANS_GO_ON);
 }
 
 // A leaf under each of two inner pages, the right one of which was merged into the left one.
-fn half_merged_above<R: Abort + Threads + Sync>(rt: &R, alloc: Alloc) -> Tree
-    ensures next { result.next ≡ 5 }
-    ensures staged { result.staged ≡ None }
-{
-    let mut tree = five_tidied(rt, alloc);
-    assert!(rt; split(&mut tree, PageId(2), 1) == Ok(Did::Done));
-    assert!(rt; grow_root(&mut tree) == Ok(Did::Done));
-    assert!(rt; consolidate(&mut tree, PageId(2)) == Ok(Did::Done));
-    assert!(rt; absorb(&mut tree, PageId(3)) == Ok(Did::Done));
-    tree
-}
+const HALF_MERGED_ABOVE: &[Step] = &[
+    Run(FIVE_PUTS, &[0]),
+    Tidied(FourPairs, &[0], (1, 1)),
+    Seen(Pages(FIVE)),
+    Done(Split(2, 1)),
+    Done(GrowRoot),
+    Done(Consolidate(2)),
+    Done(Absorb(3)),
+];
+
+const POSTED_BELOW_A_MERGED_PAGE: &[Step] = &[
+    Seen(Pages(&[
+        (0, 0, b"", Some(b"c"), 2, 0),
+        (1, 0, b"c", None, 3, 0),
+        (2, 1, b"", None, 2, 0),
+        (4, 2, b"", None, 2, 0),
+    ])),
+    Run(ON_HALVES, &[0, 1]),
+    Seen(Has(5, AS_OF_5)),
+    Seen(Has(6, AS_OF_5)),
+    Seen(Has(7, AS_OF_7)),
+    Seen(Holds(8, BEHIND_HALVES)),
+    Done(FinishAbsorb(3)),
+    Seen(Has(5, AS_OF_5)),
+    Seen(Has(6, AS_OF_5)),
+    Seen(Has(7, AS_OF_7)),
+    Seen(Holds(8, BEHIND_HALVES)),
+    Done(DropRoot),
+    Run(ON_LEAVES, &[0, 1]),
+    Seen(Has(8, AS_OF_8)),
+    Seen(Has(9, AS_OF_9)),
+    Seen(Has(10, AS_OF_10)),
+    Seen(Holds(11, BEHIND_LEAVES)),
+    Seen(Pages(&[
+        (0, 0, b"", Some(b"c"), 2, 1),
+        (1, 0, b"c", None, 2, 3),
+        (2, 1, b"", None, 2, 0),
+    ])),
+];
 
 #[test]
 fn a_batch_is_posted_below_a_merged_page(rt: HostRuntime) {
-    let alloc = heap(rt.alloc()).expect(&rt, "memory");
-    let mut tree = half_merged_above(&rt, alloc);
-    has_pages(
+    play(
         &rt,
-        &tree,
-        &[
-            (0, 0, b"", Some(b"c"), 2, 0),
-            (1, 0, b"c", None, 3, 0),
-            (2, 1, b"", None, 2, 0),
-            (4, 2, b"", None, 2, 0),
-        ],
-    );
-    put_on_halves(&rt, alloc, &mut tree, &[PageId(0), PageId(1)]);
-    has_put_on_halves(&rt, alloc, &tree);
-    finish(&rt, &mut tree, 3);
-    has_put_on_halves(&rt, alloc, &tree);
-    assert_equal(&rt, drop_root(&mut tree), Ok(Did::Done));
-    put_on_leaves(&rt, alloc, &mut tree, &[PageId(0), PageId(1)]);
-    has_put_on_leaves(&rt, alloc, &tree);
-    has_pages(
-        &rt,
-        &tree,
-        &[
-            (0, 0, b"", Some(b"c"), 2, 1),
-            (1, 0, b"c", None, 2, 3),
-            (2, 1, b"", None, 2, 0),
-        ],
+        rt.alloc(),
+        Empty,
+        HALF_MERGED_ABOVE,
+        POSTED_BELOW_A_MERGED_PAGE,
     );
 }
 
-// A batch leaves one pair of the right leaf. Where a leaf has two at least, tidying of all pages merges it into the left one,
-// which is the root then.
-#[test]
-fn a_leaf_that_a_batch_left_too_small_is_merged(rt: HostRuntime) {
-    let alloc = heap(rt.alloc()).expect(&rt, "memory");
-    let mut tree = five_tidied(&rt, alloc);
-    assert_equal(&rt, consolidate(&mut tree, PageId(0)), Ok(Did::Done));
-    let ops = [
-        Op::Delete(key(alloc, b"d").expect(&rt, "a key")),
-        Op::Delete(key(alloc, b"e").expect(&rt, "a key")),
-    ];
-    run(&rt, alloc, &mut tree, &ops, &[PageId(1)]);
+// A tree of two leaves, of the right one of which a batch leaves one pair.
+const A_SMALL_LEAF: &[Step] = &[
+    Run(FIVE_PUTS, &[0]),
+    Tidied(FourPairs, &[0], (1, 1)),
+    Seen(Pages(FIVE)),
+    Done(Consolidate(0)),
+    Run(&[Delete("d"), Delete("e")], &[1]),
+];
+
+// Tidies all pages, where a leaf has two pairs at least: one leaf is consolidated and merged.
+fn tidies_to_one_leaf<R: Abort>(rt: &R, tree: &mut Tree)
+    requires { tree.old.staged ≡ None }
+    ensures { tree.new.staged ≡ None }
+{
     let wanted = Tidy {
         consolidated: 1,
         splits: 0,
         merges: 1,
         stopped: false,
     };
-    assert_equal(&rt, tidy(&mut tree, &Limits::new(1, 4, 2)), wanted);
-    has_pages(&rt, &tree, &[(0, 0, b"", None, 3, 0)]);
-    let left: [(&[u8], &[u8]); 3] = [(b"a", b"1"), (b"b", b"2"), (b"c", b"3")];
-    holds(&rt, alloc, &tree, 7, &left);
+    assert_equal(rt, tidy(tree, &Limits::new(1, 4, 2)), wanted);
+}
+
+const ONE_LEAF: &[Step] = &[
+    Seen(Pages(&[(0, 0, b"", None, 3, 0)])),
+    Seen(Holds(7, &[(b"a", b"1"), (b"b", b"2"), (b"c", b"3")])),
+];
+
+// A batch leaves one pair of the right leaf. Where a leaf has two at least, tidying of all pages merges it into the left one,
+// which is the root then.
+#[test]
+fn a_leaf_that_a_batch_left_too_small_is_merged(rt: HostRuntime) {
+    let alloc = memory(&rt, rt.alloc());
+    let mut tree = tree_after(&rt, alloc, Empty, A_SMALL_LEAF);
+    tidies_to_one_leaf(&rt, &mut tree);
+    take_all(&rt, alloc, &mut tree, ONE_LEAF);
 }

@@ -5,13 +5,15 @@ ghost use Rattle.bw_tree.specs.Levels.{row};
 ghost use Rattle.bw_tree.specs.Stages.{is_adopted};
 ghost use Rattle.bw_tree.specs.PageWords.{IsPostedStageOn};
 
-use super::making::{FLOOR, batch, has, holds, post, stands, three, upsert};
+use super::making::{
+    BATCH, FLOOR, Pair, Words, adopt, are_pages, batch, has, holds, memory, post, stands, three,
+};
 use crate::tests::assertions::{assert_equal, assert_that};
-use bw_fixtures::{heap, key, value};
+use bw_fixtures::TextOp::{Get, Upsert};
+use bw_fixtures::{TextOp, key, value};
 use bw_group::Grouping;
 use bw_key::Memory;
 use bw_memory::{Alloc, Heap};
-use bw_model::Op;
 use bw_page::PageId;
 use bw_post::{OpenGate, Posting, Tree, post_all};
 use bw_tree::{LeafChain, Scans};
@@ -19,23 +21,31 @@ use std::process::Abort;
 use std::test::Fail;
 use std::thread::Threads;
 
+// What the batch's posting leaves.
+const WORDS: Words = Words {
+    pages: &[1, 2],
+    heads: &[FLOOR, FLOOR + 1],
+    links: &[1, 2],
+};
+
 /// The tree over three leaves with the batch staged, posted and adopted.
 pub fn adopted<R: Abort + Threads + Sync>(rt: &R, alloc: Alloc) -> Tree
     ensures { is_adopted result.staged ≡ true }
 {
     let mut tree = three(rt, alloc);
-    let Posting { pages, closed, .. } = post(rt, alloc, &mut tree, &batch(rt, alloc), 1);
-    assert_equal(rt, pages.as_slice(), [PageId(1), PageId(2)].as_slice());
-    assert_equal(rt, closed.heads(), [FLOOR, FLOOR + 1].as_slice());
-    assert_equal(rt, closed.links(), [1, 2].as_slice());
-    tree.adopt_on(pages, closed);
+    adopt(rt, alloc, &mut tree, BATCH, &WORDS);
     stands(rt, &tree, &[0, FLOOR, FLOOR + 1, 3], 2, 0);
     tree
 }
 
+// What the batch leaves.
+const AFTER: &[Pair] = &[(b"a", b"1"), (b"b", b"2"), (b"c", b"9")];
+
+const BEFORE: &[Pair] = &[(b"a", b"1"), (b"b", b"2"), (b"c", b"3"), (b"e", b"5")];
+
 #[test]
 fn each_stamp_sees_the_map_before_its_operation(rt: HostRuntime) {
-    let alloc = heap(rt.alloc()).expect(&rt, "memory");
+    let alloc = memory(&rt, rt.alloc());
     let tree = adopted(&rt, alloc);
     has(
         &rt,
@@ -52,89 +62,91 @@ fn each_stamp_sees_the_map_before_its_operation(rt: HostRuntime) {
         &[(b"c", Some(b"9")), (b"e", Some(b"5"))],
     );
     has(&rt, alloc, &tree, 2, &[(b"e", None)]);
-    holds(
-        &rt,
-        alloc,
-        &tree,
-        2,
-        &[(b"a", b"1"), (b"b", b"2"), (b"c", b"9")],
-    );
+    holds(&rt, alloc, &tree, 2, AFTER);
+}
+
+/// Undoes a batch where each growth is refused.
+pub fn undo_without_memory<R: Abort>(rt: &R, alloc: Alloc, tree: &mut Tree) {
+    alloc.refuse(1);
+    tree.undo();
+    assert_equal(rt, alloc.left(), 1);
+    alloc.refuse(0);
 }
 
 #[test]
 fn an_adopted_batch_is_undone_without_memory(rt: HostRuntime) {
-    let alloc = heap(rt.alloc()).expect(&rt, "memory");
+    let alloc = memory(&rt, rt.alloc());
     let mut tree = adopted(&rt, alloc);
-    alloc.refuse(1);
-    tree.undo();
-    assert_equal(&rt, alloc.left(), 1);
-    alloc.refuse(0);
+    undo_without_memory(&rt, alloc, &mut tree);
     stands(&rt, &tree, &[0, 1, 2, 3], 0, 0);
-    holds(
-        &rt,
-        alloc,
-        &tree,
-        0,
-        &[(b"a", b"1"), (b"b", b"2"), (b"c", b"3"), (b"e", b"5")],
-    );
+    holds(&rt, alloc, &tree, 0, BEFORE);
 }
 
 #[test]
 fn an_adopted_batch_is_accepted(rt: HostRuntime) {
-    let alloc = heap(rt.alloc()).expect(&rt, "memory");
+    let alloc = memory(&rt, rt.alloc());
     let mut tree = adopted(&rt, alloc);
     tree.accept();
     stands(&rt, &tree, &[0, FLOOR, FLOOR + 1, 3], 2, 3);
-    holds(
-        &rt,
-        alloc,
-        &tree,
-        3,
-        &[(b"a", b"1"), (b"b", b"2"), (b"c", b"9")],
-    );
+    holds(&rt, alloc, &tree, 3, AFTER);
+}
+
+// Runs the batch. Once it is posted, each growth is refused.
+fn run_without_memory<R: Abort + Threads + Sync>(rt: &R, alloc: Alloc, tree: &mut Tree)
+    requires { tree.old.staged ≡ None }
+{
+    let ops = batch(rt, alloc, BATCH);
+    let Posting { pages, closed, .. } = post(rt, alloc, tree, &ops, 1);
+    alloc.refuse(1);
+    tree.adopt_on(pages, closed);
+    tree.accept();
+    assert_equal(rt, alloc.left(), 1);
+    alloc.refuse(0);
 }
 
 #[test]
 fn adopt_and_accept_take_no_memory(rt: HostRuntime) {
-    let alloc = heap(rt.alloc()).expect(&rt, "memory");
+    let alloc = memory(&rt, rt.alloc());
     let mut tree = three(&rt, alloc);
-    let Posting { pages, closed, .. } = post(&rt, alloc, &mut tree, &batch(&rt, alloc), 1);
-    alloc.refuse(1);
-    tree.adopt_on(pages, closed);
-    tree.accept();
-    assert_equal(&rt, alloc.left(), 1);
-    alloc.refuse(0);
+    run_without_memory(&rt, alloc, &mut tree);
     stands(&rt, &tree, &[0, FLOOR, FLOOR + 1, 3], 2, 3);
+}
+
+// Posts a batch of reads, and adopts it.
+fn adopt_reads<R: Abort + Threads + Sync>(rt: &R, alloc: Alloc, tree: &mut Tree)
+    requires { tree.old.staged ≡ None }
+{
+    let ops = batch(rt, alloc, &[Get("e"), Get("a")]);
+    let posting = post(rt, alloc, tree, &ops, 1);
+    are_pages(rt, posting.homes.pages(), &[0, 2]);
+    assert_equal(rt, posting.pages.len(), 0);
+    assert_equal(rt, posting.closed.heads().len(), 0);
+    tree.adopt_on(posting.pages, posting.closed);
 }
 
 #[test]
 fn a_batch_of_reads_is_posted_to_no_page(rt: HostRuntime) {
-    let alloc = heap(rt.alloc()).expect(&rt, "memory");
+    let alloc = memory(&rt, rt.alloc());
     let mut tree = three(&rt, alloc);
-    let first = key(alloc, b"a").expect(&rt, "a key");
-    let last = key(alloc, b"e").expect(&rt, "a key");
-    let posting = post(&rt, alloc, &mut tree, &[Op::Get(last), Op::Get(first)], 1);
-    assert_equal(
-        &rt,
-        posting.homes.pages(),
-        [PageId(0), PageId(2)].as_slice(),
-    );
-    assert_equal(&rt, posting.pages.len(), 0);
-    assert_equal(&rt, posting.closed.heads().len(), 0);
-    tree.adopt_on(posting.pages, posting.closed);
+    adopt_reads(&rt, alloc, &mut tree);
     stands(&rt, &tree, &[0, 1, 2, 3], 0, 0);
 }
+
+const TWICE: &[TextOp] = &[Upsert("a", "1"), Upsert("a", "2")];
+
+// What the posting of two writes of one key leaves.
+const ONE_CHAIN: Words = Words {
+    pages: &[0],
+    heads: &[FLOOR + 1],
+    links: &[0, FLOOR],
+};
 
 // A tree of one leaf, in whose chain two writes of one key stand.
 fn written_twice<R: Abort + Threads + Sync>(rt: &R, alloc: Alloc) -> Tree
     ensures { is_adopted result.staged ≡ true }
 {
     let mut tree = Tree::new(alloc).expect(rt, "memory");
-    let ops = [upsert(rt, alloc, b"a", b"1"), upsert(rt, alloc, b"a", b"2")];
-    let Posting { pages, closed, .. } = post(rt, alloc, &mut tree, &ops, 1);
-    assert_equal(rt, closed.heads(), [FLOOR + 1].as_slice());
-    assert_equal(rt, closed.links(), [0, FLOOR].as_slice());
-    tree.adopt_on(pages, closed);
+    adopt(rt, alloc, &mut tree, TWICE, &ONE_CHAIN);
     tree
 }
 
@@ -150,39 +162,52 @@ fn adopt_all<R: Abort>(rt: &R, tree: &mut Tree, posting: Posting)
     tree.adopt(closed);
 }
 
+// Posts two puts to the one page. Once they are posted, each growth is refused.
+fn adopt_without_memory<R: Abort + Threads + Sync>(rt: &R, alloc: Alloc, tree: &mut Tree)
+    requires { tree.old.staged ≡ None }
+{
+    let ops = batch(rt, alloc, &[Upsert("a", "1"), Upsert("b", "2")]);
+    let posting = post(rt, alloc, tree, &ops, 1);
+    alloc.refuse(1);
+    adopt_all(rt, tree, posting);
+}
+
 #[test]
 fn the_words_of_all_pages_are_adopted_and_undone(rt: HostRuntime) {
-    let alloc = heap(rt.alloc()).expect(&rt, "memory");
+    let alloc = memory(&rt, rt.alloc());
     let mut tree = Tree::new(alloc).expect(&rt, "memory");
-    let ops = [
-        upsert(&rt, alloc, b"a", b"1"),
-        upsert(&rt, alloc, b"b", b"2"),
-    ];
-    let posting = post(&rt, alloc, &mut tree, &ops, 1);
-    alloc.refuse(1);
-    adopt_all(&rt, &mut tree, posting);
+    adopt_without_memory(&rt, alloc, &mut tree);
     stands(&rt, &tree, &[FLOOR + 1], 2, 0);
     tree.undo();
     stands(&rt, &tree, &[0], 0, 0);
     assert_equal(&rt, alloc.left(), 1);
 }
 
-#[test]
-fn the_records_of_a_second_batch_stand_behind_those_of_the_first(rt: HostRuntime) {
-    let alloc = heap(rt.alloc()).expect(&rt, "memory");
-    let mut tree = adopted(&rt, alloc);
-    tree.accept();
-    assert_eq!(rt; tree.next_stamp(), 3);
-    let staged = tree.stage(&batch(&rt, alloc)).expect(&rt, "memory");
+// Stages the batch, and compares where its stamps and records begin.
+fn stages<R: Abort>(rt: &R, alloc: Alloc, tree: &mut Tree)
+    requires { tree.old.staged ≡ None }
+{
+    assert!(rt; tree.next_stamp() == 3);
+    let ops = batch(rt, alloc, BATCH);
+    assert!(rt; ops.len() == 3);
+    let staged = tree.stage(&ops).expect(rt, "memory");
     assert_that(
-        &rt,
+        rt,
         (staged.base, staged.floor, staged.records) == (3, FLOOR + 2, 2),
     );
 }
 
 #[test]
+fn the_records_of_a_second_batch_stand_behind_those_of_the_first(rt: HostRuntime) {
+    let alloc = memory(&rt, rt.alloc());
+    let mut tree = adopted(&rt, alloc);
+    tree.accept();
+    stages(&rt, alloc, &mut tree);
+}
+
+#[test]
 fn writes_of_one_key_stand_in_one_chain(rt: HostRuntime) {
-    let alloc = heap(rt.alloc()).expect(&rt, "memory");
+    let alloc = memory(&rt, rt.alloc());
     let tree = written_twice(&rt, alloc);
     has(&rt, alloc, &tree, 0, &[(b"a", None)]);
     has(&rt, alloc, &tree, 1, &[(b"a", Some(b"1"))]);
@@ -213,7 +238,7 @@ fn has_two_writes<R: Abort>(rt: &R, leaf: &LeafChain<'_>) {
 
 #[test]
 fn a_leaf_with_writes_is_read_at_once(rt: HostRuntime) {
-    let alloc = heap(rt.alloc()).expect(&rt, "memory");
+    let alloc = memory(&rt, rt.alloc());
     let tree = written_twice(&rt, alloc);
     let page = leaf_at(&rt, alloc, &tree, b"a");
     alloc.refuse(1);
@@ -227,7 +252,7 @@ fn a_leaf_with_writes_is_read_at_once(rt: HostRuntime) {
 // The writes of its key are listed, and sorted in a second list.
 #[test]
 fn a_value_behind_writes_takes_two_growths(rt: HostRuntime) {
-    let alloc = heap(rt.alloc()).expect(&rt, "memory");
+    let alloc = memory(&rt, rt.alloc());
     let tree = written_twice(&rt, alloc);
     let at = key(alloc, b"a").expect(&rt, "memory");
     for growth in [1u64, 2] {
@@ -265,7 +290,7 @@ fn growths_back<R: Abort>(rt: &R, alloc: Alloc, scans: &mut Scans) -> u64 {
 
 #[test]
 fn writes_have_their_effects_once_for_all_scans(rt: HostRuntime) {
-    let alloc = heap(rt.alloc()).expect(&rt, "memory");
+    let alloc = memory(&rt, rt.alloc());
     let tree = adopted(&rt, alloc);
     let mut scans = Scans::new(alloc, tree.look());
     assert_that(&rt, growths(&rt, alloc, &mut scans) > 4);
@@ -277,7 +302,7 @@ fn writes_have_their_effects_once_for_all_scans(rt: HostRuntime) {
 
 #[test]
 fn writes_have_their_effects_once_for_all_scans_back(rt: HostRuntime) {
-    let alloc = heap(rt.alloc()).expect(&rt, "memory");
+    let alloc = memory(&rt, rt.alloc());
     let tree = adopted(&rt, alloc);
     let mut scans = Scans::new(alloc, tree.look());
     assert_that(&rt, growths_back(&rt, alloc, &mut scans) > 4);
@@ -309,6 +334,26 @@ fn what_is_dropped_gives_its_memory_back(rt: HostRuntime) -> Result<(), Fail> {
 }
 
 // Stages and posts a batch by so many workers where this growth is refused while posting. Whether it was.
+fn is_refused<R: Abort + Threads + Sync>(
+    rt: &R,
+    alloc: Alloc,
+    tree: &mut Tree,
+    workers: u64,
+    growth: u64,
+) -> bool
+    requires { tree.old.staged ≡ None }
+{
+    let ops = batch(rt, alloc, BATCH);
+    assert!(rt; ops.len() == 3 && tree.next_stamp() == 0);
+    tree.stage(&ops).expect(rt, "memory");
+    let grouping = Grouping::new(alloc, &ops).expect(rt, "memory");
+    alloc.refuse(growth);
+    let posting = post_all(rt, alloc, tree, &grouping, 1, workers, &OpenGate);
+    alloc.refuse(0);
+    posting.is_err()
+}
+
+// The same with a tree of its own, which is compared after that.
 fn posting_refused<R: Abort + Threads + Sync>(
     rt: &R,
     alloc: Alloc,
@@ -316,14 +361,9 @@ fn posting_refused<R: Abort + Threads + Sync>(
     growth: u64,
 ) -> bool {
     let mut tree = three(rt, alloc);
-    let ops = batch(rt, alloc);
-    tree.stage(&ops).expect(rt, "memory");
-    let grouping = Grouping::new(alloc, &ops).expect(rt, "memory");
-    alloc.refuse(growth);
-    let posting = post_all(rt, alloc, &tree, &grouping, 1, workers, &OpenGate);
-    alloc.refuse(0);
+    let refused = is_refused(rt, alloc, &mut tree, workers, growth);
     stands(rt, &tree, &[0, 1, 2, 3], 2, 0);
-    posting.is_err()
+    refused
 }
 
 // Refuses each growth of a posting by so many workers in turn.
@@ -339,7 +379,7 @@ fn each_growth_refused<R: Abort + Threads + Sync>(rt: &R, alloc: Alloc, workers:
 
 #[test]
 fn each_growth_of_posting_is_refused(rt: HostRuntime) {
-    let alloc = heap(rt.alloc()).expect(&rt, "memory");
+    let alloc = memory(&rt, rt.alloc());
     each_growth_refused(&rt, alloc, 1);
     each_growth_refused(&rt, alloc, 4);
 }

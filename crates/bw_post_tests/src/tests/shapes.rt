@@ -11,11 +11,7 @@ pub type Wanted = (u32, u32, &'static [u8], Option<&'static [u8]>, usize, usize)
 
 // Whether a range ends there.
 fn ends(high: Option<&Key>, wanted: Option<&'static [u8]>) -> bool {
-    match (high, wanted) {
-        (Some(high), Some(bytes)) => high.bytes() == bytes,
-        (None, None) => true,
-        _ => false,
-    }
+    high.map(|key| key.bytes()) == wanted
 }
 
 // Whether a page is listed so.

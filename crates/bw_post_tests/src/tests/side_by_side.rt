@@ -1,9 +1,9 @@
 // Posting by many workers.
-ghost use Rattle.std.specs.Prelude.{◌<◌, ◌≤◌};
+ghost use Rattle.std.specs.Prelude.{◌≡◌, ◌<◌, ◌≤◌, None};
 
-use super::making::{FLOOR, has, upsert};
+use super::making::{FLOOR, has, memory, upsert};
 use crate::tests::assertions::{assert_equal, assert_that};
-use bw_fixtures::{heap, key};
+use bw_fixtures::key;
 use bw_group::Grouping;
 use bw_memory::Alloc;
 use bw_model::Op;
@@ -72,7 +72,35 @@ fn puts<R: Abort>(rt: &R, alloc: Alloc, count: u64) -> Vec<Op, Alloc> {
     ops
 }
 
-// Posts puts at one key by so many workers, each of which claims so many at once, and adopts them.
+// Posts puts at one key to a tree by so many workers, each of which claims so many at once, and adopts them. How many exchanges
+// they lost.
+fn adopt<R: Abort + Threads + Sync, G: Gate>(
+    rt: &R,
+    alloc: Alloc,
+    tree: &mut Tree,
+    ops: &[Op],
+    piece: u64,
+    workers: u64,
+    gate: &G,
+) -> u64
+    requires none { tree.old.staged ≡ None }
+    requires piece { (0 < piece) × (piece ≤ 4096) }
+{
+    assert!(rt; ops.len() <= 65536 && tree.next_stamp() == 0);
+    tree.stage(ops).expect(rt, "memory");
+    let grouping = Grouping::new(alloc, ops).expect(rt, "memory");
+    let posting = post_all(rt, alloc, tree, &grouping, piece, workers, gate);
+    let Posting {
+        pages,
+        closed,
+        lost,
+        ..
+    } = posting.expect(rt, "memory");
+    tree.adopt_on(pages, closed);
+    lost
+}
+
+// The same with a tree of its own.
 fn posted<R: Abort + Threads + Sync, G: Gate>(
     rt: &R,
     alloc: Alloc,
@@ -84,40 +112,34 @@ fn posted<R: Abort + Threads + Sync, G: Gate>(
     requires piece { (0 < piece) × (piece ≤ 4096) }
 {
     let mut tree = Tree::new(alloc).expect(rt, "memory");
-    assert!(rt; ops.len() <= 65536);
-    tree.stage(ops).expect(rt, "memory");
-    let grouping = Grouping::new(alloc, ops).expect(rt, "memory");
-    let posting = post_all(rt, alloc, &tree, &grouping, piece, workers, gate);
-    let Posting {
-        pages,
-        closed,
-        lost,
-        ..
-    } = posting.expect(rt, "memory");
-    tree.adopt_on(pages, closed);
+    let lost = adopt(rt, alloc, &mut tree, ops, piece, workers, gate);
     (tree, lost)
+}
+
+// Posts two puts by two workers, this one of which is late, and compares what is read.
+fn is_posted_late<R: Abort + Threads + Sync>(rt: &R, alloc: Alloc, ops: &[Op], late: u64) {
+    let turn = Turn::new(late, 1u64.saturating_sub(late), TURNS);
+    let (tree, _) = posted(rt, alloc, ops, 1, 2, &turn);
+    assert_equal(rt, turn.gave_up.load(Ordering::SeqCst), 0);
+    assert_equal(rt, turn.calls.load(Ordering::SeqCst), 4);
+    assert_equal(rt, tree.heads(), [FLOOR.saturating_add(late)].as_slice());
+    has(rt, alloc, &tree, 0, &[(b"a", None)]);
+    has(rt, alloc, &tree, 1, &[(b"a", Some(b"0"))]);
+    has(rt, alloc, &tree, 2, &[(b"a", Some(b"1"))]);
 }
 
 #[test]
 fn two_workers_post_in_either_order(rt: HostRuntime) {
-    let alloc = heap(rt.alloc()).expect(&rt, "memory");
+    let alloc = memory(&rt, rt.alloc());
     let ops = puts(&rt, alloc, 2);
-    for late in 0..2u64 {
-        let turn = Turn::new(late, 1 - late, TURNS);
-        let (tree, _) = posted(&rt, alloc, &ops, 1, 2, &turn);
-        assert_equal(&rt, turn.gave_up.load(Ordering::SeqCst), 0);
-        assert_equal(&rt, turn.calls.load(Ordering::SeqCst), 4);
-        assert_equal(&rt, tree.heads(), [FLOOR + late].as_slice());
-        has(&rt, alloc, &tree, 0, &[(b"a", None)]);
-        has(&rt, alloc, &tree, 1, &[(b"a", Some(b"0"))]);
-        has(&rt, alloc, &tree, 2, &[(b"a", Some(b"1"))]);
-    }
+    is_posted_late(&rt, alloc, &ops, 0);
+    is_posted_late(&rt, alloc, &ops, 1);
 }
 
 // The writes of a piece are posted by one worker, in their order.
 #[test]
 fn a_piece_is_posted_by_one_worker(rt: HostRuntime) {
-    let alloc = heap(rt.alloc()).expect(&rt, "memory");
+    let alloc = memory(&rt, rt.alloc());
     let ops = puts(&rt, alloc, 4);
     let turn = Turn::new(0, 1, TURNS / 10);
     let (tree, _) = posted(&rt, alloc, &ops, 2, 2, &turn);
@@ -149,7 +171,7 @@ impl Gate for Meeting {
 
 #[test]
 fn four_workers_post_at_once(rt: HostRuntime) {
-    let alloc = heap(rt.alloc()).expect(&rt, "memory");
+    let alloc = memory(&rt, rt.alloc());
     let ops = puts(&rt, alloc, 4);
     let meeting = Meeting {
         wanted: 4,
@@ -175,16 +197,29 @@ fn each_is_read<R: Abort>(rt: &R, alloc: Alloc, tree: &Tree, count: u64) {
     }
 }
 
+// Posts puts by so many workers in pieces of so many, and compares what is read.
+fn is_each_posted<R: Abort + Threads + Sync>(
+    rt: &R,
+    alloc: Alloc,
+    ops: &[Op],
+    piece: u64,
+    workers: u64,
+)
+    requires piece { (0 < piece) × (piece ≤ 4096) }
+{
+    let (tree, lost) = posted(rt, alloc, ops, piece, workers, &OpenGate);
+    assert_that(rt, workers > 1 || lost == 0);
+    assert_equal(rt, tree.records(), 200);
+    each_is_read(rt, alloc, &tree, 200);
+}
+
 #[test]
 fn each_number_of_workers_posts_each_write_once(rt: HostRuntime) {
-    let alloc = heap(rt.alloc()).expect(&rt, "memory");
+    let alloc = memory(&rt, rt.alloc());
     let ops = puts(&rt, alloc, 200);
     for workers in [1u64, 2, 16, 64] {
-        for piece in [1u64, 64, 4096] {
-            let (tree, lost) = posted(&rt, alloc, &ops, piece, workers, &OpenGate);
-            assert_that(&rt, workers > 1 || lost == 0);
-            assert_equal(&rt, tree.records(), 200);
-            each_is_read(&rt, alloc, &tree, 200);
-        }
+        is_each_posted(&rt, alloc, &ops, 1, workers);
+        is_each_posted(&rt, alloc, &ops, 64, workers);
+        is_each_posted(&rt, alloc, &ops, 4096, workers);
     }
 }
