@@ -1,5 +1,6 @@
 // Boards of a few records step by step, each allocation refused in turn, and several threads at once.
-ghost use Rattle.std.specs.Prelude.{◌≡◌, ◌≢◌, ◌≤◌, ◌<◌, ◌+◌, ℕ, None, true, length, slice_index_or};
+ghost use Rattle.std.specs.Prelude.{◌≡◌, ◌≢◌, ◌≤◌, ◌<◌, ◌+◌, ℕ, [], ◌∷◌, None, true, length, slice_index_or};
+ghost use Rattle.bw_core.specs.Transitions.{first_book};
 ghost use Rattle.bw_core.specs.World.{owns, tries_in};
 ghost use Rattle.bw_board.specs.Working.{HasLeft, HasPostedAll, SameWork};
 
@@ -10,7 +11,6 @@ mod storms;
 use crate::tests::assertions::{assert_equal, assert_that};
 use crate::tests::storms::merged;
 use bw_board::{Board, Closed, Replaced, Seat};
-use bw_key::Memory;
 use bw_memory::{Alloc, Heap};
 use std::alloc::Global;
 use std::ops::Range;
@@ -18,8 +18,19 @@ use std::process::Abort;
 
 pub(crate) const FLOOR: u64 = 1 << 32;
 
-pub(crate) fn counted(alloc: Global) -> Result<Alloc, Memory> {
-    Ok(Heap::counted(alloc).leak(alloc)?)
+// A heap of a test's own, which counts its growths.
+pub(crate) fn memory<R: Abort>(rt: &R, global: Global) -> Alloc {
+    Heap::counted(global).leak(global).expect(rt, "memory")
+}
+
+// A board over one page, whose word is 7, without a spare, and its seat.
+pub(crate) fn one_page<R: Abort>(rt: &R, alloc: Alloc, records: u64, piece: u64) -> (Board, Seat)
+    requires records { records ≤ 1000000 }
+    requires piece { (0 < piece) × (piece ≤ 4096) }
+    ensures first { result.0.first ≡ 7 ∷ [] }
+    ensures seat { result.1 ≡ record { board = result.0; book = first_book (7 ∷ []) } }
+{
+    Board::open(alloc, &[7], FLOOR, records, piece, &[]).expect(rt, "memory")
 }
 
 // Compares what a board was closed with: head words, links, and the pages whose first word was replaced.
@@ -80,6 +91,20 @@ fn post_one<R: Abort>(rt: &R, board: &Board, seat: &mut Seat, number: u64, most:
     assert_that(rt, lost <= most);
 }
 
+// Claims a piece of one record, which has this number, and posts it to the first page. It loses at most so many exchanges.
+fn claim_and_post<R: Abort>(rt: &R, board: &Board, seat: &mut Seat, number: u64, most: u64)
+    requires board { seat.old.board ≡ board.now }
+    requires page { 0 < length board.now.first }
+    requires posted { HasPostedAll seat.old }
+    ensures board { seat.new.board ≡ board.now }
+    ensures width { seat.new.book.width ≡ seat.old.book.width }
+    ensures swaps { seat.new.book.swaps ≡ seat.old.book.swaps }
+    ensures posted { HasPostedAll seat.new }
+{
+    claim_one(rt, board, seat, number);
+    post_one(rt, board, seat, number, most);
+}
+
 // Compares what becomes of a try to replace the first word of the first page, which has a spare.
 fn is_replaced<R: Abort>(rt: &R, board: &Board, seat: &mut Seat, wanted: Replaced)
     requires board { seat.old.board ≡ board.now }
@@ -115,8 +140,8 @@ fn claims<R: Abort>(rt: &R, board: &Board, seat: &mut Seat, wanted: Option<Range
 
 #[test]
 fn five_records_are_claimed_by_twos(rt: HostRuntime) {
-    let alloc = counted(rt.alloc()).expect(&rt, "memory");
-    let (board, mut seat) = Board::open(alloc, &[7], FLOOR, 5, 2, &[]).expect(&rt, "memory");
+    let alloc = memory(&rt, rt.alloc());
+    let (board, mut seat) = one_page(&rt, alloc, 5, 2);
     claims(&rt, &board, &mut seat, Some(0..2));
     claims(&rt, &board, &mut seat, Some(2..4));
     claims(&rt, &board, &mut seat, Some(4..5));
@@ -126,8 +151,8 @@ fn five_records_are_claimed_by_twos(rt: HostRuntime) {
 
 #[test]
 fn a_seat_is_split_ten_times(rt: HostRuntime) {
-    let alloc = counted(rt.alloc()).expect(&rt, "memory");
-    let (board, mut seat) = Board::open(alloc, &[7], FLOOR, 5, 2, &[]).expect(&rt, "memory");
+    let alloc = memory(&rt, rt.alloc());
+    let (board, mut seat) = one_page(&rt, alloc, 5, 2);
     for time in 0..10 {
         match board.split(seat) {
             Ok((left, _right)) => seat = left,
@@ -139,15 +164,13 @@ fn a_seat_is_split_ten_times(rt: HostRuntime) {
 
 #[test]
 fn two_seats_post_one_after_the_other(rt: HostRuntime) {
-    let alloc = counted(rt.alloc()).expect(&rt, "memory");
-    let (board, seat) = Board::open(alloc, &[7], FLOOR, 2, 1, &[]).expect(&rt, "memory");
+    let alloc = memory(&rt, rt.alloc());
+    let (board, seat) = one_page(&rt, alloc, 2, 1);
     let Ok((mut first, mut second)) = board.split(seat) else {
         panic!(rt; "not split")
     };
-    claim_one(&rt, &board, &mut first, 0);
-    post_one(&rt, &board, &mut first, 0, 0);
-    claim_one(&rt, &board, &mut second, 1);
-    post_one(&rt, &board, &mut second, 1, 0);
+    claim_and_post(&rt, &board, &mut first, 0, 0);
+    claim_and_post(&rt, &board, &mut second, 1, 0);
     has_chain(&rt, &board, &mut second, 0, &[1, 0]);
     has_chain(&rt, &board, &mut first, 0, &[1, 0]);
     is_told(&rt, &board, &mut first);
@@ -159,15 +182,14 @@ fn two_seats_post_one_after_the_other(rt: HostRuntime) {
 
 #[test]
 fn a_seat_that_looked_posts_after_another(rt: HostRuntime) {
-    let alloc = counted(rt.alloc()).expect(&rt, "memory");
-    let (board, seat) = Board::open(alloc, &[7], FLOOR, 2, 1, &[]).expect(&rt, "memory");
+    let alloc = memory(&rt, rt.alloc());
+    let (board, seat) = one_page(&rt, alloc, 2, 1);
     let Ok((mut first, mut second)) = board.split(seat) else {
         panic!(rt; "not split")
     };
     has_head(&rt, &board, &mut first, 7);
     claim_one(&rt, &board, &mut first, 0);
-    claim_one(&rt, &board, &mut second, 1);
-    post_one(&rt, &board, &mut second, 1, 0);
+    claim_and_post(&rt, &board, &mut second, 1, 0);
     post_one(&rt, &board, &mut first, 0, 1);
     has_chain(&rt, &board, &mut first, 0, &[0, 1]);
     has_head(&rt, &board, &mut second, FLOOR);
@@ -183,7 +205,7 @@ fn a_seat_that_looked_posts_after_another(rt: HostRuntime) {
 
 #[test]
 fn a_board_without_records(rt: HostRuntime) {
-    let alloc = counted(rt.alloc()).expect(&rt, "memory");
+    let alloc = memory(&rt, rt.alloc());
     let heads = [7, 9];
     let (board, mut seat) = Board::open(alloc, &heads, FLOOR, 0, 1, &[None, None]).expect(
         &rt, "memory",
@@ -196,13 +218,12 @@ fn a_board_without_records(rt: HostRuntime) {
 // The second page is behind the end of the spares, and has none.
 #[test]
 fn a_word_is_replaced_before_a_post(rt: HostRuntime) {
-    let alloc = counted(rt.alloc()).expect(&rt, "memory");
+    let alloc = memory(&rt, rt.alloc());
     let (board, mut seat) = Board::open(alloc, &[FLOOR, 9], FLOOR + 1, 1, 1, &[Some(5)]).expect(
         &rt, "memory",
     );
     is_replaced(&rt, &board, &mut seat, Replaced::Won);
-    claim_one(&rt, &board, &mut seat, 0);
-    post_one(&rt, &board, &mut seat, 0, 0);
+    claim_and_post(&rt, &board, &mut seat, 0, 0);
     is_told(&rt, &board, &mut seat);
     let closed = board.close(seat).expect(&rt, "memory");
     is_closed(&rt, &closed, &[FLOOR + 1, 9], &[5], &[0]);
@@ -210,12 +231,11 @@ fn a_word_is_replaced_before_a_post(rt: HostRuntime) {
 
 #[test]
 fn a_replacement_comes_late(rt: HostRuntime) {
-    let alloc = counted(rt.alloc()).expect(&rt, "memory");
+    let alloc = memory(&rt, rt.alloc());
     let (board, mut seat) = Board::open(alloc, &[FLOOR], FLOOR + 1, 1, 1, &[Some(5)]).expect(
         &rt, "memory",
     );
-    claim_one(&rt, &board, &mut seat, 0);
-    post_one(&rt, &board, &mut seat, 0, 0);
+    claim_and_post(&rt, &board, &mut seat, 0, 0);
     is_replaced(&rt, &board, &mut seat, Replaced::Late);
     is_told(&rt, &board, &mut seat);
     let closed = board.close(seat).expect(&rt, "memory");
@@ -268,8 +288,7 @@ fn is_refused(rt: &impl Abort, alloc: Alloc, growth: u64, call: Call) -> bool {
     }
     let (board, mut seat) = Board::open(alloc, &[7], FLOOR, 1, 1, &[Some(5)]).expect(rt, "memory");
     is_replaced(rt, &board, &mut seat, Replaced::Won);
-    claim_one(rt, &board, &mut seat, 0);
-    post_one(rt, &board, &mut seat, 0, 0);
+    claim_and_post(rt, &board, &mut seat, 0, 0);
     if call == Call::Peek {
         return is_peek_refused(rt, alloc, growth, &board, &mut seat);
     }
@@ -299,7 +318,7 @@ fn count_refused(rt: &impl Abort, alloc: Alloc, call: Call) -> u64 {
 
 #[test]
 fn each_growth_is_refused_in_turn(rt: HostRuntime) {
-    let alloc = counted(rt.alloc()).expect(&rt, "memory");
+    let alloc = memory(&rt, rt.alloc());
     let opened = count_refused(&rt, alloc, Call::Open);
     assert_that(&rt, opened > 2);
     let without_spares = count_refused(&rt, alloc, Call::OpenWithoutSpares);

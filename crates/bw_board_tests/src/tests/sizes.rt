@@ -4,7 +4,7 @@ ghost use Rattle.bw_core.specs.World.{owns};
 ghost use Rattle.bw_board.specs.Working.{HasPostedAll, HasLeft, SameWork};
 
 use super::storms::merged;
-use super::{FLOOR, counted};
+use super::{FLOOR, memory, one_page};
 use crate::tests::assertions::{assert_equal, assert_that};
 use bw_board::{Board, Seat};
 use bw_memory::Alloc;
@@ -98,8 +98,8 @@ fn chain_length(rt: &impl Abort, board: &Board, seat: &mut Seat, page: u64) -> u
 
 #[test]
 fn sixty_four_seats_post_to_one_page(rt: HostRuntime) {
-    let alloc = counted(rt.alloc()).expect(&rt, "memory");
-    let (board, seat) = Board::open(alloc, &[7], FLOOR, 128, 1, &[]).expect(&rt, "memory");
+    let alloc = memory(&rt, rt.alloc());
+    let (board, seat) = one_page(&rt, alloc, 128, 1);
     let seat = post_by_parts(&rt, &board, seat, 1, 6);
     let mut seat = post_rest(&rt, &board, seat, 1, 64);
     assert_equal(&rt, chain_length(&rt, &board, &mut seat, 0), 128);
@@ -111,9 +111,9 @@ fn sixty_four_seats_post_to_one_page(rt: HostRuntime) {
 
 #[test]
 fn a_million_records_are_posted(rt: HostRuntime) {
-    let alloc = counted(rt.alloc()).expect(&rt, "memory");
+    let alloc = memory(&rt, rt.alloc());
     let records = 1_000_000;
-    let (board, seat) = Board::open(alloc, &[7], FLOOR, records, 4096, &[]).expect(&rt, "memory");
+    let (board, seat) = one_page(&rt, alloc, records, 4096);
     let used = alloc.used();
     let mut seat = post_rest(&rt, &board, seat, 1, records.div_ceil(4096));
     assert_equal(&rt, alloc.used(), used);
@@ -150,6 +150,6 @@ fn post_to_many(rt: &impl Abort, alloc: Alloc, pages: usize)
 
 #[test]
 fn a_hundred_thousand_pages_have_records(rt: HostRuntime) {
-    let alloc = counted(rt.alloc()).expect(&rt, "memory");
+    let alloc = memory(&rt, rt.alloc());
     post_to_many(&rt, alloc, 100_000);
 }

@@ -4,7 +4,7 @@ ghost use Rattle.bw_core.specs.World.{owns, posts_in, tries_in};
 ghost use Rattle.bw_core.specs.Events.{post};
 ghost use Rattle.bw_board.specs.Working.{HasPostedAll, HasLeft, SameWork};
 
-use super::{FLOOR, counted};
+use super::{FLOOR, memory, one_page};
 use crate::tests::assertions::{assert_equal, assert_that};
 use bw_board::{Board, Closed, Replaced, Seat};
 use bw_memory::Alloc;
@@ -79,9 +79,11 @@ impl Diary {
 
     // The exchanges that its posts lost.
     fn lost(&self) -> u64 {
-        self.posts
-            .iter()
-            .fold(0, |lost: u64, noted| lost.saturating_add(noted.lost))
+        let mut lost = 0u64;
+        for noted in &self.posts {
+            lost = lost.saturating_add(noted.lost);
+        }
+        lost
     }
 }
 
@@ -349,57 +351,112 @@ fn chain_of(rt: &impl Abort, alloc: Alloc, closed: &Closed, page: u64) -> (Vec<u
     (chain, word)
 }
 
-// What a thread saw at the page is an end of the chain and of what it saw later, with all that it had posted there; a post lost at
-// most as many exchanges as there are records beneath it, and so many more.
-fn check_diary(rt: &impl Abort, diary: &Diary, page: u64, chain: &[u64], more: u64) {
+// Whether a chain has each of these records that was posted to its page.
+fn has_posted(chain: &[u64], posts: &[Noted], page: u64) -> bool {
+    for noted in posts {
+        if noted.page == page && !chain.contains(&noted.rec) {
+            return false;
+        }
+    }
+    true
+}
+
+// What a thread saw at the page is an end of the chain and of what it saw later, with all that it had posted there.
+fn check_peeks(rt: &impl Abort, diary: &Diary, page: u64, chain: &[u64]) {
     let mut before: &[u64] = &[];
-    for peek in diary.peeks.iter().filter(|peek| peek.page == page) {
+    for peek in &diary.peeks {
+        if peek.page != page {
+            continue;
+        }
         let seen = peek.chain.as_slice();
         assert_that(rt, chain.ends_with(seen) && seen.ends_with(before));
         before = seen;
-        for noted in diary
-            .posts
-            .iter()
-            .take(peek.posts)
-            .filter(|noted| noted.page == page)
-        {
-            assert_that(rt, seen.contains(&noted.rec));
+        let posts = diary.posts.get(..peek.posts).expect(rt, "the posts");
+        assert_that(rt, has_posted(seen, posts, page));
+    }
+}
+
+// How many records are beneath one in a chain.
+fn count_beneath(chain: &[u64], rec: u64) -> Option<u64> {
+    let mut beneath = 0u64;
+    for other in chain.iter().rev() {
+        if *other == rec {
+            return Some(beneath);
+        }
+        beneath = beneath.saturating_add(1);
+    }
+    None
+}
+
+// A post lost at most as many exchanges as there are records beneath it, and so many more.
+fn check_posts(rt: &impl Abort, posts: &[Noted], page: u64, chain: &[u64], more: u64) {
+    for noted in posts {
+        if noted.page == page {
+            let beneath = count_beneath(chain, noted.rec).expect(rt, "a posted record");
+            assert_that(rt, noted.lost <= beneath.saturating_add(more));
         }
     }
-    for noted in diary.posts.iter().filter(|noted| noted.page == page) {
-        let beneath = chain.iter().rev().position(|rec| *rec == noted.rec);
-        let beneath = beneath.expect(rt, "a posted record") as u64;
-        assert_that(rt, noted.lost <= beneath.saturating_add(more));
+}
+
+// The chain of a page of a closed board agrees with what each thread did and saw.
+fn check_chain(rt: &impl Abort, closed: &Closed, diaries: &[Diary], page: u64, chain: &[u64]) {
+    let more = u64::from(closed.swapped().contains(&page));
+    for diary in diaries {
+        check_peeks(rt, diary, page, chain);
+        check_posts(rt, &diary.posts, page, chain, more);
     }
+}
+
+// The chain of a page of a closed board ends in this word. Its records are added to a list.
+fn check_page(
+    rt: &impl Abort,
+    closed: &Closed,
+    diaries: &[Diary],
+    page: u64,
+    last: u64,
+    all: &mut Vec<u64, Alloc>,
+) {
+    let (chain, word) = chain_of(rt, *all.allocator(), closed, page);
+    assert_equal(rt, word, last);
+    check_chain(rt, closed, diaries, page, &chain);
+    all.extend_from_slice(&chain).expect(rt, "memory");
+}
+
+// Whether these are all records in their order.
+fn are_all(records: &[u64]) -> bool {
+    let mut next = 0u64;
+    for rec in records {
+        if *rec != next {
+            return false;
+        }
+        next = next.saturating_add(1);
+    }
+    next == RECORDS
 }
 
 // The chains of a closed board have each record once, and end in these words.
 fn check_closed(rt: &impl Abort, alloc: Alloc, closed: &Closed, diaries: &[Diary], lasts: &[u64]) {
     let mut all = Vec::new(alloc);
-    for (page, expected) in lasts.iter().enumerate() {
-        let (chain, last) = chain_of(rt, alloc, closed, page as u64);
-        assert_equal(rt, last, *expected);
-        let more = u64::from(closed.swapped().contains(&(page as u64)));
-        for diary in diaries {
-            check_diary(rt, diary, page as u64, chain.as_slice(), more);
-        }
-        all.extend_from_slice(chain.as_slice()).expect(rt, "memory");
+    for (page, last) in lasts.iter().enumerate() {
+        check_page(rt, closed, diaries, page as u64, *last, &mut all);
     }
     all.sort_unstable();
-    assert_that(rt, all.iter().copied().eq(0..RECORDS));
+    assert_that(rt, are_all(&all));
 }
 
 // All exchanges that the threads lost.
 fn lost_by(diaries: &[Diary]) -> u64 {
-    diaries
-        .iter()
-        .fold(0, |lost: u64, diary| lost.saturating_add(diary.lost()))
+    let mut lost = 0u64;
+    for diary in diaries {
+        lost = lost.saturating_add(diary.lost());
+    }
+    lost
 }
 
 #[test]
 fn two_threads_post_to_one_page(rt: HostRuntime) {
-    let alloc = counted(rt.alloc()).expect(&rt, "memory");
-    let (board, seat) = Board::open(alloc, &[7], FLOOR, RECORDS, 1, &[]).expect(&rt, "memory");
+    let alloc = memory(&rt, rt.alloc());
+    let (board, seat) = one_page(&rt, alloc, RECORDS, 1);
     let (seat, one, two) = post_by_two(&rt, alloc, &Gate::new(2), &board, seat, 1);
     let closed = board.close(seat).expect(&rt, "memory");
     assert_that(&rt, closed.swapped().is_empty());
@@ -410,7 +467,7 @@ fn two_threads_post_to_one_page(rt: HostRuntime) {
 
 #[test]
 fn four_threads_post_to_eight_pages(rt: HostRuntime) {
-    let alloc = counted(rt.alloc()).expect(&rt, "memory");
+    let alloc = memory(&rt, rt.alloc());
     let heads = [0, 1, 2, 3, 4, 5, 6, 7];
     let (board, seat) = Board::open(alloc, &heads, FLOOR, RECORDS, 1, &[None; 8]).expect(
         &rt, "memory",
@@ -424,7 +481,7 @@ fn four_threads_post_to_eight_pages(rt: HostRuntime) {
 
 #[test]
 fn a_word_is_replaced_while_two_threads_post(rt: HostRuntime) {
-    let alloc = counted(rt.alloc()).expect(&rt, "memory");
+    let alloc = memory(&rt, rt.alloc());
     let spares = [Some(5)];
     let (board, seat) = Board::open(alloc, &[7], FLOOR, RECORDS, 1, &spares).expect(&rt, "memory");
     let (seat, one, two, won) = post_beside(&rt, alloc, &Gate::new(3), &board, seat, &spares);
