@@ -1,9 +1,10 @@
 // Operations in the order of their keys, where keys begin alike.
 ghost use Rattle.std.specs.Prelude.{◌<◌};
 
+use super::making::memory;
 use crate::tests::assertions::{assert_equal, assert_that};
-use bw_fixtures::{heap, key, was_refused};
-use bw_group::Grouping;
+use bw_fixtures::{key, was_refused};
+use bw_group::{Grouping, Point};
 use bw_key::Memory;
 use bw_memory::Alloc;
 use bw_model::Op;
@@ -36,6 +37,14 @@ fn falling_gets(alloc: Alloc, times: usize) -> Result<Vec<Op, Alloc>, Memory> {
     Ok(ops)
 }
 
+// Looks at the key and the place of a get: that of a number among the keys that rise, and of a time.
+fn is_point<R: Abort>(rt: &R, point: &Point<'_>, number: usize, time: usize) {
+    assert_equal(rt, Some(point.key.bytes()), RISING.get(number).copied());
+    let first = 11usize.saturating_sub(number);
+    let place = first.saturating_add(time.saturating_mul(12));
+    assert_equal(rt, point.place(), place);
+}
+
 // Groups the gets, and looks at their keys and places.
 fn group_gets<R: Abort>(rt: &R, alloc: Alloc, times: usize)
     requires { 0 < times }
@@ -45,31 +54,24 @@ fn group_gets<R: Abort>(rt: &R, alloc: Alloc, times: usize)
     let batch = Grouping::new(alloc, &ops).expect(rt, "memory");
     assert_equal(rt, batch.points().len(), ops.len());
     for (at, point) in batch.points().iter().enumerate() {
-        let (number, time) = (at / times, at % times);
-        assert_equal(rt, Some(point.key.bytes()), RISING.get(number).copied());
-        let first = 11usize.saturating_sub(number);
-        assert_equal(
-            rt,
-            point.place(),
-            first.saturating_add(time.saturating_mul(12)),
-        );
+        is_point(rt, point, at / times, at % times);
     }
 }
 
 #[test]
 fn keys_that_begin_alike_are_in_order(rt: HostRuntime) {
-    group_gets(&rt, heap(rt.alloc()).expect(&rt, "memory"), 2);
+    group_gets(&rt, memory(&rt, rt.alloc()), 2);
 }
 
 // From 256 operations on they are sorted by rank first.
 #[test]
 fn many_keys_that_begin_alike_are_in_order(rt: HostRuntime) {
-    group_gets(&rt, heap(rt.alloc()).expect(&rt, "memory"), 25);
+    group_gets(&rt, memory(&rt, rt.alloc()), 25);
 }
 
 #[test]
 fn each_growth_of_a_large_grouping_is_refused(rt: HostRuntime) {
-    let alloc = heap(rt.alloc()).expect(&rt, "memory");
+    let alloc = memory(&rt, rt.alloc());
     let ops = falling_gets(alloc, 25).expect(&rt, "memory");
     assert!(rt; ops.len() < 1000);
     for growth in 1..100 {

@@ -1,9 +1,9 @@
 // The homes of a batch of reads over three leaves.
 ghost use Rattle.std.specs.Prelude.{◌≡◌, length};
 
-use super::making::{homes_of, six_reads, three};
+use super::making::{homes_of, memory, six_reads, three};
 use crate::tests::assertions::{assert_equal, assert_that};
-use bw_fixtures::{heap, was_refused};
+use bw_fixtures::was_refused;
 use bw_group::Homes;
 use bw_page::PageId;
 use std::process::Abort;
@@ -25,7 +25,7 @@ fn are_homes<R: Abort>(rt: &R, homes: &Homes)
 
 #[test]
 fn each_key_has_its_home_at_its_place(rt: HostRuntime) {
-    let alloc = heap(rt.alloc()).expect(&rt, "memory");
+    let alloc = memory(&rt, rt.alloc());
     let tree = three(&rt, alloc);
     let ops = six_reads(&rt, alloc);
     let homes = homes_of(&rt, alloc, &tree, &ops, 1).expect(&rt, "memory");
@@ -34,7 +34,7 @@ fn each_key_has_its_home_at_its_place(rt: HostRuntime) {
 
 #[test]
 fn each_growth_of_homes_is_refused(rt: HostRuntime) {
-    let alloc = heap(rt.alloc()).expect(&rt, "memory");
+    let alloc = memory(&rt, rt.alloc());
     let tree = three(&rt, alloc);
     let ops = six_reads(&rt, alloc);
     for growth in 1..100 {

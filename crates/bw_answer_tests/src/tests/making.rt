@@ -6,14 +6,20 @@ ghost use Rattle.bw_group.specs.Homes.{AreHomes};
 ghost use Rattle.bw_look.specs.View.{contents_at};
 
 use bw_answer::{replies, replies_in_parts};
-use bw_fixtures::{LONG, key, pair, three_leaves, two, value};
+use bw_fixtures::{LONG, heap, key, pair, three_leaves, two, value};
 use bw_group::{Grouping, Homes, find_homes};
-use bw_key::Memory;
+use bw_key::{Key, Memory};
 use bw_memory::Alloc;
-use bw_model::{Op, Pairs, Replies, Reply};
+use bw_model::{Op, Pairs, Replies, Reply, Value};
 use bw_tree::Tree;
+use std::alloc::Global;
 use std::process::Abort;
 use std::thread::Threads;
+
+/// A heap of a test's own.
+pub fn memory<R: Abort>(rt: &R, global: Global) -> Alloc {
+    heap(global).expect(rt, "memory")
+}
 
 /// The tree over three leaves, with no write over any: a 1 and b 2; c and a long text; e 5.
 pub fn three<R: Abort>(rt: &R, alloc: Alloc) -> Tree
@@ -23,34 +29,42 @@ pub fn three<R: Abort>(rt: &R, alloc: Alloc) -> Tree
     Tree::from_level(alloc, leaves).expect(rt, "memory")
 }
 
+// The key of these bytes.
+fn key_of<R: Abort>(rt: &R, alloc: Alloc, bytes: &[u8]) -> Key {
+    key(alloc, bytes).expect(rt, "memory")
+}
+
 /// Six reads: e, a, two pairs from b on, d, c, and two pairs back from e.
 pub fn six_reads<R: Abort>(rt: &R, alloc: Alloc) -> [Op; 6]
     ensures { AllByRecursion (λ op. write_of op ≡ None) result }
 {
     [
-        Op::Get(key(alloc, b"e").expect(rt, "memory")),
-        Op::Get(key(alloc, b"a").expect(rt, "memory")),
+        Op::Get(key_of(rt, alloc, b"e")),
+        Op::Get(key_of(rt, alloc, b"a")),
         Op::Scan {
-            from: key(alloc, b"b").expect(rt, "memory"),
+            from: key_of(rt, alloc, b"b"),
             to: None,
             most: 2,
         },
-        Op::Get(key(alloc, b"d").expect(rt, "memory")),
-        Op::Get(key(alloc, b"c").expect(rt, "memory")),
+        Op::Get(key_of(rt, alloc, b"d")),
+        Op::Get(key_of(rt, alloc, b"c")),
         Op::Rscan {
-            from: key(alloc, b"").expect(rt, "memory"),
-            to: Some(key(alloc, b"e").expect(rt, "memory")),
+            from: key_of(rt, alloc, b""),
+            to: Some(key_of(rt, alloc, b"e")),
             most: 2,
         },
     ]
 }
 
+// The pair of a key and its value.
+fn pair_of<R: Abort>(rt: &R, alloc: Alloc, at: &[u8], bytes: &[u8]) -> (Key, Value) {
+    pair(alloc, at, bytes).expect(rt, "memory")
+}
+
 // The pairs b 2 and c, in this order or in the other.
 fn b_and_c<R: Abort>(rt: &R, alloc: Alloc, is_rising: bool) -> Pairs {
-    let (b, c) = (
-        pair(alloc, b"b", b"2").expect(rt, "memory"),
-        pair(alloc, b"c", LONG).expect(rt, "memory"),
-    );
+    let b = pair_of(rt, alloc, b"b", b"2");
+    let c = pair_of(rt, alloc, b"c", LONG);
     let pairs = if is_rising {
         two(alloc, b, c)
     } else {
@@ -59,14 +73,19 @@ fn b_and_c<R: Abort>(rt: &R, alloc: Alloc, is_rising: bool) -> Pairs {
     pairs.expect(rt, "the pairs")
 }
 
+// The reply of a get that finds these bytes.
+fn found<R: Abort>(rt: &R, alloc: Alloc, bytes: &[u8]) -> Reply {
+    Reply::Found(value(alloc, bytes).expect(rt, "memory"))
+}
+
 /// The replies to the six reads.
 pub fn six_replies<R: Abort>(rt: &R, alloc: Alloc) -> [Reply; 6] {
     [
-        Reply::Found(value(alloc, b"5").expect(rt, "memory")),
-        Reply::Found(value(alloc, b"1").expect(rt, "memory")),
+        found(rt, alloc, b"5"),
+        found(rt, alloc, b"1"),
         Reply::Pairs(b_and_c(rt, alloc, true)),
         Reply::Absent,
-        Reply::Found(value(alloc, LONG).expect(rt, "memory")),
+        found(rt, alloc, LONG),
         Reply::Pairs(b_and_c(rt, alloc, false)),
     ]
 }
@@ -75,7 +94,7 @@ pub fn six_replies<R: Abort>(rt: &R, alloc: Alloc) -> [Reply; 6] {
 fn read<R: Abort>(rt: &R, alloc: Alloc, number: u64) -> Op
     ensures { write_of result ≡ None }
 {
-    let from = key(alloc, &[b'a' + (number % 7) as u8]).expect(rt, "memory");
+    let from = key_of(rt, alloc, &[b'a' + (number % 7) as u8]);
     match number % 16 {
         3 => Op::Scan {
             from,

@@ -1,11 +1,18 @@
 // A batch of reads over three leaves.
-ghost use Rattle.std.specs.Prelude.{◌<◌};
+ghost use Rattle.std.specs.Prelude.{◌≡◌, ℕ, ◌<◌, ◌≤◌, length, None};
+ghost use Rattle.std.specs.List.{AllByRecursion};
+ghost use Rattle.bw_delta.specs.Batches.{write_of};
+ghost use Rattle.bw_look.specs.View.{contents_at};
 
-use super::making::{reads, replies_by_parts, replies_by_workers, six_reads, six_replies, three};
+use super::making::{
+    memory, reads, replies_by_parts, replies_by_workers, six_reads, six_replies, three,
+};
 use crate::tests::assertions::{assert_equal, assert_that};
-use bw_fixtures::{heap, was_refused};
+use bw_fixtures::was_refused;
 use bw_memory::Alloc;
-use bw_model::Reply;
+use bw_model::{Op, Reply};
+use bw_tree::Tree;
+use std::alloc::Global;
 use std::process::Abort;
 use std::thread::Threads;
 
@@ -17,37 +24,100 @@ fn compare<R: Abort>(rt: &R, replies: &[Reply], wanted: &[Reply]) {
     }
 }
 
-#[test]
-fn each_read_is_answered_at_its_place(rt: HostRuntime) {
-    let alloc = heap(rt.alloc()).expect(&rt, "memory");
-    let tree = three(&rt, alloc);
-    let ops = six_reads(&rt, alloc);
-    for workers in [1, 2, 16, 64] {
-        let replies = replies_by_workers(&rt, alloc, &tree, &ops, workers).expect(&rt, "memory");
-        compare(&rt, replies.as_slice(), &six_replies(&rt, alloc));
-    }
+// Compares the replies to the six reads.
+fn compare_six<R: Abort>(rt: &R, alloc: Alloc, replies: &[Reply]) {
+    compare(rt, replies, &six_replies(rt, alloc));
+}
+
+// Answers the six reads by so many workers, and compares the replies.
+fn answers_by_workers<R: Abort + Threads + Sync>(
+    rt: &R,
+    alloc: Alloc,
+    tree: &Tree,
+    ops: &[Op],
+    workers: u64,
+)
+    requires quiet { (stamp : ℕ) → contents_at tree.now stamp ≡ contents_at tree.now 0 }
+    requires reads { AllByRecursion (λ op. write_of op ≡ None) ops.now }
+    requires few { length ops.now ≤ 20000 }
+{
+    let replies = replies_by_workers(rt, alloc, tree, ops, workers).expect(rt, "memory");
+    compare_six(rt, alloc, replies.as_slice());
 }
 
 #[test]
+fn each_read_is_answered_at_its_place(rt: HostRuntime) {
+    let alloc = memory(&rt, rt.alloc());
+    let tree = three(&rt, alloc);
+    let ops = six_reads(&rt, alloc);
+    for workers in [1, 2, 16, 64] {
+        answers_by_workers(&rt, alloc, &tree, &ops, workers);
+    }
+}
+
+// Answers the six reads in so many parts where this growth is refused, if it comes, and compares the replies. Whether it was
+// refused.
+fn answers_in_parts<R: Abort + Threads + Sync>(
+    rt: &R,
+    alloc: Alloc,
+    tree: &Tree,
+    ops: &[Op],
+    count: usize,
+    growth: u64,
+) -> bool
+    requires quiet { (stamp : ℕ) → contents_at tree.now stamp ≡ contents_at tree.now 0 }
+    requires reads { AllByRecursion (λ op. write_of op ≡ None) ops.now }
+    requires few { length ops.now ≤ 20000 }
+    requires count { 0 < count }
+{
+    alloc.refuse(growth);
+    let replies = replies_by_parts(rt, alloc, tree, ops, count);
+    if was_refused(alloc, growth) {
+        assert_that(rt, replies.is_err());
+        return true;
+    }
+    compare_six(rt, alloc, replies.expect(rt, "memory").as_slice());
+    false
+}
+
+// More growths than the replies take.
+const MANY: u64 = 1_000_000;
+
+#[test]
 fn each_read_is_answered_in_parts(rt: HostRuntime) {
-    let alloc = heap(rt.alloc()).expect(&rt, "memory");
+    let alloc = memory(&rt, rt.alloc());
     let tree = three(&rt, alloc);
     let ops = six_reads(&rt, alloc);
     for count in [1, 2, 3, 64] {
-        let replies = replies_by_parts(&rt, alloc, &tree, &ops, count).expect(&rt, "memory");
-        compare(&rt, replies.as_slice(), &six_replies(&rt, alloc));
+        assert_that(&rt, !answers_in_parts(&rt, alloc, &tree, &ops, count, MANY));
     }
+}
+
+// Answers reads by so many workers, and compares the replies.
+fn answers_alike<R: Abort + Threads + Sync>(
+    rt: &R,
+    alloc: Alloc,
+    tree: &Tree,
+    ops: &[Op],
+    workers: u64,
+    wanted: &[Reply],
+)
+    requires quiet { (stamp : ℕ) → contents_at tree.now stamp ≡ contents_at tree.now 0 }
+    requires reads { AllByRecursion (λ op. write_of op ≡ None) ops.now }
+    requires few { length ops.now ≤ 20000 }
+{
+    let replies = replies_by_workers(rt, alloc, tree, ops, workers).expect(rt, "memory");
+    compare(rt, replies.as_slice(), wanted);
 }
 
 #[test]
 fn many_reads_are_answered_alike_by_any_number_of_workers(rt: HostRuntime) {
-    let alloc = heap(rt.alloc()).expect(&rt, "memory");
+    let alloc = memory(&rt, rt.alloc());
     let tree = three(&rt, alloc);
     let ops = reads(&rt, alloc, 20_000);
     let alone = replies_by_workers(&rt, alloc, &tree, &ops, 1).expect(&rt, "memory");
     for workers in [2, 16, 64] {
-        let replies = replies_by_workers(&rt, alloc, &tree, &ops, workers).expect(&rt, "memory");
-        compare(&rt, replies.as_slice(), alone.as_slice());
+        answers_alike(&rt, alloc, &tree, &ops, workers, alone.as_slice());
     }
 }
 
@@ -55,19 +125,18 @@ fn many_reads_are_answered_alike_by_any_number_of_workers(rt: HostRuntime) {
 fn growths<R: Abort + Threads + Sync>(rt: &R, alloc: Alloc, workers: u64) -> u64 {
     let tree = three(rt, alloc);
     let ops = reads(rt, alloc, 5_000);
-    let many = 1_000_000;
-    alloc.refuse(many);
+    alloc.refuse(MANY);
     let replies = replies_by_workers(rt, alloc, &tree, &ops, workers);
     let left = alloc.left();
     alloc.refuse(0);
     assert_that(rt, replies.is_ok());
-    many.saturating_sub(left)
+    MANY.saturating_sub(left)
 }
 
 // Each part has lists of its own.
 #[test]
 fn more_workers_answer_in_more_parts(rt: HostRuntime) {
-    let alloc = heap(rt.alloc()).expect(&rt, "memory");
+    let alloc = memory(&rt, rt.alloc());
     let alone = growths(&rt, alloc, 1);
     let four = growths(&rt, alloc, 4);
     assert_that(&rt, alone < four);
@@ -75,38 +144,34 @@ fn more_workers_answer_in_more_parts(rt: HostRuntime) {
 
 #[test]
 fn a_batch_of_no_operations_has_no_replies(rt: HostRuntime) {
-    let alloc = heap(rt.alloc()).expect(&rt, "memory");
+    let alloc = memory(&rt, rt.alloc());
     let tree = three(&rt, alloc);
     let replies = replies_by_workers(&rt, alloc, &tree, &[], 16).expect(&rt, "memory");
     assert_equal(&rt, replies.as_slice().len(), 0);
 }
 
 // Refuses each growth of the replies in so many parts, until none is left to refuse.
-fn refuse_each<R: Abort + Threads + Sync>(rt: &R, alloc: Alloc, count: usize)
+fn refuse_each<R: Abort + Threads + Sync>(rt: &R, global: Global, count: usize)
     requires { 0 < count }
 {
+    let alloc = memory(rt, global);
     let tree = three(rt, alloc);
     let ops = six_reads(rt, alloc);
     for growth in 1..200 {
-        alloc.refuse(growth);
-        let replies = replies_by_parts(rt, alloc, &tree, &ops, count);
-        if !was_refused(alloc, growth) {
-            let replies = replies.expect(rt, "memory");
-            compare(rt, replies.as_slice(), &six_replies(rt, alloc));
+        if !answers_in_parts(rt, alloc, &tree, &ops, count, growth) {
             assert_that(rt, growth > 9);
             return;
         }
-        assert_that(rt, replies.is_err());
     }
     panic!(rt; "no run met no refusal")
 }
 
 #[test]
 fn each_growth_of_replies_is_refused(rt: HostRuntime) {
-    refuse_each(&rt, heap(rt.alloc()).expect(&rt, "memory"), 1);
+    refuse_each(&rt, rt.alloc(), 1);
 }
 
 #[test]
 fn each_growth_of_replies_in_parts_is_refused(rt: HostRuntime) {
-    refuse_each(&rt, heap(rt.alloc()).expect(&rt, "memory"), 4);
+    refuse_each(&rt, rt.alloc(), 4);
 }
