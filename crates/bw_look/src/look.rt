@@ -14,8 +14,8 @@ use bw_page::PageId;
 use std::marker::Model;
 
 mod children;
+mod entry_counts;
 mod identifiers;
-mod page_counts;
 mod page_states;
 mod removed_pages;
 mod search;

@@ -30,7 +30,16 @@ pub record DueView : Type 0 where
 
 -- nothing is to be looked at
 abbrev pub no_due : DueView
-no_due = record { pages = []; above = []; later = []; begun = []; marked = []; moving = None; unfinished = None; given = false }
+no_due = record {
+  pages = [];
+  above = [];
+  later = [];
+  begun = [];
+  marked = [];
+  moving = None;
+  unfinished = None;
+  given = false;
+}
 
 -- The tree holds what it held as of its next stamp, which is the same, and nothing is staged. It has no fewer records; where it
 -- has no more, its leaves are the same, with the same ranges: each split puts a record, and each merge two.

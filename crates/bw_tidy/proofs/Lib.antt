@@ -1,2 +1,2 @@
-pub mod PutLemmas
-pub mod LevelLemmas
+pub mod PutLeafLemmas
+pub mod DueLevelLemmas

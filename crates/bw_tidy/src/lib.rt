@@ -3,9 +3,9 @@
 #![tactic(auto)]
 
 mod findings;
-mod workers;
+mod leaf_workers;
 
-pub use workers::tidy_by;
+pub use leaf_workers::tidy_by;
 
 /// The pages that are due, the limits that they are kept to, and what tidying did.
 pub use bw_shape::{Due, Limits, Tidy};

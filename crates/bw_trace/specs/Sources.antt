@@ -29,7 +29,7 @@ abbrev pub unread_of : List ℕ → ℕ → ℕ → Option (List ℕ) → Option
 unread_of buffer at len rest = prepend_known (take (len - at) (drop at buffer)) rest
 
 -- it came to its end, and nothing is left
-pub record IsOver (s : SourceView) : Type 0 where
+pub record HasEnded (s : SourceView) : Type 0 where
   pub ended : s.ended ≡ true
   pub nothing_left : IsAtEnd s.unread
   pub told : s.has_ended ≡ true

@@ -6,7 +6,7 @@ ghost use Rattle.bw_trace.specs.Counts.{HasRisenBy};
 ghost use Rattle.bw_trace.specs.Faults.{IsOfBytes, IsOfInput, IsOfReading, IfLine};
 ghost use Rattle.bw_trace.specs.Lines.{IsLineOf, parsed_lines_of};
 ghost use Rattle.bw_trace.specs.Grammar.{IsLineMeaning, first_place, place_behind};
-ghost use Rattle.bw_trace.specs.Sources.{IsOver, ReadsOn};
+ghost use Rattle.bw_trace.specs.Sources.{HasEnded, ReadsOn};
 ghost use Rattle.bw_trace.specs.Traces.{StandFor, IsFaultyAt, trace_from, cut_trace_from, no_trace};
 
 use crate::faults::TraceFault;
@@ -102,7 +102,7 @@ impl<R: Inlet> Source<R> {
     // The next byte, None at the end.
     fn next_byte(&mut self) -> Result<Option<u8>, TraceFault>
         ensures byte { IfOk result (λ next. MatchOption next
-            (Consumes self.old.unread self.new.unread [] × IsOver self.new)
+            (Consumes self.old.unread self.new.unread [] × HasEnded self.new)
             (λ b. Consumes self.old.unread self.new.unread (b ∷ []) × (self.old.ended ≡ false)
             × (self.new.ended ≡ false))) }
         ensures falls { IfOk result (λ next. IfSome next (λ _. self.new.budget < self.old.budget)) }
@@ -150,8 +150,8 @@ impl<R: Inlet> Source<R> {
         ensures line { IfOk result (λ found. MatchBool found
             ((read : List ℕ) × Consumes self.old.unread self.new.unread read
             × IsLineOf line.new.items read self.new.ended
-            × (self.new.ended ≡ true → IsOver self.new))
-            (Consumes self.old.unread self.new.unread [] × IsOver self.new)) }
+            × (self.new.ended ≡ true → HasEnded self.new))
+            (Consumes self.old.unread self.new.unread [] × HasEnded self.new)) }
         ensures falls { result ≡ Ok true → self.new.budget < self.old.budget }
         ensures over { self.old.ended ≡ true → result ≡ Ok false }
         ensures on { ReadsOn self.old self.new }
@@ -189,10 +189,10 @@ impl<R: Inlet> Source<R> {
         requires { self.old.place.lines + self.old.budget < 2 ^ 64 }
         ensures meaning { IfOk result (λ next. (read : List ℕ) × Consumes self.old.unread self.new.unread read
             × MatchOption next
-            ((read ≡ []) × (self.new.place ≡ self.old.place) × IsOver self.new)
+            ((read ≡ []) × (self.new.place ≡ self.old.place) × HasEnded self.new)
             (λ meaning. IsLineMeaning self.old.place read meaning self.new.ended
             × (self.new.place ≡ place_behind self.old.place meaning) × (self.old.ended ≡ false)
-            × (self.new.ended ≡ true → IsOver self.new))) }
+            × (self.new.ended ≡ true → HasEnded self.new))) }
         ensures over { self.old.ended ≡ true → result ≡ Ok None }
         ensures cut { IfErr result (λ fault. IsOfInput fault → (self.old.ended ≡ false)
             × ((read : List ℕ) × Consumes self.old.unread self.new.remaining read × (parsed_lines_of read ≡ []))) }
@@ -218,14 +218,14 @@ impl<R: Inlet> Source<R> {
     fn gather(&mut self) -> Result<Option<Vec<Op, Alloc>>, TraceFault>
         ensures batch { IfOk result (λ next. (read : List ℕ) × Consumes self.old.unread self.new.unread read
             × MatchOption next
-            ((trace_from self.old.place read ≡ no_trace) × (self.old.ended ≡ true → read ≡ []) × IsOver self.new)
+            ((trace_from self.old.place read ≡ no_trace) × (self.old.ended ≡ true → read ≡ []) × HasEnded self.new)
             (λ ops. StandFor self.old.place read (ops.items ∷ []) self.new.place self.new.ended
             × (self.old.ended ≡ false)
-            × (self.new.ended ≡ true → IsOver self.new))) }
+            × (self.new.ended ≡ true → HasEnded self.new))) }
         ensures over { self.old.ended ≡ true → result ≡ Ok None }
         ensures line { IfErr result (λ fault. IfLine fault
             (λ number cause. (read : List ℕ) × Consumes self.old.unread self.new.unread read
-            × IsFaultyAt self.old.place read number cause self.new.ended × (self.new.ended ≡ true → IsOver self.new))) }
+            × IsFaultyAt self.old.place read number cause self.new.ended × (self.new.ended ≡ true → HasEnded self.new))) }
         ensures cut { IfErr result (λ fault. IsOfInput fault → (self.old.ended ≡ false)
             × ((read : List ℕ) × Consumes self.old.unread self.new.remaining read
             × (cut_trace_from self.old.place read ≡ no_trace))) }
@@ -269,16 +269,16 @@ pub fn read_batch<R: Inlet>(source: &mut Source<R>) -> Result<Option<Vec<Op, All
     // The bytes that were read stand for the batch. At the end they stand for none, and the reader told its end.
     ensures batch { IfOk result (λ next. (read : List ℕ) × Consumes source.old.unread source.new.unread read
         × MatchOption next
-        ((trace_from source.old.place read ≡ no_trace) × (source.old.ended ≡ true → read ≡ []) × IsOver source.new)
+        ((trace_from source.old.place read ≡ no_trace) × (source.old.ended ≡ true → read ≡ []) × HasEnded source.new)
         (λ ops. StandFor source.old.place read (ops.items ∷ []) source.new.place source.new.ended
         × (source.old.ended ≡ false)
-        × (source.new.ended ≡ true → IsOver source.new))) }
+        × (source.new.ended ≡ true → HasEnded source.new))) }
     ensures over { source.old.fault ≡ None → source.old.ended ≡ true → result ≡ Ok None }
     // The line of this number is the first that is faulty, whatever follows.
     ensures line { source.old.fault ≡ None → IfErr result (λ fault. IfLine fault (λ number cause. (read : List ℕ)
         × Consumes source.old.unread source.new.unread read
         × IsFaultyAt source.old.place read number cause source.new.ended
-        × (source.new.ended ≡ true → IsOver source.new))) }
+        × (source.new.ended ≡ true → HasEnded source.new))) }
     // Where the input failed or did not end, no line `go` was read whole.
     ensures cut { source.old.fault ≡ None → IfErr result (λ fault. IsOfInput fault → (source.old.ended ≡ false)
         × ((read : List ℕ) × Consumes source.old.unread source.new.remaining read

@@ -19,10 +19,10 @@ mod merges;
 mod naming;
 mod new_children;
 mod page_consolidation;
-mod reading;
+mod page_splits;
+mod readers;
 mod restart;
 mod roots;
-mod splits;
 mod trimming;
 
 /// Pages, named by identifiers, whose present states are chains of delta records over base pages.

@@ -6,6 +6,16 @@ use crate::tests::assertions::assert_equal;
 const FIRST_BATCH: u64 = 37;
 
 #[test]
+fn cut_reads_give_the_same(rt: HostRuntime) {
+    let runner = Runner::new(&rt, rt.alloc());
+    for piece in [1, 2, 3, 7] {
+        let mut input = runner.pieces(TWO_BATCHES);
+        input.piece = piece;
+        runner.expect_of(input, TURNS, BOTH_TEXTS, "", 0);
+    }
+}
+
+#[test]
 fn a_failed_read_leaves_the_batches_before_it(rt: HostRuntime) {
     let runner = Runner::new(&rt, rt.alloc());
     let bytes = TWO_BATCHES.len() as u64;

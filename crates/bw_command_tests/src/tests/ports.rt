@@ -193,11 +193,6 @@ impl<'a, R: Abort + Files + AllocGlobal + Threads + Clock + Sync> Runner<'a, R> 
         )
     }
 
-    /// `run -` over a text that is read at once.
-    pub fn expect(&self, text: &str, output: &str, message: &str, status: u8) {
-        self.expect_of(self.pieces(text), TURNS, output, message, status);
-    }
-
     /// `run -` over an input that is read so often at the most.
     pub fn expect_of(&self, input: Pieces, turns: u64, output: &str, message: &str, status: u8)
         requires { turns < 2 ^ 52 }
@@ -218,64 +213,6 @@ impl<'a, R: Abort + Files + AllocGlobal + Threads + Clock + Sync> Runner<'a, R> 
         self.expect_text(&out, output);
         self.expect_message(&errors, message);
         assert_equal(self.rt, found, status);
-    }
-
-    /// The same over parts of a text, where what is printed has parts, too.
-    pub fn expect_parts(&self, parts: &[&str], outputs: &[&str], message: &str, status: u8) {
-        let (text, output) = (self.joined(parts), self.joined(outputs));
-        self.expect(text.as_str(), output.as_str(), message, status);
-    }
-
-    /// The same over a part so many times, and a rest behind it.
-    pub fn expect_repeated(
-        &self,
-        repeated: (&str, u64, &str),
-        output: &str,
-        message: &str,
-        status: u8,
-    ) {
-        let (part, count, rest) = repeated;
-        let text = self.repeated(part, count, rest);
-        self.expect(text.as_str(), output, message, status);
-    }
-
-    /// Other words over a text that is read at once.
-    pub fn expect_words(
-        &self,
-        words: &[&'static str],
-        text: &str,
-        output: &str,
-        message: &str,
-        status: u8,
-    ) {
-        let mut out = self.sink();
-        let mut errors = self.sink();
-        let input = self.pieces(text);
-        let found = self.status(words, input, &mut out, &mut errors);
-        self.expect_text(&out, output);
-        self.expect_message(&errors, message);
-        assert_equal(self.rt, found, status);
-    }
-
-    /// A job whose writer fails at its first call.
-    pub fn expect_unwritten(&self, job: &'static str) {
-        let mut out = self.sink_failing_at(1);
-        let mut errors = self.sink();
-        let input = self.pieces(TWO_BATCHES);
-        let found = self.status(&[job], input, &mut out, &mut errors);
-        assert_equal(self.rt, found, 1);
-        self.expect_text(&out, "");
-        self.expect_message(&errors, "cannot write");
-    }
-
-    /// The first line of this fault is met before anything is written.
-    pub fn expect_fault(&self, text: &str, message: &str) {
-        self.expect(text, "", message, 3);
-    }
-
-    /// The same in a text of these parts.
-    pub fn expect_fault_in(&self, parts: &[&str], message: &str) {
-        self.expect_parts(parts, &[], message, 3);
     }
 
     pub fn expect_text(&self, sink: &Sink, text: &str) {

@@ -1,12 +1,27 @@
 // Five inserts over pages of four pairs, where each growth of memory is refused in turn. The leaf is split behind their
 // batch, or where tidying stops there, behind the next one.
 use super::ports::Runner;
-use super::shapes::{FIVE, FIVE_SPLIT, SMALL_PAGES};
 use crate::tests::assertions::{assert_equal, assert_that};
 use std::process::Abort;
 use std::rt::Files;
 use std::thread::Threads;
 use std::time::Clock;
+
+// One batch of so many keys.
+const FIVE: &str = "insert a 1\ninsert b 2\ninsert c 3\ninsert d 4\ninsert e 5\n";
+
+// The pages that they lie on, where a page has four pairs.
+const FIVE_SPLIT: &str = "leaf % c 2 0\nleaf c * 3 0\ninner 1 % * 2\n";
+
+const SMALL_PAGES: &[&str] = &[
+    "shape",
+    "--page-max",
+    "4",
+    "--page-min",
+    "1",
+    "--chain",
+    "1",
+];
 
 // How a run may end: its status, and what it wrote.
 type End = (u8, &'static str);

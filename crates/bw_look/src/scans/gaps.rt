@@ -36,7 +36,8 @@ impl Gap {
 impl<'a> ReadLeaf<'a> {
     // Whether the leaf has a pair. Where no memory is found it is said to have one.
     fn has_pairs(&self, alloc: Alloc) -> bool
-        ensures { result ≡ false → (key : KeyBytes) → T (is_in_range self.now.low.now (option_copied self.now.end) key) →
+        ensures { result ≡ false → (key : KeyBytes) →
+            T (is_in_range self.now.low.now (option_copied self.now.end) key) →
             find key_cmp key self.now.replay.pairs ≡ None }
     {
         let mut first = Pairs::new(alloc);

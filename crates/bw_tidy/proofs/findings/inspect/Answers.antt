@@ -1,5 +1,5 @@
 use Rattle.std.proofs.Common.{◌≡◌, false, rules}
-use Rattle.bw_tidy.proofs.LevelLemmas.{found_fits, found_leaf, leaf_lowest, not_back}
+use Rattle.bw_tidy.proofs.DueLevelLemmas.{found_fits, found_leaf, leaf_lowest, not_back}
 use Rattle.bw_tidy.proofs.findings.inspect.Goals as goal
 
 pub returns-then-not-is_over-clause-found : goal.returns-then-not-is_over-clause-found

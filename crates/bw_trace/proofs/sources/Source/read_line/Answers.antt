@@ -5,15 +5,15 @@ use Rattle.std.proofs.lemmas.Result.{err_from_is_err_and}
 use Rattle.std.specs.Bool.{MatchBool}
 use Rattle.std.specs.Io.KnownBytes.{Consumes}
 use Rattle.bw_trace.specs.Lines.{IsLineOf}
-use Rattle.bw_trace.specs.Sources.{SourceView, IsOver}
+use Rattle.bw_trace.specs.Sources.{SourceView, HasEnded}
 use Rattle.bw_trace.proofs.LinesLemmas.{IsOneLine, one_line_more, ended_line, last_line, long_line, parsed_none}
 use Rattle.bw_trace.proofs.ReadingSteps.{reads_on_none, reads_on_more, takes_none_after}
 use Rattle.bw_trace.proofs.sources.Source.read_line.Goals as goal
 
 -- the end of the input, behind a line that may be empty
-by_emptiness : (line : List ℕ) (old new : Option (List ℕ)) (now : SourceView) (empty : Bool) → Consumes old new line → IsOver now → IsOneLine line → length line ≤ 8192 →
+by_emptiness : (line : List ℕ) (old new : Option (List ℕ)) (now : SourceView) (empty : Bool) → Consumes old new line → HasEnded now → IsOneLine line → length line ≤ 8192 →
     (empty ≡ true → length line ≡ 0) → (empty ≡ false → 0 < length line) →
-    MatchBool (not empty) ((read : List ℕ) × Consumes old new read × IsLineOf line read now.ended × (now.ended ≡ true → IsOver now)) (Consumes old new [] × IsOver now)
+    MatchBool (not empty) ((read : List ℕ) × Consumes old new read × IsLineOf line read now.ended × (now.ended ≡ true → HasEnded now)) (Consumes old new [] × HasEnded now)
 by_emptiness [] old new now true taken over one short none some = (taken, over)
 by_emptiness (b ∷ line) old new now true taken over one short none some = absurd (let e = none refl in omega arith)
 by_emptiness line old new now false taken over one short none some =

@@ -3,8 +3,8 @@ use Rattle.std.proofs.Math.Seq.{take-append_seam}
 use Rattle.bw_shape.specs.Limits.{AreWithinBut}
 use Rattle.bw_shape.specs.Tidying.{DueView}
 use Rattle.bw_tidy.specs.Findings.{AreListed, ArePut}
-use Rattle.bw_tidy.proofs.PutLemmas.{put_within}
-use Rattle.bw_tidy.proofs.workers.consolidate_due.Goals as goal
+use Rattle.bw_tidy.proofs.PutLeafLemmas.{put_within}
+use Rattle.bw_tidy.proofs.leaf_workers.consolidate_due.Goals as goal
 
 pub returns-clause-within : goal.returns-clause-within
 returns-clause-within g c =

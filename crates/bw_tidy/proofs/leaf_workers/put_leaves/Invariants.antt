@@ -1,7 +1,7 @@
 use Rattle.std.specs.List.{AllByRecursion}
 use Rattle.bw_shape.specs.Sweeps.{HoldsSame}
 use Rattle.bw_tidy.specs.Findings.{ArePut, IsLeafAt}
-use Rattle.bw_tidy.proofs.workers.put_leaves.Given as goal
+use Rattle.bw_tidy.proofs.leaf_workers.put_leaves.Given as goal
 
 abbrev pub invariant-loop-finding : goal.invariant-loop-finding
 invariant-loop-finding l = record {

@@ -1,7 +1,7 @@
 use Rattle.std.proofs.Common.{take}
 use Rattle.bw_shape.specs.Tidying.{AreAmong}
 use Rattle.bw_tidy.specs.Findings.{AreListed}
-use Rattle.bw_tidy.proofs.workers.list_due.Given as goal
+use Rattle.bw_tidy.proofs.leaf_workers.list_due.Given as goal
 
 abbrev pub invariant-loop-finding : goal.invariant-loop-finding
 invariant-loop-finding l = record {

@@ -1,8 +1,8 @@
 use Rattle.std.proofs.Common.{◌≡◌, length, rules, ap, sym, ◌∙◌, subst, arith}
 use Rattle.bw_tidy.specs.Findings.{IsFinding}
 use Rattle.bw_tidy.specs.declared.findings.Finding.{Finding}
-use Rattle.bw_tidy.proofs.PutLemmas.{all_each, same_pages}
-use Rattle.bw_tidy.proofs.workers.inspect_all.Goals as goal
+use Rattle.bw_tidy.proofs.PutLeafLemmas.{all_each, same_pages}
+use Rattle.bw_tidy.proofs.leaf_workers.inspect_all.Goals as goal
 
 pub returns-clause-pages : goal.returns-clause-pages
 returns-clause-pages g c =

@@ -1,7 +1,7 @@
 use Rattle.std.proofs.Common.{◌<◌, length, rules, take, subst}
 use Rattle.bw_tidy.specs.Findings.{IsListed}
-use Rattle.bw_tidy.proofs.PutLemmas.{all_next, still_listed}
-use Rattle.bw_tidy.proofs.workers.list_due.Goals as goal
+use Rattle.bw_tidy.proofs.PutLeafLemmas.{all_next, still_listed}
+use Rattle.bw_tidy.proofs.leaf_workers.list_due.Goals as goal
 use native.Mathlib.Numerals.{unary_clauses}
 
 pub loop-finding-preserved : goal.loop-finding-preserved

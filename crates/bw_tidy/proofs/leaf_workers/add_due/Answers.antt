@@ -1,8 +1,8 @@
 use Rattle.std.proofs.Common.{ℕ, List, ◌++◌, ◌∷◌, [], subst, sym}
 use Rattle.bw_shape.specs.Tidying.{AreAmong}
 use Rattle.bw_shape.proofs.TidyLemmas.{among_longer}
-use Rattle.bw_tidy.proofs.PutLemmas.{among_both}
-use Rattle.bw_tidy.proofs.workers.add_due.Goals as goal
+use Rattle.bw_tidy.proofs.PutLeafLemmas.{among_both}
+use Rattle.bw_tidy.proofs.leaf_workers.add_due.Goals as goal
 
 pub returns-in_err-push-clause-among : goal.returns-in_err-push-clause-among
 returns-in_err-push-clause-among c = λ among. subst (AreAmong c.args.begun.now.items) (sym c.in_err-push.ensures.items) among

@@ -3,8 +3,8 @@ use Rattle.std.specs.List.{AllByRecursion}
 use Rattle.bw_shape.proofs.SweepLemmas.{holds_on}
 use Rattle.bw_tidy.specs.Findings.{IsLeafAt}
 use Rattle.bw_tidy.specs.declared.findings.Finding.{Finding}
-use Rattle.bw_tidy.proofs.PutLemmas.{leaf_still, put_more}
-use Rattle.bw_tidy.proofs.workers.put_leaves.Goals as goal
+use Rattle.bw_tidy.proofs.PutLeafLemmas.{leaf_still, put_more}
+use Rattle.bw_tidy.proofs.leaf_workers.put_leaves.Goals as goal
 
 pub put_leaf-requires-clause-leaf : goal.put_leaf-requires-clause-leaf
 put_leaf-requires-clause-leaf c =
