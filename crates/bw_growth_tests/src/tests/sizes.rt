@@ -56,6 +56,19 @@ fn a_tree_over_100000_leaves_has_all_their_pairs(rt: HostRuntime) {
     assert_equal(&rt, pairs.expect(&rt, "the pairs").len(), 100_000);
 }
 
+// At 97 of the batch's keys a leaf begins: at the multiples of 40,000 and of 65,536 below 4,000,000,000. The first leaf begins at
+// the least key, which isn't among them.
+#[test]
+fn an_index_over_100000_leaves_runs_a_batch(rt: HostRuntime) {
+    let alloc = heap(rt.alloc()).expect(&rt, "a heap");
+    let tree = tree_of(&rt, alloc, 100_000, 40_000);
+    let mut index = Index::from_tree(alloc, working(&rt, 4, 64), tree).expect(&rt, "an index");
+    assert_equal(&rt, index.shape().expect(&rt, "the pages").len(), 100_001);
+    let ops = scattered(&rt, alloc);
+    assert_equal(&rt, run(&rt, &mut index, &ops), 65_536 - 97);
+    assert_equal(&rt, held(&rt, &index), 100_000 + 65_536 - 97);
+}
+
 // How many batches there are, how many writes each has, and how many keys they go round.
 const BATCHES: u32 = 10_000;
 

@@ -134,6 +134,16 @@ pub fn three_children<R: Abort>(rt: &R, alloc: Alloc) -> Inner {
     more
 }
 
+/// The same with eight more children, so that a list of them that grew one by one would grow more than once.
+pub fn many_children<R: Abort>(rt: &R, alloc: Alloc) -> Inner {
+    let mut inner = three_children(rt, alloc);
+    for sep in [b"d", b"e", b"f", b"g", b"h", b"i", b"j", b"k"] {
+        inner = with_child(rt, &inner, &key(rt, alloc, sep), PageId(6)).expect(rt, "memory");
+    }
+    assert_equal(rt, inner.children().len(), 11);
+    inner
+}
+
 /// Compares the separators and children of a page.
 pub fn has_children<R: Abort>(rt: &R, inner: &Inner, wanted: &[(&'static [u8], u32)]) {
     assert_equal(rt, inner.children().len(), wanted.len());

@@ -1,7 +1,8 @@
-// Each growth of memory refused in turn. A refused call asks for no further one.
+// Each growth of memory refused in turn. A refused call asks for no further one. Pages have so many entries that a list which
+// grew entry by entry would ask for more.
 use super::making::{
-    c_with, from_c, from_start, from_start_and_c, heap, joined, joined_inner, key, three_children,
-    up_to_c, upper_half, upper_half_inner, with_child, without_child,
+    c_with, from_start, heap, joined, joined_inner, key, many_children, up_to_c, upper_half,
+    upper_half_inner, with_child, without_child,
 };
 use crate::tests::assertions::assert_equal;
 use bw_fixtures::LONG;
@@ -15,10 +16,12 @@ fn is_refused<R: Abort>(rt: &R, alloc: Alloc, refused: bool, wanted: bool) {
     assert_equal(rt, alloc.left(), if wanted { 0 } else { 1 });
 }
 
+// The half that goes has a short pair and a long one.
 #[test]
 fn the_half_of_a_leaf_takes_two_growths(rt: HostRuntime) {
     let alloc = heap(&rt, rt.alloc());
-    let leaf = up_to_c(&rt, alloc);
+    let (left, right) = (up_to_c(&rt, alloc), c_with(&rt, alloc, LONG));
+    let leaf = joined(&rt, &left, &right).expect(&rt, "memory");
     for growth in 1..=3 {
         alloc.refuse(growth);
         let refused = upper_half(&rt, &leaf, 1).is_err();
@@ -42,7 +45,7 @@ fn two_leaves_take_two_growths_and_none_for_a_long_value(rt: HostRuntime) {
 fn two_inner_pages_take_one_growth(rt: HostRuntime) {
     let alloc = heap(&rt, rt.alloc());
     let left = from_start(&rt, alloc);
-    let right = from_c(&rt, alloc);
+    let right = upper_half_inner(&rt, &many_children(&rt, alloc), 2).expect(&rt, "memory");
     for growth in 1..=2 {
         alloc.refuse(growth);
         let refused = joined_inner(&rt, &left, &right).is_err();
@@ -50,34 +53,37 @@ fn two_inner_pages_take_one_growth(rt: HostRuntime) {
     }
 }
 
+// A separator of more than 24 bytes, as the second child of these pages has one.
+const LONGER: &[u8] = b"c and more than 24 bytes behind it";
+
 #[test]
-fn another_child_takes_one_growth_and_one_for_a_long_separator(rt: HostRuntime) {
+fn another_child_takes_one_growth_and_one_for_each_long_separator(rt: HostRuntime) {
     let alloc = heap(&rt, rt.alloc());
-    let inner = from_start_and_c(&rt, alloc);
-    let sep = key(&rt, alloc, LONG);
-    for growth in 1..=3 {
+    let inner = many_children(&rt, alloc);
+    let sep = key(&rt, alloc, LONGER);
+    for growth in 1..=4 {
         alloc.refuse(growth);
         let refused = with_child(&rt, &inner, &sep, PageId(5)).is_err();
-        is_refused(&rt, alloc, refused, growth <= 2);
+        is_refused(&rt, alloc, refused, growth <= 3);
     }
 }
 
 #[test]
-fn one_child_less_takes_one_growth(rt: HostRuntime) {
+fn one_child_less_takes_one_growth_and_one_for_a_long_separator(rt: HostRuntime) {
     let alloc = heap(&rt, rt.alloc());
-    let inner = from_start_and_c(&rt, alloc);
+    let inner = many_children(&rt, alloc);
     let sep = key(&rt, alloc, b"c");
-    for growth in 1..=2 {
+    for growth in 1..=3 {
         alloc.refuse(growth);
         let refused = without_child(&rt, &inner, &sep).is_err();
-        is_refused(&rt, alloc, refused, growth <= 1);
+        is_refused(&rt, alloc, refused, growth <= 2);
     }
 }
 
 #[test]
 fn the_half_of_an_inner_page_takes_one_growth_and_two_for_a_long_low_key(rt: HostRuntime) {
     let alloc = heap(&rt, rt.alloc());
-    let inner = three_children(&rt, alloc);
+    let inner = many_children(&rt, alloc);
     for growth in 1..=4 {
         alloc.refuse(growth);
         let refused = upper_half_inner(&rt, &inner, 1).is_err();

@@ -97,7 +97,12 @@ pub const REMOVED_TWICE: &[Step] = &[
 ];
 
 const THE_LEFT_ONE_IS_LAST: &[Step] = &[
+    Seen(Holds(FIVE_PAIRS)),
+    Seen(Routes(b"c", 0)),
+    Seen(Routes(b"e", 0)),
     Done(FinishAbsorb(1)),
+    Seen(Holds(FIVE_PAIRS)),
+    Seen(Routes(b"e", 0)),
     NotNeeded(Release(1)),
     NotNeeded(Release(3)),
     Done(FinishAbsorb(3)),
