@@ -48,8 +48,8 @@ class Drawn(ProgramTest):
                     self.expect_tree(ran.stdout.decode(), len(maker.map.pairs))
 
     def expect_tree(self, text, pairs):
-        """The pages of each level share all keys out, each has as many children as the level below it has pages, one is at the top,
-        and the leaves have all pairs."""
+        """The pages of each level share all keys out, and have as many children together as the level below has pages. One page is
+        at the top, and the leaves have all pairs."""
         levels = {}
         for line in text.splitlines():
             kind, *words = line.split()
