@@ -144,8 +144,10 @@ impl<T: Drop> Segmented<T> {
         Ok(())
     }
 
-    /// Leaves the first `len` entries, or all where there are no more. The segments behind them are given back, but for one that
-    /// may stay with no entry. It takes no memory, and costs a step for each entry that goes.
+    /// Leaves the first `len` entries, or all where there are no more. The segments behind them are given back. So is room of
+    /// the list of their names, and of the last one where some of its entries went and four times as many had room there than
+    /// are left. It costs a step for each entry that goes, and a copy of what is left in smaller blocks; where one is refused,
+    /// the room stays.
     pub fn truncate(&mut self, len: usize)
         ensures { self.new.items ≡ take len self.old.items }
     {
@@ -155,10 +157,11 @@ impl<T: Drop> Segmented<T> {
             let Some(last) = self.full.pop() else {
                 unreachable!();
             };
+            self.full.shrink_to(segment.saturating_mul(2));
             let _old = mem::replace(&mut self.last, last);
-            self.last.truncate(len % SEGMENT);
+            cut(&mut self.last, len % SEGMENT);
         } else if segment == self.full.len() {
-            self.last.truncate(len % SEGMENT);
+            cut(&mut self.last, len % SEGMENT);
         }
     }
 }
@@ -176,6 +179,17 @@ impl<T: Copy + Drop> Segmented<T> {
         for (place, entry) in entries.iter().enumerate() {
             self.set(start + place, *entry);
         }
+    }
+}
+
+// Leaves the first `len` entries, and room for as many again where some went and there was room for four times as many.
+fn cut<T: Drop>(entries: &mut Vec<T, Alloc>, len: usize)
+    ensures { entries.new.items ≡ take len entries.old.items }
+{
+    let before = entries.len();
+    entries.truncate(len);
+    if len < before && len < entries.capacity() / 4 {
+        entries.shrink_to(len.saturating_mul(2));
     }
 }
 
