@@ -87,7 +87,8 @@ impl Chains {
         self.arena.set_links(start, links);
     }
 
-    /// Takes back all records but the first `len` ones. It takes no memory.
+    /// Takes back all records but the first `len` ones. It is never refused: what is left of a segment moves to a smaller block
+    /// only where there is memory for it.
     pub fn truncate(&mut self, len: usize)
         ensures bases { self.new.bases ≡ self.old.bases }
         ensures records { self.new.records ≡ take len self.old.records }

@@ -12,7 +12,7 @@ use std::marker::Model;
 /// An append-only list of delta records, each with one link word: the word of what stands under it in its chain.
 ///
 /// The links lie in a list of their own, so that a walk along a chain touches 8 bytes a record. Both lists grow by segments,
-/// so that no record that stands is moved for one that is added.
+/// so that few records that stand are moved for one that is added: those of one segment at the most.
 pub struct Arena {
     deltas: Segmented<Delta>,
     links: Segmented<u64>,
@@ -89,8 +89,8 @@ impl Arena {
         self.links.overwrite(start, links);
     }
 
-    /// Leaves the first `len` records, or all where there are no more, and gives back the segments behind them, but for one of
-    /// each list at most.
+    /// Leaves the first `len` records, or all where there are no more, and gives back the segments behind them, as
+    /// `Segmented::truncate` does. It is never refused.
     pub fn truncate(&mut self, len: usize)
         ensures { self.new.records ≡ take len self.old.records }
     {
@@ -98,7 +98,7 @@ impl Arena {
         self.links.truncate(len);
     }
 
-    /// Leaves no record, and of each list no more than one segment.
+    /// Leaves no record, and of each list no segment that had one.
     pub fn clear(&mut self)
         ensures { self.new.records ≡ [] }
     {

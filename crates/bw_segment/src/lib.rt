@@ -1,8 +1,8 @@
-//! Lists that grow without moving what they have: how an index keeps its records and its base pages.
+//! Lists that grow and move little of what they have: how an index keeps its records and its base pages.
 //!
 //! A list that doubles when it is full copies all of itself then, and the one caller who adds that entry waits for it.
 //! Here the entries lie in segments of a fixed length, and what is moved as the list grows are the names of the segments, a
-//! thousandth of it.
+//! thousandth of it, and the entries of one segment at the most.
 #![tactic(auto)]
 
 mod segmented;

@@ -15,8 +15,9 @@ pub const SEGMENTS_MAX: usize = 1 << 32;
 
 /// A list in segments of `SEGMENT` entries, of which the last one may have fewer.
 ///
-/// An entry that was added stays where it is in memory, but for the first ones: the first segment grows as a `Vec` does, so
-/// that a short list takes little. Each further segment is made at once. Entries are found by their places in constant time.
+/// An entry that was added stays where it is in memory, but for those of the first segment, and of one that was cut: these
+/// grow as a `Vec` does, so that a short list takes little. Each other segment is made at once. Entries are found by their
+/// places in constant time.
 pub struct Segmented<T> {
     full: Vec<Vec<T, Alloc>, Alloc>,
     last: Vec<T, Alloc>,
@@ -106,8 +107,9 @@ impl<T: Drop> Segmented<T> {
         let _old = self.replace(place, entry);
     }
 
-    /// Makes room for one more entry, which in one call of 1,024 means a new segment. `Memory` is answered where a growth is
-    /// refused, and where `SEGMENTS_MAX` segments are full; the list is as before.
+    /// Makes room for one more entry, which in one call of 1,024 means a new segment, and in some calls a growth of the first
+    /// one, or of one that was cut. `Memory` is answered where a growth is refused, and where `SEGMENTS_MAX` segments are full;
+    /// the list is as before.
     pub fn make_room(&mut self) -> Result<(), Memory>
         ensures items { self.new.items ≡ self.old.items }
         ensures ok { OnOk result (0 < self.new.room) }
@@ -145,9 +147,9 @@ impl<T: Drop> Segmented<T> {
     }
 
     /// Leaves the first `len` entries, or all where there are no more. The segments behind them are given back. So is room of
-    /// the list of their names, and of the last one where some of its entries went and four times as many had room there than
-    /// are left. It costs a step for each entry that goes, and a copy of what is left in smaller blocks; where one is refused,
-    /// the room stays.
+    /// the list of their names, and of the last one where some of its entries went and under a quarter of its room is left to
+    /// the others. It costs a step for each entry that goes, and a copy of what is left in smaller blocks; where one is
+    /// refused, the room stays.
     pub fn truncate(&mut self, len: usize)
         ensures { self.new.items ≡ take len self.old.items }
     {
@@ -182,7 +184,7 @@ impl<T: Copy + Drop> Segmented<T> {
     }
 }
 
-// Leaves the first `len` entries, and room for as many again where some went and there was room for four times as many.
+// Leaves the first `len` entries. Where some went and the others take under a quarter of the room, as much again is left.
 fn cut<T: Drop>(entries: &mut Vec<T, Alloc>, len: usize)
     ensures { entries.new.items ≡ take len entries.old.items }
 {

@@ -169,7 +169,7 @@ fn takes_segments<R: Abort>(rt: &R, alloc: Alloc) {
     push_all(rt, &mut list, 3, 100_000);
     assert_that(rt, alloc.used() >= 800_000 && alloc.used() < 820_000);
     list.truncate(1);
-    assert_that(rt, alloc.used() < 16_384);
+    assert_that(rt, alloc.used() <= 64);
 }
 
 #[test]
@@ -195,14 +195,35 @@ fn leaves_segments<R: Abort>(rt: &R, alloc: Alloc, len: u64, segments: u64) {
     assert_that(rt, counts_to(&list, len));
 }
 
-// Of a list that ends with a full segment one more may stay, for what is added next.
+// Of a list that ends with a full segment no other stays, and a few entries lie in a small block.
 #[test]
 fn a_cut_gives_back_the_segments_behind_it(rt: HostRuntime) -> Result<(), Fail> {
     let alloc = Heap::within(rt.alloc(), 1_000_000).leak(rt.alloc())?;
-    for (len, segments) in [(0, 1), (1, 1), (1023, 1), (1024, 2), (2047, 2), (2048, 3)] {
+    for (len, segments) in [(0, 0), (1, 0), (1023, 1), (1024, 1), (2047, 2), (2048, 2)] {
         leaves_segments(&rt, alloc, len, segments);
         assert_equal(&rt, alloc.used(), 0);
     }
+    Ok(())
+}
+
+// A cut for which this growth is refused: the list of segments, or what is left of the last one, stays where it is.
+fn keeps_its_room<R: Abort>(rt: &R, alloc: Alloc, len: u64, growth: u64) {
+    let mut list = list_to(rt, alloc, 5000);
+    alloc.refuse(growth);
+    list.truncate(len as usize);
+    assert_equal(rt, alloc.left(), 0);
+    assert_that(rt, counts_to(&list, len));
+    push_all(rt, &mut list, len, 5000);
+    assert_that(rt, counts_to(&list, 5000));
+}
+
+// Where no segment is left but the last one, the list of segments goes without a growth.
+#[test]
+fn a_cut_needs_no_memory(rt: HostRuntime) -> Result<(), Fail> {
+    let alloc = Heap::counted(rt.alloc()).leak(rt.alloc())?;
+    keeps_its_room(&rt, alloc, 1, 1);
+    keeps_its_room(&rt, alloc, 1025, 1);
+    keeps_its_room(&rt, alloc, 1025, 2);
     Ok(())
 }
 
@@ -257,13 +278,13 @@ fn gives_back_keys<R: Abort>(rt: &R, alloc: Alloc) {
     assert_that(rt, gave_back(alloc, all, 320));
 }
 
-// Of long keys in three segments one is left. A key takes 48 bytes in its segment.
+// Of long keys in three segments one is left, in a block for two. A key takes 48 bytes there.
 fn gives_back_segments_of_keys<R: Abort>(rt: &R, alloc: Alloc) {
     let mut list = Segmented::new(alloc);
     push_keys(rt, alloc, &mut list, 2050);
     list.truncate(1);
     let one = alloc.used();
-    assert_that(rt, one < 1024 * 48 + 40 + 512);
+    assert_equal(rt, one, 2 * 48 + 40);
     list.truncate(0);
     assert_that(rt, gave_back(alloc, one, 40));
 }

@@ -170,16 +170,10 @@ fn kept_by_new<R: Abort>(rt: &R, alloc: Alloc) -> u64 {
     kept
 }
 
-// What two segments of 1,024 entries take: one of records, each of 168 bytes and with a link of 8, and one of base pages, each of
-// 192. A list in segments keeps one of them at most, and both lists have had more than one.
-const SEGMENTS: u64 = 1024 * (168 + 8 + 192);
-
-// Beside those segments at most twice what a new index has: the names of the segments that have gone took some room, and so did
-// the words of pages that have gone.
+// At most twice what a new index has, though both lists in segments, of records and of base pages, have had more than one.
 fn keeps_little<R: Abort>(rt: &R, alloc: Alloc, index: &Index, new: u64) {
     is_one_empty_leaf(rt, index);
-    let most = SEGMENTS.saturating_add(new.saturating_mul(2));
-    assert_that(rt, alloc.used() <= most);
+    assert_that(rt, alloc.used() <= new.saturating_mul(2));
 }
 
 #[test]
