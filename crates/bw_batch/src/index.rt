@@ -125,7 +125,7 @@ impl Index {
     /// The index over a tree, with what it holds. The tree has no staged batch. All its pages are due, so the next batch that
     /// is accepted has them looked at. This costs the list of all pages and what `Tree::shape` does, since the pairs are
     /// counted once. A split or a merge of the tree that isn't finished is read by its links, and finished behind that batch,
-    /// which costs some searches for each page. After `Memory` the tree is gone.
+    /// which costs a search for each page. After `Memory` the tree is gone.
     ///
     /// The tree, its keys and its values should be made on `alloc` too: they stay where they were made, and so do their
     /// copies.

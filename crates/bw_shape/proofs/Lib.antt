@@ -4,5 +4,4 @@ pub mod PartLemmas
 pub mod TidyLemmas
 pub mod WholeLemmas
 pub mod AbsorbLemmas
-pub mod WrittenLeaves
 pub mod UnfinishedLemmas

@@ -1,5 +1,5 @@
 // The pages that tidying is to look at.
-ghost use Rattle.std.specs.Prelude.{◌≡◌, ℕ, ◌+◌, ◌<◌, ◌≤◌, ◌^◌, true, false, [], ◌∷◌, ◌++◌, None, Some, length, reverse, slice_index, take, MatchOption, IfOk, OnOk, OnErr};
+ghost use Rattle.std.specs.Prelude.{◌≡◌, ℕ, ◌+◌, ◌<◌, ◌≤◌, ◌^◌, true, false, [], ◌∷◌, ◌++◌, None, Some, length, reverse, slice_index, take, MatchOption, IsOk, IfOk, OnOk, OnErr};
 ghost use Rattle.std.specs.List.{Contains};
 ghost use Rattle.bw_look.specs.RemovedPages.{HasNoNamerOfRemoved};
 ghost use Rattle.bw_tree.specs.TreeSplits.{IsSplittable};
@@ -121,6 +121,8 @@ impl Due {
         ensures ok { OnOk result (HasBoth pages.entry.items self.old.pages self.new.pages) }
         ensures alone { self.old.pages ≡ [] → OnOk result (self.new.pages ≡ reverse pages.entry.items) }
         ensures marked { OnOk result (HasBoth self.old.marked leaves.now self.new.marked) }
+        ensures nothing { leaves.now ≡ [] → pages.entry.items ≡ [] → IsOk result }
+        ensures first { leaves.now ≡ [] → self.old.pages ≡ [] → IsOk result }
         ensures rest { self.new ≡ record self.old { pages = self.new.pages; marked = self.new.marked } }
         ensures err { OnErr result (self.new ≡ self.old) }
     {
@@ -142,6 +144,7 @@ impl Due {
     ) -> Result<Vec<PageId, Alloc>, Memory>
         ensures both { IfOk result (λ both. HasBoth pages.entry.items self.now.pages both.items) }
         ensures alone { self.now.pages ≡ [] → IfOk result (λ both. both.items ≡ pages.entry.items) }
+        ensures first { self.now.pages ≡ [] → IsOk result }
     {
         if self.pages.is_empty() {
             return Ok(pages);
@@ -190,7 +193,7 @@ impl Due {
     }
 
     /// Goes on to the least level above this one on which pages are left to be looked at: they are the next ones, in the order
-    /// of keys. Answers that level, or nothing where no page is left. It costs some searches for each inner page that is left.
+    /// of keys. Answers that level, or nothing where no page is left. It costs some looks at each inner page that is left.
     /// After `Memory` they are as before.
     pub(crate) fn rise(&mut self, tree: &Tree, level: u32) -> Result<Option<u32>, Memory>
         requires { self.old.pages ≡ [] }
@@ -324,6 +327,7 @@ impl Due {
     // These leaves are due the next time, if they have few pairs then.
     fn mark(&mut self, leaves: &[PageId]) -> Result<(), Memory>
         ensures ok { OnOk result (HasBoth self.old.marked leaves.now self.new.marked) }
+        ensures nothing { leaves.now ≡ [] → IsOk result }
         ensures rest { self.new ≡ record self.old { marked = self.new.marked } }
         ensures err { OnErr result (self.new ≡ self.old) }
     {

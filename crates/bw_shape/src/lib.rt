@@ -20,7 +20,7 @@ pub use limits::Limits;
 pub use outcome::Tidy;
 pub use sweeps::{sweep, sweep_due};
 pub use tidying::tidy_due;
-pub use visits::{has_writes, is_over};
+pub use visits::is_over;
 pub use whole_tree::{all_pages, given_pages, tidy};
 
 /// Out of memory.

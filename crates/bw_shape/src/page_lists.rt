@@ -73,7 +73,7 @@ pub(crate) fn by_low_key(tree: &Tree, a: PageId, b: PageId) -> Ordering {
 
 /// Adds an inner page, whose children have changed, to a list with room for two more, and before it its right neighbour,
 /// which may be merged into it now. It adds none where both are the last ones already, as the pages of one parent come one
-/// after another. It costs a search.
+/// after another. It costs a walk along the page's chain.
 pub(crate) fn mark(pages: &mut Vec<PageId, Alloc>, tree: &Tree, page: PageId)
     requires { length pages.old.items + 2 ≤ vec_capacity pages.old }
     ensures { Contains pages.new.items page }

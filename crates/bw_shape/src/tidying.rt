@@ -22,12 +22,12 @@ use bw_tree::Tree;
 /// forgotten at the end. No batch is staged.
 ///
 /// At the first `Memory` it stops, and what it didn't look at stays due. Where it doesn't stop, no leaf is over a limit,
-/// if none was that wasn't due. It costs a walk along the chain of each page that is due, and for each page that is over a
-/// limit some searches, a copy of its entries and the sorting of its writes. Each split moves the half that goes. The new
-/// pages that came of one get their index entries at once, for a search each and a copy of the children of the page above.
-/// A merge costs some searches, copies the entries of both pages and, where the number of the left one's pairs isn't clear
-/// from its entries and writes, those of that one once more. Each page above that is looked at costs some searches. An
-/// identifier that is given back costs two, and a look at each removed page whose own isn't given back.
+/// if none was that wasn't due. It costs some walks along the chain of each page that is due, and for each page that is over
+/// a limit a copy of its entries and the sorting of its writes. Each split moves the half that goes. The new pages that came
+/// of one get their index entries at once, for a search each and a copy of the children of the page above. A page with too
+/// few entries costs some searches. A merge copies the entries of both pages and, where the number of the left one's pairs
+/// isn't clear from its entries and writes, those of that one once more. An identifier that is given back costs a search, and
+/// a look at each removed page whose own isn't given back.
 pub fn tidy_due(tree: &mut Tree, limits: &Limits, due: &mut Due) -> Tidy
     requires none { tree.old.staged ≡ None }
     requires within { AreWithinBut limits.now tree.old due.old.pages }

@@ -2,7 +2,6 @@
 ghost use Rattle.std.specs.Prelude.{◌≡◌, ◌<◌, ◌≤◌, ◌⊎◌, false, true, None, length, OnOk};
 ghost use Rattle.std.specs.List.{Contains};
 ghost use Rattle.bw_level.specs.Levels.{row};
-ghost use Rattle.bw_level.specs.Reading.{writes_over};
 ghost use Rattle.bw_level.specs.Slots.{slot_at};
 ghost use Rattle.bw_level.specs.Splits.{slot_entries};
 ghost use Rattle.bw_look.specs.Routing.{IsInLevel};
@@ -40,10 +39,6 @@ pub(crate) fn visit(
     ensures finished { OnOk result (due.new.unfinished ≡ None) }
 {
     tree.know_levels();
-    let leaf_is_due = is_due(tree, limits, page, due.has_begun(page));
-    if has_writes(tree, page) {
-        return visit_leaf(tree, limits, due, counts, page, leaf_is_due);
-    }
     let Some(stands) = tree.in_level(page) else {
         due.pass();
         return Ok(());
@@ -55,19 +50,8 @@ pub(crate) fn visit(
     if stands > 0 {
         return look(tree, limits, due, counts, page, stands);
     }
+    let leaf_is_due = is_due(tree, limits, page, due.has_begun(page));
     visit_leaf(tree, limits, due, counts, page, leaf_is_due)
-}
-
-/// Whether a page is a leaf with writes, as those have that a batch has written. It costs a walk along its chain.
-pub fn has_writes(tree: &Tree, page: PageId) -> bool
-    ensures leaf { result ≡ true → IsInLevel tree.now page 0 }
-    ensures yes { result ≡ true → 0 < length (writes_over (slot_at tree.now.slots page)) }
-    ensures no { result ≡ false → page < length tree.now.heads →
-        length (writes_over (slot_at tree.now.slots page)) ≡ 0 }
-{
-    tree.know_levels();
-    tree.know_records();
-    (page.0 as usize) < tree.heads().len() && tree.count_writes(page) > 0
 }
 
 // Looks at the next page, a leaf. One that is due is consolidated, and split or merged, if need be; another one is left as it is.

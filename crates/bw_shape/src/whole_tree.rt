@@ -17,11 +17,11 @@ use bw_tree::Tree;
 /// Looks at all pages, as `tidy_due` does at those that are due. Before that each merge is finished, a root that was split
 /// gets a root above it, and each split is finished, level by level from the leaves up. No batch is staged.
 ///
-/// It costs the list of all pages twice, two searches for each, and for each inner page some for each level below it; each
+/// It costs the list of all pages twice, a search for each, and for each inner page some looks for each level below it; each
 /// merge and each split that it finishes copies the children of the page above. An identifier that is given back costs a
-/// search, and a look at each removed page whose own isn't given back. At the first `Memory` it stops, and the tree holds
-/// the same. Where it doesn't stop, no leaf is over a limit, and so none has more than
-/// `page_max` and `chain_max` pairs together.
+/// search, and a look at each removed page whose own isn't given back. Besides it costs what `tidy_due` does for all pages. At
+/// the first `Memory` it stops, and the tree holds the same. Where it doesn't stop, no leaf is over a limit, and so none has
+/// more than `page_max` and `chain_max` pairs together.
 pub fn tidy(tree: &mut Tree, limits: &Limits) -> Tidy
     requires { tree.old.staged ≡ None }
     ensures holds { HoldsAll tree.old tree.new }

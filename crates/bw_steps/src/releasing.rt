@@ -12,7 +12,7 @@ use bw_tree::Tree;
 /// page of a level names it, or a page was removed into it whose identifier isn't free. A page that a side link names stands on
 /// a level, so none names one whose identifier is given back. No batch is staged.
 ///
-/// It costs some searches, and a look at each removed page whose identifier isn't given back. After `Memory` the tree is as
+/// It costs a search, and a look at each removed page whose identifier isn't given back. After `Memory` the tree is as
 /// before.
 pub fn release(tree: &mut Tree, page: PageId) -> Result<Did, Memory>
     requires { tree.old.staged ≡ None }

@@ -28,8 +28,8 @@ pub enum Did {
 /// Consolidates a page: what its chain makes of its base page takes the place of that page, a leaf's as of the next stamp.
 /// It isn't needed where the page has no record, as a page of no level. No batch is staged.
 ///
-/// It costs a look at the page's mapping word, and for a page that has records a search, a copy of its entries and the
-/// sorting of its writes. After `Memory` the tree is as before.
+/// It costs a look at the page's mapping word, and for a page that has records a copy of its entries and the sorting of its
+/// writes. After `Memory` the tree is as before.
 pub fn consolidate(tree: &mut Tree, page: PageId) -> Result<Did, Memory>
     requires { tree.old.staged ≡ None }
     ensures ok { IfOk result (IsConsolidationStep tree.old tree.new page) }
@@ -56,8 +56,7 @@ pub fn fold_beside(tree: &Tree, page: PageId, stamp: u64) -> Result<Leaf, Memory
     tree.leaf_as_of(page, stamp)
 }
 
-/// Consolidates a page of a level that has a record. It costs what `consolidate` does, without the search. After `Memory` the
-/// tree is as before.
+/// Consolidates a page of a level that has a record. It costs what `consolidate` does. After `Memory` the tree is as before.
 pub fn lose_chain(tree: &mut Tree, page: PageId, level: u32) -> Result<(), Memory>
     requires none { tree.old.staged ≡ None }
     requires page { IsInLevel tree.old page level }
@@ -75,8 +74,8 @@ pub fn lose_chain(tree: &mut Tree, page: PageId, level: u32) -> Result<(), Memor
 /// needed where the page has a record, has no more than `keep` entries or stands on no level, where `keep` is 0, and where
 /// the first entry that would move names a removed page. No batch is staged.
 ///
-/// It costs a search; the entries that go are moved, those of a leaf as blocks, and the key at which they begin is copied.
-/// After `Memory` the tree is as before.
+/// The entries that go are moved, those of a leaf as blocks, and the key at which they begin is copied. After `Memory` the tree
+/// is as before.
 pub fn split(tree: &mut Tree, page: PageId, keep: usize) -> Result<Did, Memory>
     requires { tree.old.staged ≡ None }
     ensures ok { IfOk result (IsSplitStep tree.old tree.new page keep) }
@@ -100,7 +99,7 @@ fn is_splittable(tree: &Tree, page: PageId, keep: usize) -> bool
     may_part(tree, page, keep)
 }
 
-/// Whether a page of a level may be split there. It costs no search, as that would walk along all halves of a page.
+/// Whether a page of a level may be split there. It costs some looks at its mapping word and its base page.
 pub fn may_part(tree: &Tree, page: PageId, keep: usize) -> bool
     requires { IsInLevels tree.now.levels page }
     ensures yes { result ≡ true → IsSplittable tree.now page keep }
@@ -134,7 +133,7 @@ fn moves_no_removed(tree: &Tree, page: PageId, keep: usize) -> bool
 /// begins. It isn't needed where the page has no right neighbour, where that one has its entry already, on the root's level,
 /// and where the page stands on no level. No batch is staged.
 ///
-/// It costs two searches, a copy of one key and one record; where the page above has a record, that page is consolidated
+/// It costs a search, a copy of one key and one record; where the page above has a record, that page is consolidated
 /// first, which copies its children. After `Memory` the tree is as before, but that the page above may be consolidated.
 pub fn finish_split(tree: &mut Tree, page: PageId) -> Result<Did, Memory>
     requires { tree.old.staged ≡ None }

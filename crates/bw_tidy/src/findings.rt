@@ -1,14 +1,10 @@
 // What a worker finds of a page that is due.
 ghost use Rattle.std.specs.Prelude.{◌≡◌, ℕ, ◌≤◌, true, false, is_some, length, IfSome};
-ghost use Rattle.std.specs.List.{Contains};
-ghost use Rattle.bw_level.specs.Levels.{row};
-ghost use Rattle.bw_level.specs.Slots.{slot_at};
 ghost use Rattle.bw_look.specs.Routing.{IsInLevel};
-ghost use Rattle.bw_shape.specs.Limits.{IsWithin};
 ghost use Rattle.bw_tidy.specs.Findings.{IsFinding, IsLeafAt};
 
 use bw_page::{Leaf, PageId};
-use bw_shape::{Limits, has_writes, is_over};
+use bw_shape::{Limits, is_over};
 use bw_tree::Tree;
 
 /// A page that is due, and what a worker found.
@@ -35,8 +31,8 @@ impl Finding {
 }
 
 /// Looks at a page. A leaf that is over a limit is consolidated, unless that finds no memory; there is more to do where it has
-/// too few or too many pairs then. There is nothing to do at any other leaf. It costs some walks along the page's chain, a
-/// search for a page without writes, and what `Tree::leaf_as_of` does for the leaf.
+/// too few or too many pairs then. There is nothing to do at any other leaf. It costs some walks along the page's chain,
+/// and what `Tree::leaf_as_of` does for the leaf.
 pub(crate) fn inspect(tree: &Tree, limits: &Limits, page: PageId) -> Finding
     ensures page { result.page ≡ page }
     ensures found { IsFinding tree.now limits.now result }
@@ -54,11 +50,11 @@ pub(crate) fn inspect(tree: &Tree, limits: &Limits, page: PageId) -> Finding
     Finding { page, leaf, is_due }
 }
 
-// Whether a page stands among the leaves. One that has writes does, and for another one that costs a search.
+// Whether a page stands among the leaves.
 fn is_leaf(tree: &Tree, page: PageId) -> bool
     ensures { result ≡ true → IsInLevel tree.now page 0 }
 {
-    has_writes(tree, page) || tree.in_level(page) == Some(0)
+    tree.in_level(page) == Some(0)
 }
 
 // A leaf without its chain, if it has one.

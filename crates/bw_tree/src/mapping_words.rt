@@ -56,8 +56,8 @@ pub(crate) fn put_own(heads: &mut Vec<u64, Alloc>, page: PageId)
     heads.push(page.0 as u64).unwrap();
 }
 
-/// Leaves the first words. Where they need a quarter of the room at the most, the list moves to a smaller block, if there is
-/// memory for it.
+/// Leaves the first words. Where they need under a quarter of the room, the list moves to a smaller block, if there is memory
+/// for it.
 pub(crate) fn truncate_words(heads: &mut Vec<u64, Alloc>, count: usize)
     ensures { heads.new.items ≡ take count heads.old.items }
 {

@@ -11,8 +11,7 @@ use bw_page::PageId;
 impl<'a> Look<'a> {
     ghost use Rattle.bw_look.specs.RemovedPages.{HasEachRemoved};
 
-    /// Whether an identifier is free, as one that was never given out. It costs two walks along the page's chain, and takes no
-    /// memory.
+    /// Whether an identifier is free, as one that was never given out. It costs two looks at the base page, and takes no memory.
     pub fn is_free(&self, page: PageId) -> bool
         ensures { Decides result (slot_at self.now.slots page ≡ Free) }
     {
@@ -23,8 +22,8 @@ impl<'a> Look<'a> {
     }
 
     /// Whether nothing leads to a page: it stands on no level, no page of a level has an index entry for it, and it is no
-    /// removed page's left neighbour. It costs a search, one more for a removed page, and a look at each removed page whose
-    /// identifier isn't given back. It takes no memory.
+    /// removed page's left neighbour. For a page of no level it costs a look at each removed page whose
+    /// identifier isn't given back, and for a removed one a search. It takes no memory.
     pub fn is_unreached(&self, page: PageId) -> bool
         ensures { Decides result (IsUnreached self.now.slots self.now.levels page) }
     {

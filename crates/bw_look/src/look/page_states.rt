@@ -37,8 +37,7 @@ impl<'a> Look<'a> {
     }
 
     /// The left neighbour of a page, whose side link leads to it, or none for the first page of a level and for a page of no
-    /// level. It costs two searches, for the key at which the page begins and for what lies before that key, whatever the
-    /// level. It takes no memory.
+    /// level. It costs a search for what lies before the key at which the page begins, and takes no memory.
     pub fn left_of(&self, page: PageId) -> Option<PageId>
         ensures { MatchOption result (HasNoLeft self.now page) (IsLeft self.now page) }
     {
@@ -55,8 +54,7 @@ impl<'a> Look<'a> {
 
     /// The page of the level above that names a page: that has an index entry for it, at the key where it begins. It is none
     /// for a page that isn't named yet, as the right part of a split that isn't finished, on the root's level, and for a page
-    /// of no level. It costs two searches for that key, and one more among the separators of the page above. It takes no
-    /// memory.
+    /// of no level. It costs a search for that key, and one more among the separators of the page above. It takes no memory.
     pub fn namer(&self, page: PageId) -> Option<PageId>
         ensures { MatchOption result (HasNoNamer self.now page) (IsNamer self.now page) }
     {
@@ -89,8 +87,8 @@ impl<'a> Look<'a> {
     /// it, each with its range and side link. It is none for a page of no level: a free identifier, or a removed page. The
     /// writes of an adopted batch stand over their leaves, and those of a staged one don't yet.
     ///
-    /// It costs a search and a copy of the page's entries, and for a leaf the sorting of its writes. `Memory` is answered
-    /// where a list or a copy finds none.
+    /// It costs a walk along the page's chain and a copy of its entries, and for a leaf the sorting of its writes. `Memory` is
+    /// answered where a list or a copy finds none.
     pub fn state(&self, page: PageId, stamp: u64) -> Result<Option<Page>, Memory>
         ensures { IfOk result (λ state.
             MatchOption state (IsInNoLevel self.now page) (IsState self.now page stamp)) }

@@ -132,23 +132,18 @@ impl<'a> Look<'a> {
         self.chains.turn_at(self.heads[page.0 as usize], target)
     }
 
-    /// The level on which a page stands, the leaves' being 0, or none where it stands on no level: one search for the key at
-    /// which it begins. It takes no memory.
+    /// The level on which a page stands, the leaves' being 0, or none where it stands on no level. It is a look at the page's
+    /// base page, since each page stands on a level, and takes no memory.
     pub fn in_level(&self, page: PageId) -> Option<u32>
         ensures level { MatchOption result (IsInNoLevel self.now page) (IsInLevel self.now page) }
         ensures there { IfSome result (λ level. page < length self.now.heads) }
     {
-        if page.0 as usize >= self.heads.len() {
-            return None;
+        self.know_levels();
+        self.know_records();
+        match self.low_key(page) {
+            Some(_) => Some(self.level(page)),
+            None => None,
         }
-        let Some(low) = self.low_key(page) else {
-            return None;
-        };
-        let level = self.level(page);
-        let Some(home) = self.above(level, low) else {
-            return None;
-        };
-        if home.0 == page.0 { Some(level) } else { None }
     }
 
     /// The right neighbour of a page of a level, if it has one. It costs a walk along the page's chain, and takes no memory.

@@ -153,7 +153,7 @@ impl Tree {
         }
     }
 
-    /// Ends the stage of a batch, adopted or not: the tree is as before it. It takes no memory.
+    /// Ends the stage of a batch, adopted or not: the tree is as before it. It is never refused.
     pub fn undo(&mut self)
         ensures { self.new ≡ undone_tree self.old self.old.staged }
     {

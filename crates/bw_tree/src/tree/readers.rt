@@ -74,8 +74,8 @@ impl Tree {
         self.look().above(level, key)
     }
 
-    /// The level on which a page stands, the leaves' being 0, or none where it stands on no level: one search for the key at
-    /// which it begins. It takes no memory.
+    /// The level on which a page stands, the leaves' being 0, or none where it stands on no level. It is a look at the page's
+    /// base page, and takes no memory.
     pub fn in_level(&self, page: PageId) -> Option<u32>
         ensures level { MatchOption result (IsInNoLevel self.now page) (IsInLevel self.now page) }
         ensures there { IfSome result (λ level. page < length self.now.heads) }
@@ -108,8 +108,7 @@ impl Tree {
     }
 
     /// The left neighbour of a page, whose side link leads to it, or none for the first page of a level and for a page of no
-    /// level. It costs two searches, for the key at which the page begins and for what lies before that key, whatever the
-    /// level. It takes no memory.
+    /// level. It costs a search for what lies before the key at which the page begins, and takes no memory.
     pub fn left_of(&self, page: PageId) -> Option<PageId>
         ensures { MatchOption result (HasNoLeft self.now page) (IsLeft self.now page) }
     {
@@ -118,8 +117,7 @@ impl Tree {
 
     /// The page of the level above that names a page: that has an index entry for it, at the key where it begins. It is none
     /// for a page that isn't named yet, as the right part of a split that isn't finished, on the root's level, and for a page
-    /// of no level. It costs two searches for that key, and one more among the separators of the page above. It takes no
-    /// memory.
+    /// of no level. It costs a search for that key, and one more among the separators of the page above. It takes no memory.
     pub fn namer(&self, page: PageId) -> Option<PageId>
         ensures { MatchOption result (HasNoNamer self.now page) (IsNamer self.now page) }
     {
@@ -130,8 +128,8 @@ impl Tree {
     /// it, each with its range and side link. It is none for a page of no level: a free identifier, or a removed page. The
     /// writes of an adopted batch stand over their leaves, and those of a staged one don't yet.
     ///
-    /// It costs a search and a copy of the page's entries, and for a leaf the sorting of its writes. `Memory` is answered
-    /// where a list or a copy finds none.
+    /// It costs a walk along the page's chain and a copy of its entries, and for a leaf the sorting of its writes. `Memory` is
+    /// answered where a list or a copy finds none.
     pub fn state(&self, page: PageId, stamp: u64) -> Result<Option<Page>, Memory>
         ensures { IfOk result (λ state.
             MatchOption state (IsInNoLevel self.now page) (IsState self.now page stamp)) }
@@ -315,8 +313,7 @@ impl Tree {
         self.look().unnamed_right(page)
     }
 
-    /// Whether an identifier is free, as one that was never given out. It costs two walks along the page's chain, and takes no
-    /// memory.
+    /// Whether an identifier is free, as one that was never given out. It costs two looks at the base page, and takes no memory.
     pub fn is_free(&self, page: PageId) -> bool
         ensures { Decides result (slot_at self.now.slots page ≡ Free) }
     {
@@ -324,8 +321,8 @@ impl Tree {
     }
 
     /// Whether nothing leads to a page: it stands on no level, no page of a level has an index entry for it, and it is no
-    /// removed page's left neighbour. It costs a search, one more for a removed page, and a look at each removed page whose
-    /// identifier isn't given back. It takes no memory.
+    /// removed page's left neighbour. For a page of no level it costs a look at each removed page whose
+    /// identifier isn't given back, and for a removed one a search. It takes no memory.
     pub fn is_unreached(&self, page: PageId) -> bool
         ensures { Decides result (IsUnreached self.now.slots self.now.levels page) }
     {
