@@ -7,12 +7,12 @@ use Rattle.bw_batch.specs.Settings.{Settings}
 use Rattle.bw_model.specs.Runs.{Outcome}
 use Rattle.bw_command.specs.Jobs.{IsJobOutcome, IsOutOfMemory}
 use Rattle.bw_trace.specs.Ends.{IsEndText}
-use Rattle.bw_trace.specs.Grammar.{first_place}
+use Rattle.bw_text.specs.Grammar.{first_place}
 use Rattle.bw_trace.specs.Running.{IsRun, left_by_run, summary_of}
-use Rattle.bw_trace.specs.Texts.{batches_text}
-use Rattle.bw_trace.specs.Traces.{trace_from, no_trace}
-use Rattle.bw_trace.specs.declared.faults.TraceFault.{TraceFault}
-use Rattle.bw_trace.specs.declared.places.Place.{Place}
+use Rattle.bw_trace.specs.BatchTexts.{batches_text}
+use Rattle.bw_text.specs.Traces.{trace_from, no_trace}
+use Rattle.bw_text.specs.declared.faults.TraceFault.{TraceFault}
+use Rattle.bw_text.specs.declared.places.Place.{Place}
 use Rattle.bw_trace.specs.declared.jobs.Job.{Job}
 use Rattle.bw_trace.specs.declared.summaries.Summary.{Summary}
 

@@ -4,15 +4,15 @@ use Rattle.std.specs.Option.{IfSome}
 use Rattle.std.specs.Io.KnownBytes.{Appends}
 use Rattle.bw_batch.specs.Settings.{Settings}
 use Rattle.bw_model.specs.Runs.{Outcome}
-use Rattle.bw_trace.specs.Counts.{HasRisenBy}
+use Rattle.bw_text.specs.Counts.{HasRisenBy}
 use Rattle.bw_trace.specs.Ends.{IsEndText}
-use Rattle.bw_trace.specs.Grammar.{first_place}
+use Rattle.bw_text.specs.Grammar.{first_place}
 use Rattle.bw_trace.specs.Running.{IsRun, left_by_run, summary_of}
 use Rattle.bw_trace.specs.Statuses.{status_of}
-use Rattle.bw_trace.specs.Texts.{batches_text}
-use Rattle.bw_trace.specs.Traces.{Trace, trace_from, cut_trace_from, no_trace, faulty}
-use Rattle.bw_trace.specs.Writing.{IsFront, TakesFront}
-use Rattle.bw_trace.specs.declared.faults.Cause.{Cause}
+use Rattle.bw_trace.specs.BatchTexts.{batches_text}
+use Rattle.bw_text.specs.Traces.{Trace, trace_from, cut_trace_from, no_trace, faulty}
+use Rattle.bw_text.specs.Writing.{IsFront, TakesFront}
+use Rattle.bw_text.specs.declared.faults.Cause.{Cause}
 use Rattle.bw_trace.specs.declared.jobs.Job.{Job}
 use Rattle.bw_trace.specs.declared.summaries.Summary.{Summary}
 

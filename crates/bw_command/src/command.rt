@@ -5,8 +5,8 @@ ghost use Rattle.bw_command.specs.Commands.{IsCommandOutcome};
 ghost use Rattle.bw_command.specs.CommandLine.{JobWords, status_for};
 ghost use Rattle.bw_command.specs.Jobs.{IsCut, IsDone, IsFaulty, IsJobStatus, IsOutOfMemory, IsJobOutcome};
 ghost use Rattle.bw_command.specs.LimitSettings.{settings_of};
-ghost use Rattle.bw_trace.specs.Counts.{HasRisenBy};
-ghost use Rattle.bw_trace.specs.Faults.{IfLine, IsOfInput};
+ghost use Rattle.bw_text.specs.Counts.{HasRisenBy};
+ghost use Rattle.bw_text.specs.Faults.{IfLine, IsOfInput};
 ghost use Rattle.clap.specs.Words.{kind_of};
 
 use crate::counting::{Counting, Operations, Tally, no_operations};

@@ -1,7 +1,7 @@
 -- How a page is written.
 use Rattle.std.specs.Prelude.{ℕ, ◌*◌, ◌/◌, ◌==◌, min, max, if◌then◌else◌, List, [], ◌∷◌, ◌++◌, codes}
 use Rattle.std.specs.Fmt.{decimal}
-use Rattle.bw_picture.specs.Keys.{key_text, end_text}
+use Rattle.bw_text.specs.Spelling.{high_text, spelled}
 use Rattle.bw_look.specs.declared.look.shape.PageShape.{PageShape}
 
 -- "leaf " or "inner page ", by a page's level
@@ -14,7 +14,7 @@ name_text page = kind_text page.level ++ decimal page.page
 
 -- "from c to e"
 abbrev pub range_text : PageShape → List ℕ
-range_text page = codes "from " ++ key_text page.low ++ codes " to " ++ end_text page.high
+range_text page = codes "from " ++ spelled page.low ++ codes " to " ++ high_text page.high
 
 -- "1 write", "2 writes"
 abbrev pub count_text : ℕ → List ℕ → List ℕ → List ℕ
@@ -53,8 +53,8 @@ box_text wide level = codes "<rect width=\"" ++ decimal wide ++ codes "\" height
 -- its name, and where its range begins and ends
 abbrev pub lines_text : PageShape → List ℕ
 lines_text page = codes "<text x=\"12\" y=\"22\" font-weight=\"bold\">" ++ name_text page
-    ++ codes "</text>\n<text x=\"12\" y=\"40\">from " ++ key_text page.low
-    ++ codes "</text>\n<text x=\"12\" y=\"56\">to " ++ end_text page.high ++ codes "</text>\n"
+    ++ codes "</text>\n<text x=\"12\" y=\"40\">from " ++ spelled page.low
+    ++ codes "</text>\n<text x=\"12\" y=\"56\">to " ++ high_text page.high ++ codes "</text>\n"
 
 -- how many of the 150 pixels of a bar are filled
 abbrev pub filled : ℕ → ℕ → ℕ

@@ -2,7 +2,7 @@
 use Rattle.std.specs.Prelude.{ℕ, ◌+◌, ◌-◌, ◌*◌, ◌^◌, Bool, ◌&&◌, ◌==◌, min, max, if◌then◌else◌, List, [], ◌∷◌, length, drop, Option, Some}
 use Rattle.bw_key.specs.Order.{KeyBytes}
 use Rattle.bw_model.specs.Contents.{is_below_end}
-use Rattle.bw_picture.specs.Keys.{key_text, end_text}
+use Rattle.bw_text.specs.Spelling.{high_text, spelled}
 use Rattle.bw_look.specs.declared.look.shape.PageShape.{PageShape}
 use Rattle.bw_picture.specs.declared.layout.Extent.{Extent}
 use Rattle.bw_picture.specs.declared.layout.Frame.{Frame}
@@ -14,7 +14,7 @@ capped n = min n (2 ^ 64 - 1)
 
 -- the letters of the longer one of the lines that have a key: "from c", "to e"
 abbrev pub letters_of : PageShape → ℕ
-letters_of page = max (length (key_text page.low) + 5) (length (end_text page.high) + 3)
+letters_of page = max (length (spelled page.low) + 5) (length (high_text page.high) + 3)
 
 -- what pages need, with one more behind them
 abbrev pub extent_with : Extent → PageShape → Extent

@@ -1,4 +1,3 @@
-pub mod Keys
 pub mod DrawnPages
 pub mod Layout
 pub mod Pictures

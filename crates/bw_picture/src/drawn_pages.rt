@@ -1,11 +1,10 @@
 // How pages are written.
 ghost use Rattle.std.specs.Prelude.{◌≡◌, ◌++◌, OnOk};
-ghost use Rattle.std.specs.Fmt.{decimal};
 ghost use Rattle.bw_picture.specs.DrawnPages.{kind_text, name_text, range_text, count_text, entries_text, writes_text, title_writes_text, title_text, accent_text, pale_text, box_text, lines_text, filled, bar_text, fill_text, hanging_text, chain_text, body_text, span_text, bracket_text};
 
-use crate::keys::{push_end, push_key};
 use bw_key::Memory;
 use bw_memory::Alloc;
+use bw_text::{push_high, push_number, push_spelled};
 use bw_tree::PageShape;
 
 // The pixels of a bar.
@@ -55,21 +54,13 @@ fn kind(level: u32) -> &'static [u8]
     if level == 0 { b"leaf " } else { b"inner page " }
 }
 
-fn push_number(text: &mut Vec<u8, Alloc>, number: u64) -> Result<(), Memory>
-    ensures { OnOk result (text.new.items ≡ text.old.items ++ decimal number) }
-{
-    let digits = format!(in *text.allocator(); "{number}")?;
-    text.extend_from_slice(digits.as_bytes())?;
-    Ok(())
-}
-
 fn push_range(text: &mut Vec<u8, Alloc>, page: &PageShape) -> Result<(), Memory>
     ensures { OnOk result (text.new.items ≡ text.old.items ++ range_text page.now) }
 {
     text.extend_from_slice(b"from ")?;
-    push_key(text, &page.low)?;
+    push_spelled(text, page.low.bytes())?;
     text.extend_from_slice(b" to ")?;
-    push_end(text, page.high.as_ref())
+    push_high(text, page.high.as_ref())
 }
 
 // Puts a number behind a text, and a word for one or for many.
@@ -142,9 +133,9 @@ fn push_lines(text: &mut Vec<u8, Alloc>, page: &PageShape) -> Result<(), Memory>
     text.extend_from_slice(b"<text x=\"12\" y=\"22\" font-weight=\"bold\">")?;
     push_name(text, page)?;
     text.extend_from_slice(b"</text>\n<text x=\"12\" y=\"40\">from ")?;
-    push_key(text, &page.low)?;
+    push_spelled(text, page.low.bytes())?;
     text.extend_from_slice(b"</text>\n<text x=\"12\" y=\"56\">to ")?;
-    push_end(text, page.high.as_ref())?;
+    push_high(text, page.high.as_ref())?;
     text.extend_from_slice(b"</text>\n")?;
     Ok(())
 }

@@ -11,8 +11,9 @@ use Rattle.bw_model.specs.declared.outcomes.Refusal.TheVariants.{TooLong, Memory
 use Rattle.bw_trace.specs.Determined.{HaveOneEnd, TextsAreDetermined, stopped}
 use Rattle.bw_trace.specs.Ends.{IsOfContents}
 use Rattle.bw_trace.specs.Running.{IsRun, is_of_memory, refusal_in, left_by_run, summary_of}
-use Rattle.bw_trace.specs.Texts.{batches_text, contents_text}
-use Rattle.bw_trace.specs.Traces.{Trace}
+use Rattle.bw_text.specs.Texts.{contents_text}
+use Rattle.bw_trace.specs.BatchTexts.{batches_text}
+use Rattle.bw_text.specs.Traces.{Trace}
 use Rattle.bw_trace.specs.declared.jobs.Job.{Job}
 use Rattle.bw_trace.specs.declared.jobs.Job.TheVariants.{Run, Dump, Shape, Picture}
 

@@ -1,10 +1,3 @@
-pub mod Numbers
-pub mod Misreading
-pub mod ReadBackLemmas
-pub mod Writing
-pub mod LinesLemmas
-pub mod ReadingSteps
-pub mod TracesLemmas
 pub mod RunningLemmas
 pub mod DeterminedLemmas
 pub mod EndsLemmas

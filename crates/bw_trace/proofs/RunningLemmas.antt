@@ -13,16 +13,16 @@ use Rattle.bw_model.specs.declared.operations.Op.{Op}
 use Rattle.bw_model.specs.declared.outcomes.Refusal.{Refusal}
 use Rattle.bw_model.proofs.RunsLemmas.{one_more, left_one_more}
 use Rattle.bw_trace.specs.Ends.{IsEndText}
-use Rattle.bw_trace.specs.declared.faults.Cause.{Cause}
-use Rattle.bw_trace.specs.declared.places.Place.{Place}
+use Rattle.bw_text.specs.declared.faults.Cause.{Cause}
+use Rattle.bw_text.specs.declared.places.Place.{Place}
 use Rattle.bw_trace.specs.declared.summaries.Summary.{Summary}
 use Rattle.bw_trace.specs.Running.{IsRun, left_by_run, refusal_in, summary_of, is_too_long, is_of_memory}
-use Rattle.bw_trace.specs.Sources.{SourceView}
-use Rattle.bw_trace.specs.Texts.{batch_text, batches_text}
+use Rattle.bw_text.specs.Sources.{SourceView}
+use Rattle.bw_trace.specs.BatchTexts.{batch_text, batches_text}
 use Rattle.bw_trace.specs.declared.jobs.Job.{Job}
-use Rattle.bw_trace.specs.Traces.{Trace, trace_from, cut_trace_from, no_trace, faulty, behind, StandFor, IsFaultyAt}
-use Rattle.bw_trace.specs.Writing.{TakesFront}
-use Rattle.bw_trace.proofs.Writing.{flat_map_one}
+use Rattle.bw_text.specs.Traces.{Trace, trace_from, cut_trace_from, no_trace, faulty, behind, StandFor, IsFaultyAt}
+use Rattle.bw_text.specs.Writing.{TakesFront}
+use Rattle.bw_text.proofs.Writing.{flat_map_one}
 
 -- ---- batches behind batches
 

@@ -6,9 +6,9 @@ use Rattle.bw_model.specs.Runs.{Outcome}
 use Rattle.bw_model.specs.Values.{ValueBytes}
 use Rattle.bw_trace.specs.Ends.{IsEndText, IsOfContents}
 use Rattle.bw_trace.specs.Running.{IsRun, left_by_run, summary_of}
-use Rattle.bw_trace.specs.Texts.{batches_text}
-use Rattle.bw_trace.specs.Traces.{Trace}
-use Rattle.bw_trace.specs.declared.faults.Cause.{Cause}
+use Rattle.bw_trace.specs.BatchTexts.{batches_text}
+use Rattle.bw_text.specs.Traces.{Trace}
+use Rattle.bw_text.specs.declared.faults.Cause.{Cause}
 use Rattle.bw_trace.specs.declared.jobs.Job.{Job}
 
 -- nothing is left to read: the trace ended, or its first faulty line stopped it

@@ -7,7 +7,7 @@ use Rattle.bw_look.specs.declared.look.shape.PageShape.{PageShape}
 use Rattle.bw_picture.specs.Pictures.{picture_text}
 use Rattle.bw_batch.specs.IndexTrees.{IsShapeWith}
 use Rattle.bw_trace.specs.ShapeTexts.{shape_text}
-use Rattle.bw_trace.specs.Texts.{contents_text}
+use Rattle.bw_text.specs.Texts.{contents_text}
 use Rattle.bw_trace.specs.declared.jobs.Job.{Job}
 use Rattle.bw_trace.specs.declared.jobs.Job.TheVariants.{Run, Dump, Shape, Picture}
 

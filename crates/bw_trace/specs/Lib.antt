@@ -1,16 +1,6 @@
-pub mod Lines
-pub mod Spelling
-pub mod Grammar
-pub mod Misreads
-pub mod ReadBack
-pub mod Traces
-pub mod Texts
+pub mod BatchTexts
 pub mod ShapeTexts
 pub mod Ends
-pub mod Counts
-pub mod Faults
-pub mod Writing
-pub mod Sources
 pub mod Running
 pub mod Statuses
 pub mod Determined

@@ -7,7 +7,7 @@ use Rattle.bw_model.specs.Values.{ValueBytes}
 use Rattle.bw_model.specs.declared.operations.Op.{Op}
 use Rattle.bw_model.specs.declared.outcomes.Refusal.{Refusal}
 use Rattle.bw_model.specs.declared.outcomes.Refusal.TheVariants.{TooLong, Memory}
-use Rattle.bw_trace.specs.Traces.{Trace, behind}
+use Rattle.bw_text.specs.Traces.{Trace, behind}
 use Rattle.bw_trace.specs.declared.summaries.Summary.{Summary}
 
 -- The trace is some batches, which had these outcomes in turn on an empty index, and then the rest.

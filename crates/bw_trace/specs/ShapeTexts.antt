@@ -1,15 +1,10 @@
 -- How a tree's pages are listed.
-use Rattle.std.specs.Prelude.{ℕ, ◌==◌, if◌then◌else◌, List, ◌∷◌, ◌++◌, codes, Option, Some, None}
+use Rattle.std.specs.Prelude.{ℕ, ◌==◌, if◌then◌else◌, List, ◌∷◌, ◌++◌, codes}
 use Rattle.std.specs.List.{flat_map}
 use Rattle.std.specs.Fmt.{decimal}
 use Rattle.bw_look.specs.declared.look.shape.PageShape.{PageShape}
-use Rattle.bw_trace.specs.Spelling.{spelled}
-use Rattle.bw_trace.specs.Texts.{line}
-
--- where a range ends: at a key, or nowhere
-abbrev pub high_text : Option (List ℕ) → List ℕ
-high_text None = codes "*"
-high_text (Some key) = spelled key
+use Rattle.bw_text.specs.Spelling.{high_text, spelled}
+use Rattle.bw_text.specs.Texts.{line}
 
 -- `LOW HIGH`
 abbrev pub range_text : PageShape → List ℕ

@@ -1,7 +1,7 @@
 -- The exit status of a run.
 use Rattle.std.specs.Prelude.{ℕ, ◌+◌, ◌==◌, if◌then◌else◌, Result, Ok, Err}
-use Rattle.bw_trace.specs.declared.faults.TraceFault.{TraceFault}
-use Rattle.bw_trace.specs.declared.faults.TraceFault.TheVariants.{Read, Write, Line, Memory, Endless}
+use Rattle.bw_text.specs.declared.faults.TraceFault.{TraceFault}
+use Rattle.bw_text.specs.declared.faults.TraceFault.TheVariants.{Read, Write, Line, Memory, Endless}
 use Rattle.bw_trace.specs.declared.summaries.Summary.{Summary}
 
 -- 0 where all batches were accepted, 4 where one was refused; 3 at a faulty line, and 1 at another fault

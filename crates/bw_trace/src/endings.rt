@@ -5,10 +5,10 @@ ghost use Rattle.bw_trace.specs.Ends.{IsEndText};
 
 use crate::jobs::Job;
 use crate::shapes::shape_text;
-use crate::texts::contents_text;
 use bw_batch::{Index, Memory};
 use bw_memory::Alloc;
 use bw_picture::picture;
+use bw_text::contents_text;
 
 /// The text that a job prints at the end, where a page may have so many entries: it is made whole before any of it is
 /// written.

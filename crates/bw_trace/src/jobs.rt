@@ -4,24 +4,23 @@ ghost use Rattle.std.specs.Io.KnownBytes.{Appends, Consumes, IsAtEnd};
 ghost use Rattle.bw_batch.specs.Outcomes.{outcome_of};
 ghost use Rattle.bw_batch.specs.View.{contents_of, settings_of};
 ghost use Rattle.bw_model.specs.Runs.{Outcome, Answers, left_by};
-ghost use Rattle.bw_trace.specs.Counts.{HasRisenBy};
+ghost use Rattle.bw_text.specs.Counts.{HasRisenBy};
 ghost use Rattle.bw_trace.specs.Ends.{IsEndText};
-ghost use Rattle.bw_trace.specs.Faults.{IfLine, IsOfInput, IsOfWriting};
+ghost use Rattle.bw_text.specs.Faults.{IfLine, IsOfInput, IsOfWriting};
 ghost use Rattle.bw_trace.specs.Running.{IsRun, left_by_run, refusal_in, summary_of};
-ghost use Rattle.bw_trace.specs.Sources.{ReadsOn};
+ghost use Rattle.bw_text.specs.Sources.{ReadsOn};
 ghost use Rattle.bw_trace.specs.Statuses.{status_of};
-ghost use Rattle.bw_trace.specs.Texts.{batch_text, batches_text};
-ghost use Rattle.bw_trace.specs.Traces.{Trace, trace_from, cut_trace_from, no_trace, faulty};
-ghost use Rattle.bw_trace.specs.Writing.{TakesFront};
+ghost use Rattle.bw_trace.specs.BatchTexts.{batch_text, batches_text};
+ghost use Rattle.bw_text.specs.Traces.{Trace, trace_from, cut_trace_from, no_trace, faulty};
+ghost use Rattle.bw_text.specs.Writing.{TakesFront};
 
 use crate::endings::end_text;
-use crate::faults::TraceFault;
-use crate::ports::{Inlet, Outlet};
-use crate::sources::{Source, read_batch};
 use crate::summaries::Summary;
-use crate::texts::{print_refusal, print_replies, put_text};
 use bw_batch::{Done, Index, Op, OpenGate, Options, Refusal};
 use bw_memory::Alloc;
+use bw_text::{
+    Inlet, Outlet, Source, TraceFault, print_refusal, print_replies, put_text, read_batch,
+};
 use std::thread::Threads;
 
 /// What is done with a trace.

@@ -1,13 +1,11 @@
 // The list of pages.
 ghost use Rattle.std.specs.Prelude.{◌≡◌, ◌++◌, ◌∷◌, IfOk, OnOk};
 ghost use Rattle.std.specs.Fmt.{decimal};
-ghost use Rattle.std.specs.Option.{option_copied};
-ghost use Rattle.bw_trace.specs.ShapeTexts.{high_text, range_text, leaf_text, inner_text, page_text, shape_text};
+ghost use Rattle.bw_trace.specs.ShapeTexts.{range_text, leaf_text, inner_text, page_text, shape_text};
 
-use crate::spelling::push_spelled;
-use crate::texts::push_number;
-use bw_batch::{Key, Memory, PageShape};
+use bw_batch::{Memory, PageShape};
 use bw_memory::Alloc;
+use bw_text::{push_high, push_number, push_spelled};
 
 /// A line for each page.
 pub(crate) fn shape_text(alloc: Alloc, pages: &[PageShape]) -> Result<Vec<u8, Alloc>, Memory>
@@ -60,15 +58,6 @@ fn push_range(text: &mut Vec<u8, Alloc>, page: &PageShape) -> Result<(), Memory>
     push_spelled(text, page.low.bytes())?;
     text.push(b' ')?;
     push_high(text, page.high.as_ref())
-}
-
-fn push_high(text: &mut Vec<u8, Alloc>, high: Option<&Key>) -> Result<(), Memory>
-    ensures { OnOk result (text.new.items ≡ text.old.items ++ high_text (option_copied high.entry)) }
-{
-    match high {
-        Some(key) => push_spelled(text, key.bytes()),
-        None => Ok(text.push(b'*')?),
-    }
 }
 
 // A space and a number.

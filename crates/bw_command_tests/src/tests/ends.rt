@@ -87,6 +87,17 @@ impl<R: Abort + Files + AllocGlobal + Threads + Clock + Sync> Runner<'_, R> {
     }
 }
 
+// What the index holds, in the same cases.
+const CONTENTS: &str = "contents 1\na 2\n";
+
+const NO_CONTENTS: &str = "contents 0\n";
+
+#[test]
+fn contents_are_listed_whole_or_not_at_all(rt: HostRuntime) {
+    let runner = Runner::new(&rt, rt.alloc());
+    runner.refuse_each("dump", CONTENTS, NO_CONTENTS);
+}
+
 #[test]
 fn pages_are_listed_whole_or_not_at_all(rt: HostRuntime) {
     let runner = Runner::new(&rt, rt.alloc());

@@ -129,6 +129,11 @@ fn faults_have_their_texts(rt: HostRuntime) {
             in_line(6, Cause::Number),
             "line 6: not a whole number up to 18446744073709551615",
         ),
+        (in_line(7, Cause::ValueText), "line 7: badly spelled value"),
+        (
+            in_line(8, Cause::ValueLength),
+            "line 8: value longer than 1024 bytes",
+        ),
     ] {
         let found = format!(in rt.alloc(); "{fault}").expect(&rt, "memory");
         assert_equal(&rt, found.as_str(), text);

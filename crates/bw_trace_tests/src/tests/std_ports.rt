@@ -61,6 +61,13 @@ impl Write for Holding {
 }
 
 #[test]
+fn a_failure_has_its_text(rt: HostRuntime) {
+    let failed = Failed;
+    let found = format!(in rt.alloc(); "{failed}").expect(&rt, "memory");
+    assert_equal(&rt, found.as_str(), "a read or a write failed");
+}
+
+#[test]
 fn each_text_is_flushed(rt: HostRuntime) {
     let mut writer = Holding {
         held: 0,

@@ -5,9 +5,10 @@ pub returns : goal.returns
 returns c =
     rw (
       c.in_ok-extend_from_slice-4.ensures.items,
-      c.in_ok-push_end.ensures,
+      c.in_ok-push_high.ensures,
       c.in_ok-extend_from_slice-3.ensures.items,
-      c.in_ok-push_key.ensures,
+      c.in_ok-push_spelled.ensures,
+      c.bytes.ensures.value,
       c.in_ok-extend_from_slice-2.ensures.items,
       c.in_ok-push_name.ensures,
       c.in_ok-extend_from_slice.ensures.items,

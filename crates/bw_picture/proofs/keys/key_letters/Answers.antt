@@ -1,5 +1,5 @@
 use Rattle.std.proofs.Common.{sym, ap, ◌∙◌}
-use Rattle.bw_picture.specs.Keys.{is_plain_word}
+use Rattle.bw_text.specs.Spelling.{is_plain_word}
 use Rattle.bw_picture.proofs.Letters.{letters_of_digits}
 use Rattle.bw_picture.proofs.keys.key_letters.Goals as goal
 

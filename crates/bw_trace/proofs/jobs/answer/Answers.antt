@@ -6,7 +6,7 @@ use Rattle.bw_batch.specs.Outcomes.{outcome_of}
 use Rattle.bw_batch.specs.View.{contents_of, settings_of}
 use Rattle.bw_batch.specs.declared.index.Done.{Done}
 use Rattle.bw_model.specs.declared.outcomes.Refusal.{Refusal}
-use Rattle.bw_trace.specs.declared.faults.TraceFault.TheVariants.{Memory}
+use Rattle.bw_text.specs.declared.faults.TraceFault.TheVariants.{Memory}
 use Rattle.bw_trace.specs.Running.{refusal_in}
 use Rattle.bw_trace.proofs.jobs.answer.Goals as goal
 

@@ -3,12 +3,12 @@ use Rattle.std.proofs.KnownBytes.{Consumes-trans}
 use Rattle.std.proofs.lemmas.Result.{err_from_is_err_and}
 use Rattle.bw_batch.specs.View.{contents_of}
 use Rattle.bw_model.specs.Runs.{Answers, left_by}
-use Rattle.bw_trace.proofs.ReadingSteps.{reads_on_none, reads_on_more}
+use Rattle.bw_text.proofs.ReadingSteps.{reads_on_none, reads_on_more}
 use Rattle.bw_trace.proofs.RunningLemmas.{runs_to_none, stops_at_start, stops_for_memory, not_over, has_run_more, is_run_at_cut, is_run_at_end, is_run_of_all, front_of_all, front_more, texts_more, texts_end, texts_stay, is_run_of_ended, count_both, fewer_more, summary_more}
 use Rattle.bw_batch.specs.Settings.{Settings}
 use Rattle.bw_trace.specs.Running.{summary_of, refusal_in, left_by_run}
 use Rattle.bw_trace.specs.declared.summaries.Summary.{Summary}
-use Rattle.bw_trace.specs.declared.faults.TraceFault.TheVariants.{Memory}
+use Rattle.bw_text.specs.declared.faults.TraceFault.TheVariants.{Memory}
 use Rattle.bw_trace.proofs.jobs.run_trace.Goals as goal
 
 pub returns-in_err-index-clause-memory : goal.returns-in_err-index-clause-memory

@@ -1,6 +1,6 @@
 use Rattle.std.proofs.Common.{◌≡◌, ◌≤◌, ◌<◌, ◌^◌, ◌+◌, None}
 use Rattle.bw_batch.specs.View.{contents_of, settings_of}
-use Rattle.bw_trace.specs.Sources.{ReadsOn}
+use Rattle.bw_text.specs.Sources.{ReadsOn}
 use Rattle.bw_trace.proofs.RunningLemmas.{RunsTo}
 use Rattle.bw_trace.proofs.jobs.run_trace.Given as goal
 

@@ -1,0 +1,11 @@
+pub mod Lines
+pub mod Spelling
+pub mod Grammar
+pub mod Misreads
+pub mod ReadBack
+pub mod Traces
+pub mod Texts
+pub mod Counts
+pub mod Faults
+pub mod Writing
+pub mod Sources

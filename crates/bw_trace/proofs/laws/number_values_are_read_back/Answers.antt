@@ -1,5 +1,0 @@
-use Rattle.bw_trace.proofs.ReadBackLemmas.{number_values_back}
-use Rattle.bw_trace.proofs.laws.number_values_are_read_back.Goals as goal
-
-pub returns : goal.returns
-returns c = number_values_back

@@ -1,5 +1,0 @@
-use Rattle.bw_trace.proofs.ReadBackLemmas.{values_back}
-use Rattle.bw_trace.proofs.laws.values_are_read_back.Goals as goal
-
-pub returns : goal.returns
-returns c = values_back

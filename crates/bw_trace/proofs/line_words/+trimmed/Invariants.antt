@@ -1,5 +1,0 @@
-use Rattle.std.proofs.Common.{length}
-use Rattle.bw_trace.proofs.line_words.+trimmed.Given as goal
-
-abbrev pub decreases-trimmed : goal.decreases-trimmed
-decreases-trimmed a = length a.digits.now
