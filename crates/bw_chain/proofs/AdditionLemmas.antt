@@ -59,7 +59,7 @@ pub page_is : (chains : ChainsView) (word : ℕ) (s : Slot) → IsChain chains w
 page_is chains word s ends low is = on_base chains.bases chains.records word ends (no_record chains.records word low) ∙ sym is
 
 -- a record is put over a page that had none
-module _ (heads : List ℕ) (bases : Bases) (records : Records) (ends : AllEnd bases records heads) (own : OwnBases heads bases records) (p e : ℕ) (at : slice_get heads p ≡ Some e) (low : e < 2 ^ 32) (d : Delta) (shaped : IsShaped (d ∷ [])) where
+module _ (heads : List ℕ) (bases : Bases) (records : Records) (ends : AllEnd bases records heads) (own : OwnBases heads bases records) (p e : ℕ) (at : slice_get heads p ≡ Some e) (low : e < 2 ^ 32) (d : Delta) (shaped : IsShaped (based (slice_get bases e)) (d ∷ [])) where
   abbrev pub records_with : Records
   records_with = records ++ (d, e) ∷ []
 
@@ -95,7 +95,7 @@ module _ (heads : List ℕ) (bases : Bases) (records : Records) (ends : AllEnd b
   within = subst (λ n. n < length bases) base_is (base_within bases records e (ends p e at))
 
   ends_here : Ends bases records_with new_word
-  ends_here = (new_word ∷ [], (e, record { way = way; short = omega (arith, more); within = within; limit = low; shaped = subst IsShaped (sym listed) shaped }))
+  ends_here = (new_word ∷ [], (e, record { way = way; short = omega (arith, more); within = within; limit = low; shaped = subst (IsShaped (based (slice_get bases e))) (sym listed) shaped }))
 
   extends : Extends records records_with
   extends = append_extends records ((d, e) ∷ [])
@@ -163,12 +163,16 @@ module _ (heads : List ℕ) (bases : Bases) (records : Records) (ends : AllEnd b
   ends_alone : Ends bases_with records q
   ends_alone = ([], (q, record { way = alone; short = omega arith; within = omega (arith, size); limit = few; shaped = tt }))
 
+  -- no other page rests on the new base page
+  kept_under : (r w : ℕ) → (r ≡ q → ⊥) → slice_get heads r ≡ Some w → slice_get bases_with (base_under records w) ≡ slice_get bases (base_under records w)
+  kept_under r w other at = get_put_other bases q (base_under records w) (Some page) number (λ same. other (sym (own.number r w at) ∙ same))
+
   pub page_all_end : AllEnd bases_with records heads_and
   page_all_end r w at = by (put_where heads q r q w place at)
     where
       by : ((r ≡ q) × (w ≡ q)) ⊎ ((r ≡ q → ⊥) × (slice_get heads r ≡ Some w)) → Ends bases_with records w
       by (inl here) = subst (Ends bases_with records) (sym here.1) ends_alone
-      by (inr there) = ends_within bases bases_with records w (omega (arith, size)) (ends r w there.1)
+      by (inr there) = ends_within bases bases_with records w (omega (arith, size)) (kept_under r w there.0 there.1) (ends r w there.1)
 
   pub page_own : OwnBases heads_and bases_with records
   page_own = record {
@@ -188,4 +192,4 @@ module _ (heads : List ℕ) (bases : Bases) (records : Records) (ends : AllEnd b
 
   pub page_others : (r : ℕ) → (r ≡ q → ⊥) → slot_at (slots_of heads_and bases_with records) r ≡ slot_at (slots_of heads bases records) r
   page_others r other = same_slot (slot_of_word bases records) (slot_of_word bases_with records) heads heads_and r (get_put_other heads q r q place other)
-      (λ w at. page_kept bases bases_with records w (get_put_other bases q (base_under records w) (Some page) number (λ same. other (sym (own.number r w at) ∙ same))))
+      (λ w at. page_kept bases bases_with records w (kept_under r w other at))

@@ -59,11 +59,13 @@ module _ (heads : List ℕ) (bases : Bases) (records : Records) (ends : AllEnd b
   pub put_there : slot_of_word bases_after records number ≡ plain page
   put_there = on_base bases_after records number ends_alone (no_record records number low) ∙ ap based (get_set_same bases number (Some page) within)
 
-  -- and the other pages are as they were
+  -- no other page rests on that base page
+  kept_under : (q w : ℕ) → (q ≡ p → ⊥) → slice_get heads q ≡ Some w → slice_get bases_after (base_under records w) ≡ slice_get bases (base_under records w)
+  kept_under q w other at_q = get_set_other bases number (base_under records w) (Some page) (λ same. other (one_page heads bases records own q p w word at_q at same))
+
+  -- so the other pages are as they were
   pub others_kept : (q w : ℕ) → slice_get heads q ≡ Some w → (q ≡ p → ⊥) → slot_of_word bases_after records w ≡ slot_of_word bases records w
-  others_kept q w at_q other = page_kept bases bases_after records w (
-      get_set_other bases number (base_under records w) (Some page) (λ same.
-      other (one_page heads bases records own q p w word at_q at same)))
+  others_kept q w at_q other = page_kept bases bases_after records w (kept_under q w other at_q)
 
   is_there : (q w : ℕ) → slice_get heads_after q ≡ Some w → ((q ≡ p) × (w ≡ number)) ⊎ ((q ≡ p → ⊥) × (slice_get heads q ≡ Some w))
   is_there q w at_q = by (cases_eq q p)
@@ -88,7 +90,7 @@ module _ (heads : List ℕ) (bases : Bases) (records : Records) (ends : AllEnd b
     where
       by : ((q ≡ p) × (w ≡ number)) ⊎ ((q ≡ p → ⊥) × (slice_get heads q ≡ Some w)) → Ends bases_after records w
       by (inl here) = subst (Ends bases_after records) (sym here.1) ends_alone
-      by (inr there) = ends_within bases bases_after records w (omega (arith, length-set bases number (Some page))) (ends q w there.1)
+      by (inr there) = ends_within bases bases_after records w (omega (arith, length-set bases number (Some page))) (kept_under q w there.0 there.1) (ends q w there.1)
 
   pub own_after : OwnBases heads_after bases_after records
   own_after = record {

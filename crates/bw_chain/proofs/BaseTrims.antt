@@ -1,10 +1,11 @@
 -- Base pages that go from the end leave each page as it is, where their numbers are vacant.
-use Rattle.std.proofs.Common.{inl, inr, ◌⊎◌, ◌≡◌, ℕ, zero, suc, ◌<◌, ◌≤◌, List, [], ◌∷◌, length, map, take, Option, Some, None, refl, sym, ◌∙◌, arith}
+use Rattle.std.proofs.Common.{inl, inr, ◌⊎◌, ◌≡◌, ℕ, zero, suc, ◌<◌, ◌≤◌, List, [], ◌∷◌, length, map, take, Option, Some, None, refl, sym, ◌∙◌, subst, arith}
 use Rattle.std.proofs.lemmas.Bool.{cases_lt}
 use Rattle.std.specs.Prelude.{slice_get}
+use Rattle.bw_page.specs.declared.pages.Page.{Page}
 use Rattle.bw_page.specs.declared.pages.Page.TheVariants.{Gone as GonePage}
-use Rattle.bw_level.specs.Changes.{Bases}
-use Rattle.bw_chain.specs.Chains.{AllEnd, Records, Ends, EndsAt, link_of, slot_of_word, slots_of}
+use Rattle.bw_level.specs.Changes.{Bases, based}
+use Rattle.bw_chain.specs.Chains.{AllEnd, Records, Ends, EndsAt, IsShaped, deltas_at, link_of, slot_of_word, slots_of}
 use Rattle.bw_chain.specs.Removed.{HasAllRemoved}
 use Rattle.bw_level.specs.Slots.{Slot, Free, slot_at}
 use Rattle.bw_chain.specs.Supports.{OwnBases, base_under}
@@ -86,10 +87,13 @@ module _ (heads : List ℕ) (bases : Bases) (records : Records) (ends : AllEnd b
       e : Ends bases records word
       e = ends p word (taken_at heads n p word at).1
 
+      below : (e : ℕ) → e ≡ p → e < n
+      below e here = omega (arith, here, (taken_at heads n p word at).0)
+
       by : (ws : List ℕ) (e : ℕ) → EndsAt bases records word ws e → Ends bases_left records word
       by ws e h =
           let here : e ≡ p = sym (ended_is (link_of records) (length records) word ws e h.way h.short) ∙ own.number p word (taken_at heads n p word at).1 in
-          (ws, (e, record { way = h.way; short = h.short; within = within_taken bases n e (omega (arith, here, (taken_at heads n p word at).0)) h.within; limit = h.limit; shaped = h.shaped }))
+          (ws, (e, record { way = h.way; short = h.short; within = within_taken bases n e (below e here) h.within; limit = h.limit; shaped = subst (λ (o : Option (Option Page)). IsShaped (based o) (deltas_at records ws)) (sym (get_taken bases n e (below e here))) h.shaped }))
 
   module _ (vacant : AreVacantFrom bases n) where
     free_old : (p : ℕ) → n ≤ p → slot_at (slots_of heads bases records) p ≡ Free

@@ -99,12 +99,12 @@ base_there bases records q ws e way none =
     let ended_there : Leads (link_of records) q [] e = subst (λ (l : List ℕ). Leads (link_of records) q l e) (none_on records q ws e way none) way in
     slot_of_way bases records q [] e ended_there (omega arith) ∙ ap (λ m. based (slice_get bases m)) (sym ended_there.0)
 
-below_it : (bases : Bases) (records : Records) (q : ℕ) (d : Delta) (ws : List ℕ) (e : ℕ) → Leads (link_of records) q ws e → length ws ≤ length records → e < length bases → e < 4294967296 → IsShaped (d ∷ deltas_at records ws) → Below bases records d q
+below_it : (bases : Bases) (records : Records) (q : ℕ) (d : Delta) (ws : List ℕ) (e : ℕ) → Leads (link_of records) q ws e → length ws ≤ length records → e < length bases → e < 4294967296 → IsShaped (based (slice_get bases e)) (d ∷ deltas_at records ws) → Below bases records d q
 below_it bases records q (Put w) ws e way short within limit shaped = (ws, (e, record { way = way; short = short; within = within; limit = limit; shaped = shaped }))
 below_it bases records q (Split k to) ws e way short within limit shaped = base_there bases records q ws e way shaped
-below_it bases records q (Absorb k base high side) ws e way short within limit shaped = base_there bases records q ws e way shaped
+below_it bases records q (Absorb k base high side) ws e way short within limit shaped = base_there bases records q ws e way shaped.0
 below_it bases records q (Removed left) ws e way short within limit shaped = absurd shaped
-below_it bases records q (AddChild k child) ws e way short within limit shaped = base_there bases records q ws e way shaped
+below_it bases records q (AddChild k child) ws e way short within limit shaped = base_there bases records q ws e way shaped.0
 below_it bases records q (DropChild k) ws e way short within limit shaped = base_there bases records q ws e way shaped
 
 under_way : (bases : Bases) (records : Records) (word : ℕ) (r : Delta × ℕ) → record_at records word ≡ Some r →
@@ -123,7 +123,7 @@ under_way bases records word r at (w ∷ ws) e h =
           slot_of_way bases records word (w ∷ ws) e way h.short
           ∙ ap (λ (l : List Delta). changed bases l (based (slice_get bases e))) listed
           ∙ ap (change bases r.0) (sym (slot_of_way bases records r.1 ws e rest short_rest));
-      ends = below_it bases records r.1 r.0 ws e rest short_rest h.within h.limit (subst IsShaped listed h.shaped);
+      ends = below_it bases records r.1 r.0 ws e rest short_rest h.within h.limit (subst (IsShaped (based (slice_get bases e))) listed h.shaped);
       less = (way_falls_within (link_of records) (length records) word r.1 (w ∷ ws) e way h.short step).0;
     }
 
@@ -164,13 +164,13 @@ under_put bases records word under_it d w ends at put =
     }
 
 -- a change over another one is a write
-write_over : (d : Delta) (ds : List Delta) → IsShaped (d ∷ ds) → (ds ≡ [] → ⊥) → (w : WriteView) × (d ≡ Put w)
-write_over (Put w) ds shaped more = (w, refl)
-write_over (Split k to) ds shaped more = absurd (more shaped)
-write_over (Absorb k base high side) ds shaped more = absurd (more shaped)
-write_over (Removed left) ds shaped more = absurd shaped
-write_over (AddChild k child) ds shaped more = absurd (more shaped)
-write_over (DropChild k) ds shaped more = absurd (more shaped)
+write_over : (base : Slot) (d : Delta) (ds : List Delta) → IsShaped base (d ∷ ds) → (ds ≡ [] → ⊥) → (w : WriteView) × (d ≡ Put w)
+write_over base (Put w) ds shaped more = (w, refl)
+write_over base (Split k to) ds shaped more = absurd (more shaped)
+write_over base (Absorb k number high side) ds shaped more = absurd (more shaped.0)
+write_over base (Removed left) ds shaped more = absurd shaped
+write_over base (AddChild k child) ds shaped more = absurd (more shaped.0)
+write_over base (DropChild k) ds shaped more = absurd (more shaped)
 
 -- so a record that lies over another one is a write
 pub put_over : (bases : Bases) (records : Records) (word under_it : ℕ) → Ends bases records word → link_of records word ≡ Some under_it → 4294967296 ≤ under_it → (w : WriteView) × (record_at records word ≡ Some (Put w, under_it))
@@ -183,7 +183,7 @@ put_over bases records word under_it ends link from = by ends.0 ends.1.0 ends.1.
         let there = linked records word under_it link in
         let listed : deltas_at records (w ∷ v ∷ ws) ≡ there.0.0 ∷ deltas_at records (v ∷ ws) = ap (λ o. delta_in o (deltas_at records (v ∷ ws))) (ap (record_at records) h.way.0 ∙ there.1) in
         let more : deltas_at records (v ∷ ws) ≡ [] → ⊥ = λ none. omega (arith, ap length (none_on records h.way.1.0 (v ∷ ws) e h.way.1.2 none)) in
-        let put = write_over there.0.0 (deltas_at records (v ∷ ws)) (subst IsShaped listed h.shaped) more in
+        let put = write_over (based (slice_get bases e)) there.0.0 (deltas_at records (v ∷ ws)) (subst (IsShaped (based (slice_get bases e))) listed h.shaped) more in
         (put.0, there.1 ∙ ap (λ n. Some (there.0.0, n)) there.2 ∙ ap (λ (d : Delta). Some (d, under_it)) put.1)
 
 -- and under it is the rest of the chain

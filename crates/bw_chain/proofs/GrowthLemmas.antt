@@ -34,7 +34,7 @@ still_ends bases old new word kept more ends = by ends.0 ends.1.0 ends.1.1
         let way = leads_on old new kept word ws e h.limit h.way in
         let same = deltas_on old new kept word ws e h.way in
         let short : length ws ≤ length new = omega (arith, h.short, more) in (
-          (ws, (e, record { way = way; short = short; within = h.within; limit = h.limit; shaped = subst IsShaped (sym same) h.shaped })),
+          (ws, (e, record { way = way; short = short; within = h.within; limit = h.limit; shaped = subst (IsShaped (based (slice_get bases e))) (sym same) h.shaped })),
           slot_of_way bases new word ws e way short ∙ ap (λ (l : List Delta). changed bases l (based (slice_get bases e))) same ∙ sym (slot_of_way bases old word ws e h.way h.short),
         )
 

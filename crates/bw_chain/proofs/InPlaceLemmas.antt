@@ -34,7 +34,7 @@ under_split bases records word under k to ends at = by ends.0 ends.1.0 ends.1.1
     by [] e h = absurd (none (sym h.way.1 ∙ link))
     by (w ∷ ws) e h =
         let listed : deltas_at records (w ∷ ws) ≡ Split k to ∷ deltas_at records ws = ap (λ o. delta_in o (deltas_at records ws)) (ap (record_at records) h.way.0 ∙ at) in
-        let last : ws ≡ [] = none_on records h.way.1.0 ws e h.way.1.2 (subst IsShaped listed h.shaped) in
+        let last : ws ≡ [] = none_on records h.way.1.0 ws e h.way.1.2 (subst (IsShaped (based (slice_get bases e))) listed h.shaped) in
         let there : Leads (link_of records) h.way.1.0 [] e = subst (λ (l : List ℕ). Leads (link_of records) h.way.1.0 l e) last h.way.1.2 in
         ended_is (link_of records) (length records) word (w ∷ ws) e h.way h.short ∙ sym there.0 ∙ one (sym h.way.1.1 ∙ link)
 

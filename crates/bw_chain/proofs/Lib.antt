@@ -15,3 +15,4 @@ pub mod BareLemmas
 pub mod BaseTrims
 pub mod BaseReadLemmas
 pub mod OwnBaseLemmas
+pub mod DeltaNameLemmas

@@ -5,7 +5,7 @@ use Rattle.bw_page.specs.declared.pages.Page.{Page}
 use Rattle.bw_delta.specs.declared.deltas.Delta.{Delta}
 use Rattle.bw_delta.specs.declared.deltas.Delta.TheVariants.{Put, Split, Absorb, Removed, AddChild, DropChild}
 use Rattle.bw_level.specs.Changes.{Bases, based, change}
-use Rattle.bw_chain.specs.Chains.{Records, Ends, EndsAt, changed, deltas_at, link_of}
+use Rattle.bw_chain.specs.Chains.{Records, Ends, EndsAt, IsShaped, changed, deltas_at, link_of}
 use Rattle.bw_chain.specs.Supports.{PageIsKept, OwnBases, base_under}
 use Rattle.bw_level.specs.Slots.{Slot}
 use Rattle.bw_level.specs.Walk.{Leads, walked}
@@ -57,11 +57,14 @@ base_within bases records word ends = by ends.0 ends.1.0 ends.1.1
     by : (ws : List ℕ) (e : ℕ) → EndsAt bases records word ws e → base_under records word < length bases
     by ws e h = subst (λ n. n < length bases) (sym (ended_is (link_of records) (length records) word ws e h.way h.short)) h.within
 
--- a chain still ends where there are more base pages
-pub ends_within : (old new : Bases) (records : Records) (word : ℕ) → length old ≤ length new → Ends old records word → Ends new records word
-ends_within old new records word more ends =
-    let e = ends.1.1 in
-    (ends.0, (ends.1.0, record { way = e.way; short = e.short; within = omega (arith, e.within, more); limit = e.limit; shaped = e.shaped }))
+-- a chain still ends over other base pages, as many or more, where the one on which it rests is the same
+pub ends_within : (old new : Bases) (records : Records) (word : ℕ) → length old ≤ length new → slice_get new (base_under records word) ≡ slice_get old (base_under records word) → Ends old records word → Ends new records word
+ends_within old new records word more same ends = by ends.0 ends.1.0 ends.1.1
+  where
+    by : (ws : List ℕ) (e : ℕ) → EndsAt old records word ws e → Ends new records word
+    by ws e h =
+        let there = subst (λ n. slice_get new n ≡ slice_get old n) (ended_is (link_of records) (length records) word ws e h.way h.short) same in
+        (ws, (e, record { way = h.way; short = h.short; within = omega (arith, h.within, more); limit = h.limit; shaped = subst (λ (o : Option (Option Page)). IsShaped (based o) (deltas_at records ws)) (sym there) h.shaped }))
 
 no_next : {q : ℕ} → None ≡ Some q → ⊥
 no_next e = cc

@@ -1,5 +1,6 @@
 -- A base page that goes leaves its page's identifier free.
-use Rattle.std.proofs.Common.{set, ◌≡◌, ℕ, ◌<◌, ◌^◌, true, false, List, [], ◌∷◌, length, Option, Some, None, refl, sym, ap, ◌∙◌, arith}
+use Rattle.std.proofs.Common.{inl, inr, ◌⊎◌, set, ◌≡◌, ℕ, ◌<◌, ◌^◌, true, false, List, [], ◌∷◌, length, Option, Some, None, refl, sym, ap, ◌∙◌, subst, arith}
+use Rattle.std.proofs.lemmas.Bool.{cases_eq}
 use Rattle.std.proofs.lemmas.List.{length-set}
 use Rattle.std.specs.Borrow.{Bor}
 use Rattle.std.specs.Prelude.{Decides, is_none, slice_get}
@@ -8,7 +9,7 @@ use Rattle.bw_page.specs.declared.pages.Page.TheVariants.{Leaf as LeafPage, Inne
 use Rattle.bw_delta.specs.declared.deltas.Delta.{Delta}
 use Rattle.bw_delta.specs.declared.deltas.Delta.TheVariants.{Put, Split, Absorb, Removed, AddChild, DropChild}
 use Rattle.bw_level.specs.Changes.{Bases, based, body_below, body_with_child, body_written, change, page_changed, plain}
-use Rattle.bw_chain.specs.Chains.{AllEnd, Records, changed, deltas_at, link_of, slot_of_word, slots_of}
+use Rattle.bw_chain.specs.Chains.{AllEnd, Records, Ends, changed, deltas_at, link_of, slot_of_word, slots_of}
 use Rattle.bw_level.specs.Freeing.{IsFreed}
 use Rattle.bw_level.specs.Slots.{Slot, PageState, Free, Gone, Live}
 use Rattle.bw_chain.specs.Supports.{OwnBases, base_under}
@@ -16,9 +17,12 @@ use Rattle.bw_level.specs.Turns.{plain_at}
 use Rattle.bw_level.specs.Walk.{walked}
 use Rattle.bw_chain.proofs.AdditionLemmas.{same_slot, slot_here}
 use Rattle.bw_chain.proofs.BaseLemmas.{get_set_other, get_set_same}
-use Rattle.bw_chain.proofs.ChainLemmas.{no_record, on_base}
+use Rattle.bw_chain.proofs.ChainLemmas.{no_link, no_record, on_base}
 use Rattle.bw_chain.proofs.InPlaceLemmas.{under_plain}
 use Rattle.bw_chain.proofs.SupportLemmas.{base_within, ends_within, page_kept}
+
+one : {x y : ℕ} → Some x ≡ Some y → x ≡ y
+one e = cc
 
 -- a base page is no free identifier
 page_taken : (page : Page) → plain page ≡ Free → ⊥
@@ -84,8 +88,20 @@ module _ (heads : List ℕ) (bases : Bases) (records : Records) (ends : AllEnd b
   within : p < length bases
   within = omega (arith, here, under_plain records word low, base_within bases records word (ends p word at))
 
+  -- the page's chain is its base page's number alone
+  alone : Ends bases_but records word
+  alone = ([], (word, record { way = (refl, sym (no_link records word low)); short = omega arith; within = omega (arith, here, within, size); limit = low; shaped = tt }))
+
+  -- no other page rests on that base page
+  kept_under : (q w : ℕ) → (q ≡ p → ⊥) → slice_get heads q ≡ Some w → slice_get bases_but (base_under records w) ≡ slice_get bases (base_under records w)
+  kept_under q w other at_q = get_set_other bases p (base_under records w) None (λ same. other (sym (own.number q w at_q) ∙ same))
+
   pub vacant_end : AllEnd bases_but records heads
-  vacant_end q w at_q = ends_within bases bases_but records w (omega (arith, size)) (ends q w at_q)
+  vacant_end q w at_q = by (cases_eq q p)
+    where
+      by : (q ≡ p) ⊎ (q ≡ p → ⊥) → Ends bases_but records w
+      by (inl same) = subst (Ends bases_but records) (one (sym at ∙ ap (slice_get heads) (sym same) ∙ at_q)) alone
+      by (inr other) = ends_within bases bases_but records w (omega (arith, size)) (kept_under q w other at_q) (ends q w at_q)
 
   pub vacant_own : OwnBases heads bases_but records
   vacant_own = record { count = own.count ∙ sym size; number = own.number }
@@ -98,5 +114,5 @@ module _ (heads : List ℕ) (bases : Bases) (records : Records) (ends : AllEnd b
         ∙ ap (λ n. based (slice_get bases_but n)) here
         ∙ ap based (get_set_same bases p None within);
     others = λ q other. same_slot (slot_of_word bases records) (slot_of_word bases_but records) heads heads q refl
-        (λ w at_q. page_kept bases bases_but records w (get_set_other bases p (base_under records w) None (λ same. other (sym (own.number q w at_q) ∙ same))));
+        (λ w at_q. page_kept bases bases_but records w (kept_under q w other at_q));
   }

@@ -1,11 +1,11 @@
 -- Chains of deltas over base pages.
-use Rattle.std.specs.Prelude.{◌≡◌, ℕ, ◌-◌, ◌<◌, ◌≤◌, ◌^◌, if◌then◌else◌, nat_lt, Option, Some, None}
+use Rattle.std.specs.Prelude.{◌≡◌, ℕ, false, ◌-◌, ◌<◌, ◌≤◌, ◌^◌, if◌then◌else◌, nat_lt, Option, Some, None}
 use Rattle.std.specs.Prelude.{List, [], ◌∷◌, length, map, slice_get}
 use Rattle.bw_delta.specs.Writes.{WriteView}
 use Rattle.bw_delta.specs.declared.deltas.Delta.{Delta}
 use Rattle.bw_delta.specs.declared.deltas.Delta.TheVariants.{Put, Split, Absorb, Removed, AddChild, DropChild}
 use Rattle.bw_level.specs.Walk.{Leads, walked, ended}
-use Rattle.bw_level.specs.Slots.{Slot}
+use Rattle.bw_level.specs.Slots.{Slot, is_leaf, side_of_slot}
 use Rattle.bw_level.specs.Changes.{Bases, based, change}
 use Rattle.bw_level.specs.Reading.{writes_over}
 
@@ -54,15 +54,16 @@ slot_of_word bases records word =
     let base = ended (link_of records) (length records) word in
     changed bases (deltas_at records way) (based (slice_get bases base))
 
--- A chain is some writes, then at most one other change, then a base page. A removed page is a base page that says so.
-abbrev pub IsShaped : List Delta → Type 0
-IsShaped [] = Unit {0}
-IsShaped (Put w ∷ ds) = IsShaped ds
-IsShaped (Split k to ∷ ds) = ds ≡ []
-IsShaped (Absorb k base high side ∷ ds) = ds ≡ []
-IsShaped (Removed left ∷ ds) = ⊥
-IsShaped (AddChild k child ∷ ds) = ds ≡ []
-IsShaped (DropChild k ∷ ds) = ds ≡ []
+-- A chain over a base page is some writes, and under them at most one other change. An absorption names the right neighbour
+-- that the base page has, and only an inner page gets a child. A removed page is a base page that says so.
+abbrev pub IsShaped : Slot → List Delta → Type 0
+IsShaped base [] = Unit {0}
+IsShaped base (Put w ∷ ds) = IsShaped base ds
+IsShaped base (Split k to ∷ ds) = ds ≡ []
+IsShaped base (Absorb k number high side ∷ ds) = (ds ≡ []) × (side ≡ side_of_slot base)
+IsShaped base (Removed left ∷ ds) = ⊥
+IsShaped base (AddChild k child ∷ ds) = (ds ≡ []) × (is_leaf base ≡ false)
+IsShaped base (DropChild k ∷ ds) = ds ≡ []
 
 -- a word leads by links to a base page
 pub record EndsAt (bases : Bases) (records : Records) (word : ℕ) (ws : List ℕ) (e : ℕ) : Type 0 where
@@ -70,7 +71,7 @@ pub record EndsAt (bases : Bases) (records : Records) (word : ℕ) (ws : List �
   pub short : length ws ≤ length records
   pub within : e < length bases
   pub limit : e < floor_word
-  pub shaped : IsShaped (deltas_at records ws)
+  pub shaped : IsShaped (based (slice_get bases e)) (deltas_at records ws)
 
 abbrev pub Ends : Bases → Records → ℕ → Type 0
 Ends bases records word = (ws : List ℕ) × ((e : ℕ) × EndsAt bases records word ws e)

@@ -6,3 +6,4 @@ pub mod Placing
 pub mod Removed
 pub mod Vacancy
 pub mod Restructuring
+pub mod DeltaNames

@@ -18,3 +18,4 @@ pub mod PageLemmas
 pub mod LeftLemmas
 pub mod UnreachedLemmas
 pub mod RemovedLemmas
+pub mod DeltaNameLemmas

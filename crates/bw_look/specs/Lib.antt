@@ -10,3 +10,4 @@ pub mod PageStates
 pub mod Shapes
 pub mod Unnamed
 pub mod RemovedPages
+pub mod DeltaNames

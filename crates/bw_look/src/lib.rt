@@ -5,6 +5,7 @@
 #![tactic(auto)]
 
 mod folded;
+mod laws;
 mod look;
 mod routes;
 mod scans;
@@ -12,6 +13,7 @@ mod staging;
 mod words_before;
 
 pub use folded::Folded;
+pub use laws::no_delta_names_unreached;
 pub use look::{Look, PageShape, Unnamed};
 pub use routes::Routes;
 pub use scans::Scans;

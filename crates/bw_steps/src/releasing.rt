@@ -10,7 +10,8 @@ use bw_tree::Tree;
 /// Gives back the identifier of a page that was removed, or of a root that went: a new page may take it then. It isn't needed
 /// where the identifier is free already, and where something leads to the page: it stands on a level, an index entry of a
 /// page of a level names it, or a page was removed into it whose identifier isn't free. A page that a side link names stands on
-/// a level, so none names one whose identifier is given back. No batch is staged.
+/// a level, so none names one whose identifier is given back, and no delta of a chain does
+/// (`bw_look::no_delta_names_unreached`). No batch is staged.
 ///
 /// It costs a search, and a look at each removed page whose identifier isn't given back. After `Memory` the tree is as
 /// before.

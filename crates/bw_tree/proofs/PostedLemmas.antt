@@ -74,9 +74,9 @@ module _ (bases : Bases) (old : Records) (ws : List WriteView) (links : List ℕ
       ∙ ap (λ (l : List Delta). Put there.0 ∷ l) (posted_deltas rs (slice_index links r) before xs met.2)
       ∙ ap (λ o. puts (write_before o (named ws rs)) (deltas_at posted xs)) (sym there.1)
 
-  puts_shaped : (vs : List WriteView) (ds : List Delta) → IsShaped ds → IsShaped (puts vs ds)
-  puts_shaped [] ds h = h
-  puts_shaped (v ∷ vs) ds h = puts_shaped vs ds h
+  puts_shaped : (base : Slot) (vs : List WriteView) (ds : List Delta) → IsShaped base ds → IsShaped base (puts vs ds)
+  puts_shaped base [] ds h = h
+  puts_shaped base (v ∷ vs) ds h = puts_shaped base vs ds h
 
   puts_changed : (vs : List WriteView) (ds : List Delta) (slot : Slot) → changed bases (puts vs ds) slot ≡ put_over bases vs (changed bases ds slot)
   puts_changed [] ds slot = refl
@@ -95,7 +95,7 @@ module _ (bases : Bases) (old : Records) (ws : List WriteView) (links : List ℕ
           let way = posted_way rs head before xs e met (leads_on old posted kept before xs e h.limit h.way) in
           let listed : deltas_at posted (words rs ++ xs) ≡ puts (named ws rs) (deltas_at old xs) = posted_deltas rs head before xs met ∙ ap (puts (named ws rs)) (deltas_on old posted kept before xs e h.way) in
           let short : length (words rs ++ xs) ≤ length posted = omega (arith, h.short, posted_length, same, length-append (words rs) xs, length-map rs (λ r. 4294967296 + length old + r), few (length links) rs (meets_low (4294967296 + length old) links head rs before met) once) in (
-            (words rs ++ xs, (e, record { way = way; short = short; within = h.within; limit = h.limit; shaped = subst IsShaped (sym listed) (puts_shaped (named ws rs) (deltas_at old xs) h.shaped) })),
+            (words rs ++ xs, (e, record { way = way; short = short; within = h.within; limit = h.limit; shaped = subst (IsShaped (based (slice_get bases e))) (sym listed) (puts_shaped (based (slice_get bases e)) (named ws rs) (deltas_at old xs) h.shaped) })),
             slot_of_way bases posted head (words rs ++ xs) e way short ∙ ap (λ (l : List Delta). changed bases l (based (slice_get bases e))) listed
                 ∙ puts_changed (named ws rs) (deltas_at old xs) (based (slice_get bases e)) ∙ ap (put_over bases (named ws rs)) (sym (slot_of_way bases old before xs e h.way h.short)),
             ended_is (link_of posted) (length posted) head (words rs ++ xs) e way short ∙ sym (ended_is (link_of old) (length old) before xs e h.way h.short),

@@ -1,23 +1,31 @@
 -- A page that names one more page leaves a tree that holds the same.
-use Rattle.std.proofs.Common.{set, get_or, ◌≡◌, ℕ, ◌+◌, ◌<◌, ◌^◌, List, [], ◌∷◌, ◌++◌, length, Option, Some, None, refl, sym, ap, ◌∙◌, subst, arith, length-append}
+use Rattle.std.proofs.Common.{set, get_or, ◌≡◌, ℕ, suc, ◌+◌, ◌<◌, ◌^◌, false, List, [], ◌∷◌, ◌++◌, length, Option, Some, None, refl, sym, ap, ◌∙◌, subst, arith, length-append}
 use Rattle.std.proofs.lemmas.Option.{slice_get-get_or}
 use Rattle.std.proofs.lemmas.List.{get_or-set_same, get_or_default, length-set}
 use Rattle.std.specs.Prelude.{slice_get, slice_index}
 use Rattle.bw_key.specs.Order.{KeyBytes}
 use Rattle.bw_delta.specs.declared.deltas.Delta.{Delta}
 use Rattle.bw_delta.specs.declared.deltas.Delta.TheVariants.{AddChild}
-use Rattle.bw_level.specs.Changes.{Bases, change}
-use Rattle.bw_chain.specs.Chains.{Records}
+use Rattle.bw_level.specs.Changes.{Bases, based, change}
+use Rattle.bw_chain.specs.Chains.{Records, IsShaped}
 use Rattle.bw_level.specs.Children.{HasChild}
 use Rattle.bw_level.specs.Laws.{KeepsAll}
 use Rattle.bw_level.specs.Searches.{IsInLevels}
+use Rattle.bw_level.specs.Slots.{Slot, Free, Gone, Live, IsSoundInner, is_leaf, slot_at}
 use Rattle.bw_chain.proofs.AdditionLemmas.{record_all_end, record_here, record_others, record_own}
+use Rattle.bw_chain.proofs.ChainLemmas.{no_record, on_base}
+use Rattle.bw_chain.proofs.ReadingLemmas.{slot_of_head}
 use Rattle.bw_level.proofs.EntryLemmas.{child_kept}
 use Rattle.bw_tree.specs.TreeChildren.{IsNamed, MayHaveChild}
 use Rattle.bw_look.specs.Trees.{IsStanding, IsTree, StageWords, view_of}
 use Rattle.bw_look.specs.View.{StageView, TreeView}
-use Rattle.bw_look.proofs.RoutingLemmas.{page_there}
+use Rattle.bw_look.proofs.RoutingLemmas.{inner_sound, page_there}
 use Rattle.bw_tree.proofs.StandingLemmas.{contents_same, placed_set, same_levels, standing_kept}
+
+no_leaf : (slot : Slot) → IsSoundInner slot → is_leaf slot ≡ false
+no_leaf (Live s) sound = sound.0
+no_leaf (Gone l) sound = absurd sound
+no_leaf Free sound = absurd sound
 
 module _ (heads : List ℕ) (bases : Bases) (records : Records) (root next : ℕ) (t : IsStanding heads bases records root next) (p : ℕ) (within : p < length heads) (sep : KeyBytes) (child : ℕ) (ok : MayHaveChild (view_of heads bases records root next None) p sep child) (few : length records < 2 ^ 32) where
   abbrev old : TreeView
@@ -31,6 +39,16 @@ module _ (heads : List ℕ) (bases : Bases) (records : Records) (root next : ℕ
 
   abbrev delta : Delta
   delta = AddChild sep child
+
+  abbrev on : IsInLevels old.levels p
+  on = record { level = suc ok.fits.level; within = ok.fits.within; in_level = ok.fits.in_level }
+
+  base_is : slot_at old.slots p ≡ based (slice_get bases word)
+  base_is = slot_of_head bases records heads p 0 within ∙ on_base bases records word (t.ends p word at_p) (no_record records word ok.plain)
+
+  -- a page above the leaves is an inner one
+  shaped : IsShaped (based (slice_get bases word)) (delta ∷ [])
+  shaped = (refl, no_leaf (based (slice_get bases word)) (subst IsSoundInner base_is (inner_sound old root p t.lawful (record { in_levels = on; raised = omega arith }))))
 
   abbrev records' : Records
   records' = records ++ (delta, word) ∷ []
@@ -51,8 +69,8 @@ module _ (heads : List ℕ) (bases : Bases) (records : Records) (root next : ℕ
   given = record {
     was = ok.fits.state;
     is = ok.fits.is;
-    now = record_here heads bases records t.ends t.own p word at_p ok.plain delta refl ∙ ap (change bases delta) ok.fits.is;
-    others = record_others heads bases records t.ends t.own p word at_p ok.plain delta refl;
+    now = record_here heads bases records t.ends t.own p word at_p ok.plain delta shaped ∙ ap (change bases delta) ok.fits.is;
+    others = record_others heads bases records t.ends t.own p word at_p ok.plain delta shaped;
   }
 
   kept : KeepsAll old.slots new.slots root old.levels old.levels
@@ -60,8 +78,8 @@ module _ (heads : List ℕ) (bases : Bases) (records : Records) (root next : ℕ
 
   standing : IsStanding heads' bases records' root next
   standing = standing_kept heads bases records root next t heads' bases records' root old.levels kept
-      (record_all_end heads bases records t.ends t.own p word at_p ok.plain delta refl)
-      (record_own heads bases records t.ends t.own p word at_p ok.plain delta refl)
+      (record_all_end heads bases records t.ends t.own p word at_p ok.plain delta shaped)
+      (record_own heads bases records t.ends t.own p word at_p ok.plain delta shaped)
       (omega (arith, few, more)) (omega (arith, t.few_pages, length-set heads p new_word)) t.few_bases
       (placed_set heads old.levels p new_word within (λ high. record { level = _; within = ok.fits.within; in_level = ok.fits.in_level }) t.placed)
 

@@ -10,15 +10,15 @@ use Rattle.bw_page.proofs.KeyLemmas.{below_self}
 use Rattle.bw_page.specs.declared.pages.Page.{Page}
 use Rattle.bw_delta.specs.declared.deltas.Delta.{Delta}
 use Rattle.bw_delta.specs.declared.deltas.Delta.TheVariants.{Removed}
-use Rattle.bw_level.specs.Changes.{Bases, plain}
-use Rattle.bw_chain.specs.Chains.{AllEnd, ChainsView, Records, slot_of_word, slots_of}
+use Rattle.bw_level.specs.Changes.{Bases, based, plain}
+use Rattle.bw_chain.specs.Chains.{AllEnd, ChainsView, IsShaped, Records, slot_of_word, slots_of}
 use Rattle.bw_level.specs.Laws.{KeepsAll}
 use Rattle.bw_level.specs.Levels.{AreLevels, row}
 use Rattle.bw_level.specs.Merges.{AreNeighbours, IsMerged, IsNoFirstChild, level_merged, slot_joined, slot_removed, state_joined, without_page}
 use Rattle.bw_chain.specs.Restructuring.{IsJoined, absorption}
 use Rattle.bw_level.specs.Reading.{body_writes, writes_over}
 use Rattle.bw_level.specs.Searches.{IsInLevels}
-use Rattle.bw_level.specs.Slots.{Slot, PageState, Body, Pairs, Children, Free, Gone, Live, IsSoundBody, body_is_leaf, level_of, slot_at}
+use Rattle.bw_level.specs.Slots.{Slot, PageState, Body, Pairs, Children, Free, Gone, Live, IsSoundBody, body_is_leaf, level_of, side_of_slot, slot_at}
 use Rattle.bw_chain.specs.Supports.{OwnBases}
 use Rattle.bw_chain.proofs.AdditionLemmas.{record_all_end, record_here, record_others, record_own}
 use Rattle.bw_chain.proofs.ChainLemmas.{no_record, on_base}
@@ -169,6 +169,22 @@ module _ (heads : List ℕ) (bases : Bases) (records : Records) (root next : ℕ
   abbrev delta : Delta
   delta = absorption right_word (slot_of_word bases records right_word)
 
+  -- the joined page, before the record of it
+  left_under : slot_at (slots_of heads bases2 records1) p ≡ Live (state_joined left right)
+  left_under =
+      now_others heads bases1 records1 ends1 own1 q right_word at_q ok.other_plain removed p apart
+      ∙ now_here heads bases records1 t1.ends t1.own p word at_p ok.plain page
+      ∙ joined
+      ∙ ap (λ (o : Slot). slot_joined o (slot_of_word bases records right_word)) here
+      ∙ ap (slot_joined (Live left)) right_here
+
+  base_is : based (slice_get bases2 word) ≡ Live (state_joined left right)
+  base_is = sym (on_base bases2 records1 word (ends2 p word at_p) (no_record records1 word ok.plain)) ∙ sym (slot_of_head bases2 records1 heads p 0 within) ∙ left_under
+
+  -- it has the right neighbour that the record names
+  shaped : IsShaped (based (slice_get bases2 word)) (delta ∷ [])
+  shaped = (refl, ap side_of_slot right_here ∙ sym (ap side_of_slot base_is))
+
   abbrev records' : Records
   records' = records1 ++ (delta, word) ∷ []
 
@@ -188,17 +204,11 @@ module _ (heads : List ℕ) (bases : Bases) (records : Records) (root next : ℕ
   more = omega (arith, length-append records1 ((delta, word) ∷ []), more1)
 
   left_now : slot_at new.slots p ≡ Live (state_joined left right)
-  left_now =
-      record_here heads bases2 records1 ends2 own2 p word at_p ok.plain delta refl
-      ∙ now_others heads bases1 records1 ends1 own1 q right_word at_q ok.other_plain removed p apart
-      ∙ now_here heads bases records1 t1.ends t1.own p word at_p ok.plain page
-      ∙ joined
-      ∙ ap (λ (o : Slot). slot_joined o (slot_of_word bases records right_word)) here
-      ∙ ap (slot_joined (Live left)) right_here
+  left_now = record_here heads bases2 records1 ends2 own2 p word at_p ok.plain delta shaped ∙ left_under
 
   right_now : slot_at new.slots q ≡ Gone (record { left = p; level = level_of right.body; low = right.low })
   right_now =
-      record_others heads bases2 records1 ends2 own2 p word at_p ok.plain delta refl q (λ e. apart (sym e))
+      record_others heads bases2 records1 ends2 own2 p word at_p ok.plain delta shaped q (λ e. apart (sym e))
       ∙ now_here heads bases1 records1 ends1 own1 q right_word at_q ok.other_plain removed
       ∙ gone ∙ ap (slot_removed p) right_here
 
@@ -214,7 +224,7 @@ module _ (heads : List ℕ) (bases : Bases) (records : Records) (root next : ℕ
     joined = left_now;
     gone = right_now;
     others = λ r other another.
-        record_others heads bases2 records1 ends2 own2 p word at_p ok.plain delta refl r other
+        record_others heads bases2 records1 ends2 own2 p word at_p ok.plain delta shaped r other
         ∙ now_others heads bases1 records1 ends1 own1 q right_word at_q ok.other_plain removed r another
         ∙ now_others heads bases records1 t1.ends t1.own p word at_p ok.plain page r other
         ∙ ap (λ (s : List Slot). slot_at s r) noted.0;
@@ -247,8 +257,8 @@ module _ (heads : List ℕ) (bases : Bases) (records : Records) (root next : ℕ
 
   pub standing_new : IsStanding heads' bases2 records' root next
   standing_new = standing_kept heads bases records root next t heads' bases2 records' root after (kept ok.level ok.within ok.in_level)
-      (record_all_end heads bases2 records1 ends2 own2 p word at_p ok.plain delta refl)
-      (record_own heads bases2 records1 ends2 own2 p word at_p ok.plain delta refl)
+      (record_all_end heads bases2 records1 ends2 own2 p word at_p ok.plain delta shaped)
+      (record_own heads bases2 records1 ends2 own2 p word at_p ok.plain delta shaped)
       (omega (arith, few, more))
       (omega (arith, t.few_pages, length-set heads p new_word))
       (omega (arith, t.few_bases, length-set bases1 right_word (Some removed), length-set bases word (Some page)))

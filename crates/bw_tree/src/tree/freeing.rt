@@ -9,8 +9,9 @@ impl Tree {
     ghost use Rattle.bw_tree.specs.TreeFreeing.{HasFreed, MayBeFreed};
 
     /// Gives back the identifier of a page that stands on no level and to which nothing leads: no page of a level has an index
-    /// entry for it, and it is no removed page's left neighbour. The page's base page is let go, and a new page may take the
-    /// identifier, which is noted for that. No batch is staged.
+    /// entry for it, and it is no removed page's left neighbour. Then no delta of a chain names it, either
+    /// (`bw_look::no_delta_names_unreached`). The page's base page is let go, and a new page may take the identifier, which is
+    /// noted for that. No batch is staged.
     ///
     /// It costs a place among the identifiers that were given back. `Memory` is answered where their list can't grow; the tree
     /// is as before.

@@ -321,8 +321,8 @@ impl Tree {
     }
 
     /// Whether nothing leads to a page: it stands on no level, no page of a level has an index entry for it, and it is no
-    /// removed page's left neighbour. For a page of no level it costs a look at each removed page whose
-    /// identifier isn't given back, and for a removed one a search. It takes no memory.
+    /// removed page's left neighbour. For a page of no level it costs a look at each removed page whose identifier isn't given
+    /// back, and for a removed one a search. It takes no memory.
     pub fn is_unreached(&self, page: PageId) -> bool
         ensures { Decides result (IsUnreached self.now.slots self.now.levels page) }
     {
