@@ -193,15 +193,15 @@ impl Due {
     }
 
     /// Goes on to the least level above this one on which pages are left to be looked at: they are the next ones, in the order
-    /// of keys. Answers that level, or nothing where no page is left, and gives back the lists' room then. It costs some looks
-    /// at each inner page that is left. After `Memory` they are as before.
+    /// of keys. Answers that level, or nothing where no page is left. It costs some looks at each inner page that is left.
+    /// After `Memory` they are as before.
     pub(crate) fn rise(&mut self, tree: &Tree, level: u32) -> Result<Option<u32>, Memory>
         requires { self.old.pages ≡ [] }
         ensures next { IfOk result (λ next. MatchOption next (HasNoPage self.new) (λ n. level < n)) }
         ensures unfinished { self.new.unfinished ≡ self.old.unfinished }
     {
         let Some(next) = least_level(tree, &self.above, level) else {
-            self.give_back_room();
+            self.above.clear();
             return Ok(None);
         };
         let alloc = self.alloc();
@@ -213,20 +213,6 @@ impl Due {
         self.pages = pages;
         self.above = above;
         Ok(Some(next))
-    }
-
-    // No page is left to look at. Behind a sweep there may have been very many, and there is no need of the room any more. No
-    // rule says that no leaf is begun then.
-    fn give_back_room(&mut self)
-        requires { self.old.pages ≡ [] }
-        ensures { self.new ≡ record self.old { above = [] } }
-    {
-        let alloc = self.alloc();
-        self.pages = Vec::new(alloc);
-        self.above = Vec::new(alloc);
-        if self.begun.is_empty() {
-            self.begun = Vec::new(alloc);
-        }
     }
 
     /// The pages that were left for the next time are looked at this time, with those that a stop left, each once: of the leaves
