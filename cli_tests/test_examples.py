@@ -31,6 +31,10 @@ class Examples(ProgramTest):
         self.assertEqual(text_of("examples/first.trace"), text_of("crates/bw_run/stdin"))
         self.assertEqual(text_of("examples/first.out"), text_of("crates/bw_run/stdout"))
 
+    def test_a_trace_that_is_not_there_is_told_before_any_proof(self):
+        ran = subprocess.run(["./run", "bogus.trace"], cwd=ROOT, capture_output=True, timeout=SECONDS, check=False)
+        self.assertEqual((ran.stdout, ran.stderr, ran.returncode), (b"", b"run: cannot read bogus.trace\n", 1))
+
     def test_the_client_is_answered(self):
         self.assertEqual(output_of("examples/client.py"), "scan 2\napple 2\npear 5\n")
 

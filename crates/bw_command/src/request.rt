@@ -208,7 +208,8 @@ fn program<'a>(global: Global) -> Result<Command<'a>, AllocError>
     let stats = "Tell on standard error how much was run, and how fast";
     let beside =
         "Let workers consolidate leaves before they post: less tidying behind a batch, and more work in all";
-    let eager = "Consolidate each leaf that a batch wrote to behind it: pays for large batches";
+    let eager =
+        "Consolidate each leaf that a batch wrote to behind it: may pay with one worker, in large batches";
     let command = Command::new(global, "bw_run")
         .about(ABOUT)
         .after_help(AFTER)

@@ -9,7 +9,7 @@ use bw_batch::{Index, Op, OpenGate, Options, PageId, Refusal, Tree};
 use bw_fixtures::TextOp::{Delete, Get, Rscan, Scan, Upsert};
 use bw_fixtures::{TextOp, heap, ops, was_refused};
 use bw_memory::Alloc;
-use bw_shape::{Did, absorb, consolidate, finish_absorb, split};
+use bw_shape::{Did, absorb, consolidate, drop_root, finish_absorb, grow_root, split};
 use std::process::Abort;
 use std::thread::Threads;
 
@@ -60,6 +60,28 @@ fn half_parted<R: Abort>(rt: &R, alloc: Alloc) -> Tree
     assert_equal(rt, finish_absorb(&mut tree, PageId(1)), Ok(Did::Done));
     part(rt, &mut tree, 0);
     merge(rt, &mut tree, 3);
+    tree
+}
+
+// The root is parted, and the merge of its parts is half done: the new root names the second one, which is in the first one.
+fn half_merged_above<R: Abort>(rt: &R, alloc: Alloc) -> Tree
+    ensures { result.staged ≡ None }
+{
+    let mut tree = tree_of(rt, alloc, LEAVES, STEP);
+    assert_equal(rt, split(&mut tree, ROOT, 3), Ok(Did::Done));
+    assert_equal(rt, grow_root(&mut tree), Ok(Did::Done));
+    assert_equal(rt, consolidate(&mut tree, ROOT), Ok(Did::Done));
+    merge(rt, &mut tree, NEW.0);
+    tree
+}
+
+// That merge is finished and the new root is gone, but neither identifier was given back.
+fn lowered<R: Abort>(rt: &R, alloc: Alloc) -> Tree
+    ensures { result.staged ≡ None }
+{
+    let mut tree = half_merged_above(rt, alloc);
+    assert_equal(rt, finish_absorb(&mut tree, NEW), Ok(Did::Done));
+    assert_equal(rt, drop_root(&mut tree), Ok(Did::Done));
     tree
 }
 
@@ -134,6 +156,34 @@ fn half_done_merges_are_read_and_finished(rt: HostRuntime) {
         has_children(&rt, both.index.tree(), 3);
         have_gone(&rt, both.index.tree(), &[1, 3]);
         run(&rt, alloc, &mut both, BEHIND);
+    }
+}
+
+// Behind the batch the first root is the root again, over all leaves, and both pages that came with the second one are gone.
+fn comes_down<R: Abort + Threads + Sync>(rt: &R, alloc: Alloc, tree: Tree, workers: u64)
+    requires { tree.staged ≡ None }
+{
+    let mut both = over(rt, alloc, tree, workers);
+    are_same(rt, &both);
+    run(rt, alloc, &mut both, BATCH);
+    has_children(rt, both.index.tree(), 5);
+    have_gone(rt, both.index.tree(), &[6, 7]);
+    run(rt, alloc, &mut both, BEHIND);
+}
+
+#[test]
+fn a_half_done_merge_of_inner_pages_is_read_and_finished(rt: HostRuntime) {
+    let alloc = heap(rt.alloc()).expect(&rt, "a heap");
+    for workers in [1u64, 4] {
+        comes_down(&rt, alloc, half_merged_above(&rt, alloc), workers);
+    }
+}
+
+#[test]
+fn a_root_that_went_is_given_back(rt: HostRuntime) {
+    let alloc = heap(rt.alloc()).expect(&rt, "a heap");
+    for workers in [1u64, 4] {
+        comes_down(&rt, alloc, lowered(&rt, alloc), workers);
     }
 }
 
