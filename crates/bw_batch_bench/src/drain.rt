@@ -181,8 +181,8 @@ fn print_bytes_left<R: Threads + Clock + Sync + Print>(
     )?;
     sweep(rt, heaps.ops, rivals)?;
     run_empty(rt, &mut rivals.index)?;
-    let swept = heaps.index.used();
-    println!(rt; "    behind a sweep: index {swept}")?;
+    let (swept, records) = (heaps.index.used(), rivals.index.tree().records());
+    println!(rt; "    behind a sweep: index {swept} with {records} records")?;
     Ok(())
 }
 
