@@ -2,8 +2,11 @@
 ghost use Rattle.std.specs.Prelude.{◌≡◌, ℕ, ◌<◌, ◌≤◌, ◌+◌, ◌^◌, true, false, [], None, length, take, IfOk, OnOk, OnErr};
 ghost use Rattle.bw_delta.specs.Batches.{writes_of};
 ghost use Rattle.bw_model.specs.Model.{contents_after, replies_of};
+ghost use Rattle.bw_tree.specs.Beside.{IsAdoptedBeside};
 ghost use Rattle.bw_tree.specs.Stages.{is_adopted, undone_tree};
+ghost use Rattle.bw_look.specs.Folding.{pages_of};
 ghost use Rattle.bw_look.specs.View.{contents_at, contents_with, staged_writes};
+ghost use Rattle.bw_look.specs.Words.{put_words};
 ghost use Rattle.bw_group.specs.Homes.{AreHomes};
 ghost use Rattle.bw_post.specs.Posting.{IsPostedBeside, IsWaiting};
 ghost use Rattle.bw_shape.specs.LeafRanges.{leaf_ranges};
@@ -17,7 +20,7 @@ use bw_group::Grouping;
 use bw_key::Memory;
 use bw_memory::Alloc;
 use bw_model::{Op, Replies};
-use bw_post::{Gate, Posting, post_all, post_beside};
+use bw_post::{Closed, Folded, Gate, Posting, post_all, post_beside};
 use bw_shape::{Due, PageId};
 use bw_tree::Tree;
 use std::thread::Threads;
@@ -114,21 +117,41 @@ fn answer_staged<R: Threads + Sync, G: Gate>(
         lost,
         folded,
     } = post(rt, alloc, tree, batch, options, gate)?;
-    let replaced = folded.len() as u64;
-    let leaves = folded
-        .iter()
-        .map(|leaf| leaf.page)
-        .collect::<Vec<PageId, Alloc>>(alloc)?;
-    let posted = Vec::from_slice(alloc, &pages)?;
-    tree.adopt_folded(pages, closed, folded);
+    let (posted, leaves) = adopt(alloc, tree, pages, closed, folded)?;
     let base = tree.next_stamp();
     let replies = replies(rt, alloc, tree, base, batch, &homes, workers)?;
+    let replaced = leaves.len() as u64;
     due.add(tree, posted, &leaves)?;
     Ok(Answered {
         replies,
         lost,
         replaced,
     })
+}
+
+// Adopts what was posted. Answers the pages of the batch, and of these the leaves that were consolidated beside the posting.
+// After `Memory` the tree is as before.
+fn adopt(
+    alloc: Alloc,
+    tree: &mut Tree,
+    pages: Vec<PageId, Alloc>,
+    closed: Closed,
+    folded: Vec<Folded, Alloc>,
+) -> Result<(Vec<PageId, Alloc>, Vec<PageId, Alloc>), Memory>
+    requires { IsPostedBeside tree.old folded.items pages.items closed.heads closed.links }
+    ensures ok { let words = put_words tree.old.heads pages.entry.items closed.heads in
+        OnOk result (IsAdoptedBeside tree.old tree.new folded.entry.items words) }
+    ensures pages { IfOk result (λ lists. lists.0.items ≡ pages.entry.items) }
+    ensures leaves { IfOk result (λ lists. lists.1.items ≡ pages_of folded.entry.items) }
+    ensures err { OnErr result (tree.new ≡ tree.old) }
+{
+    let leaves = folded
+        .iter()
+        .map(|leaf| leaf.page)
+        .collect::<Vec<PageId, Alloc>>(alloc)?;
+    let posted = Vec::from_slice(alloc, &pages)?;
+    tree.adopt_folded(pages, closed, folded);
+    Ok((posted, leaves))
 }
 
 // Posts a staged batch, where that is asked for with leaves consolidated beside it.
