@@ -165,14 +165,17 @@ impl<'a> BatchReader<'a> {
         let leaf = self.tree.leaf(alloc, page)?;
         let writes = writes_by_key(alloc, &leaf.writes)?;
         let mut start = 0;
+        // The first key of a run stands anywhere on the leaf.
+        let mut near = leaf.base.pairs().len();
         let mut changed = 0;
         while start < points.len() {
             let end = group_end(points, start);
             let key = points[start].key;
-            let found = leaf.base.find(key);
+            let (found, next) = leaf.base.find_near(key, near);
             let (changes, changes_end) = group_of(&writes, changed, key);
             self.answer_group(alloc, found, changes, &points[start..end], answers)?;
             start = end;
+            near = next;
             changed = changes_end;
         }
         Ok(())

@@ -117,11 +117,11 @@ fn answer_staged<R: Threads + Sync, G: Gate>(
         lost,
         folded,
     } = post(rt, alloc, tree, batch, options, gate)?;
-    let (posted, leaves) = adopt(alloc, tree, pages, closed, folded)?;
+    let Adopted { pages, leaves } = adopt(alloc, tree, pages, closed, folded)?;
     let base = tree.next_stamp();
     let replies = replies(rt, alloc, tree, base, batch, &homes, workers)?;
     let replaced = leaves.len() as u64;
-    due.add(tree, posted, &leaves)?;
+    due.add(tree, pages, &leaves)?;
     Ok(Answered {
         replies,
         lost,
@@ -129,20 +129,28 @@ fn answer_staged<R: Threads + Sync, G: Gate>(
     })
 }
 
-// Adopts what was posted. Answers the pages of the batch, and of these the leaves that were consolidated beside the posting.
-// After `Memory` the tree is as before.
+// What is looked at behind a batch that was adopted.
+#[derive(Drop)]
+struct Adopted {
+    // the pages of the batch
+    pages: Vec<PageId, Alloc>,
+    // those of them that were consolidated beside its posting
+    leaves: Vec<PageId, Alloc>,
+}
+
+// Adopts what was posted. After `Memory` the tree is as before.
 fn adopt(
     alloc: Alloc,
     tree: &mut Tree,
     pages: Vec<PageId, Alloc>,
     closed: Closed,
     folded: Vec<Folded, Alloc>,
-) -> Result<(Vec<PageId, Alloc>, Vec<PageId, Alloc>), Memory>
+) -> Result<Adopted, Memory>
     requires { IsPostedBeside tree.old folded.items pages.items closed.heads closed.links }
     ensures ok { let words = put_words tree.old.heads pages.entry.items closed.heads in
         OnOk result (IsAdoptedBeside tree.old tree.new folded.entry.items words) }
-    ensures pages { IfOk result (λ lists. lists.0.items ≡ pages.entry.items) }
-    ensures leaves { IfOk result (λ lists. lists.1.items ≡ pages_of folded.entry.items) }
+    ensures pages { IfOk result (λ adopted. adopted.pages.items ≡ pages.entry.items) }
+    ensures leaves { IfOk result (λ adopted. adopted.leaves.items ≡ pages_of folded.entry.items) }
     ensures err { OnErr result (tree.new ≡ tree.old) }
 {
     let leaves = folded
@@ -151,7 +159,10 @@ fn adopt(
         .collect::<Vec<PageId, Alloc>>(alloc)?;
     let posted = Vec::from_slice(alloc, &pages)?;
     tree.adopt_folded(pages, closed, folded);
-    Ok((posted, leaves))
+    Ok(Adopted {
+        pages: posted,
+        leaves,
+    })
 }
 
 // Posts a staged batch, where that is asked for with leaves consolidated beside it.

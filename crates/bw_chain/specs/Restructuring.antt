@@ -1,6 +1,6 @@
--- What restructuring leaves of base pages and records: of a page that is cut in two, of one that ends where a split says, of
--- two that are joined, and of one that no longer names a child.
-use Rattle.std.specs.Prelude.{◌≡◌, ℕ, Bool, true, false, [], ◌∷◌, ◌++◌, Option, Some, None, slice_set}
+-- What restructuring leaves of base pages and records: of a page that is cut in two, of one that takes the place of its chain,
+-- of two that are joined, and of one that no longer names a child.
+use Rattle.std.specs.Prelude.{◌≡◌, ℕ, Bool, true, false, ◌||◌, [], ◌∷◌, ◌++◌, Option, Some, None, slice_set}
 use Rattle.bw_key.specs.Order.{KeyBytes}
 use Rattle.bw_page.specs.declared.pages.Page.{Page}
 use Rattle.bw_delta.specs.declared.deltas.Delta.{Delta}
@@ -36,8 +36,23 @@ is_split (Some (Removed left, link)) = false
 is_split (Some (AddChild k child, link)) = false
 is_split (Some (DropChild k, link)) = false
 
--- the base page of this number, under a chain, was made what the chain makes of it
-pub record IsNarrowed (old new : ChainsView) (head number : ℕ) : Type 0 where
+-- whether a record tells of what the base page under it has already: an absorption, and a dropped child; a removal does, too,
+-- but lies over no page
+abbrev pub is_told : Option (Delta × ℕ) → Bool
+is_told None = false
+is_told (Some (Split k to, link)) = false
+is_told (Some (Put w, link)) = false
+is_told (Some (Absorb k base high side, link)) = true
+is_told (Some (Removed left, link)) = false
+is_told (Some (AddChild k child, link)) = false
+is_told (Some (DropChild k, link)) = true
+
+-- whether the base page under a record can take its place without a copy of any entry
+abbrev pub is_in_base : Option (Delta × ℕ) → Bool
+is_in_base r = is_told r || is_split r
+
+-- the base page of this number, under a chain, is what the chain made of it
+pub record IsRebasedAt (old new : ChainsView) (head number : ℕ) : Type 0 where
   pub page : Page
   pub same : plain page ≡ page_at old head
   pub under : number ≡ base_under old.records head

@@ -1,5 +1,5 @@
 // What is read of a leaf's chain.
-ghost use Rattle.std.specs.Prelude.{◌≡◌, true, IfOk};
+ghost use Rattle.std.specs.Prelude.{◌≡◌, ◌++◌, ◌∷◌, [], true, IfOk, OnOk};
 ghost use Rattle.std.specs.Option.{option_copied};
 ghost use Rattle.bw_delta.specs.Batches.{writes_to};
 ghost use Rattle.bw_delta.specs.History.{pointed_to};
@@ -17,6 +17,10 @@ use bw_key::{Key, Memory};
 use bw_level::end_over;
 use bw_memory::Alloc;
 use bw_page::{Leaf, Page, PageId};
+
+// How many writes a list of them has room for at first: twice the default limit of a chain's. A chain that a batch has just
+// made due has about so many, and a list that doubles from few would move them five times.
+const FIRST_WRITES: usize = 64;
 
 impl Chains {
     /// The writes to a key in a leaf's chain, the newest first.
@@ -59,7 +63,7 @@ impl Chains {
     }
 
     /// All that is read of a leaf, by one walk along its chain. Memory is taken for the list of the writes alone, and none
-    /// where there are none. `Memory` is answered where the list finds none.
+    /// where there are none: at first for 64 of them, and then by doubling. `Memory` is answered where the list finds none.
     pub fn leaf(&self, alloc: Alloc, head: u64) -> Result<LeafChain<'_>, Memory>
         requires ends { IsChain self.now head }
         requires leaf { is_leaf (page_at self.now head) ≡ true }
@@ -86,7 +90,7 @@ impl Chains {
         let mut word = head;
         while let Some((delta, under)) = self.record(word) {
             match delta {
-                Delta::Put(write) => found.push(write)?,
+                Delta::Put(write) => add_write(&mut found, write)?,
                 _ => return Ok((found, word)),
             }
             word = under;
@@ -126,4 +130,15 @@ impl Chains {
             _ => unreachable!(),
         }
     }
+}
+
+// Adds a write to a list, which makes room for many at its first one. `Memory` is answered where it finds none.
+fn add_write<'a>(found: &mut Vec<&'a Write, Alloc>, write: &'a Write) -> Result<(), Memory>
+    ensures { OnOk result (found.new.items ≡ found.old.items ++ write.entry ∷ []) }
+{
+    if found.is_empty() {
+        found.reserve(FIRST_WRITES)?;
+    }
+    found.push(write)?;
+    Ok(())
 }

@@ -3,17 +3,16 @@ ghost use Rattle.std.specs.Prelude.{◌≡◌, ◌≢◌, ◌+◌, ◌<◌, ◌^
 ghost use Rattle.bw_level.specs.Before.{low_at, low_of};
 ghost use Rattle.bw_level.specs.Changes.{based, plain};
 ghost use Rattle.bw_chain.specs.Chains.{IsChain, floor_word, page_at};
-ghost use Rattle.bw_level.specs.Children.{slot_without_child};
 ghost use Rattle.bw_chain.specs.Restructuring.{HasLost, IsJoined, absorption};
 ghost use Rattle.bw_level.specs.Merges.{AreNeighbours, slot_joined, slot_removed};
 ghost use Rattle.bw_level.specs.Slots.{IsSoundInner};
 ghost use Rattle.bw_level.specs.Targets.{IsLinked};
 
-use crate::chains::Chains;
-use crate::records::append_both;
+use crate::chains::{Chains, FLOOR};
+use crate::records::{append_both, make_room};
 use bw_delta::Delta;
 use bw_key::{Key, Memory};
-use bw_level::{join, without_child};
+use bw_level::{drop_child, join};
 use bw_page::{Page, PageId, RemovedPage};
 
 impl Chains {
@@ -122,8 +121,8 @@ impl Chains {
     /// Takes the child at a separator, which isn't the first one, from an inner page without a record. Answers the word that
     /// names the record of it, which stands over the page.
     ///
-    /// It copies the other children. `Memory` is answered where their list or the copy of a key finds none, where there is no
-    /// room for the record, and where there are 2^32 of them; all is as before.
+    /// It moves the children behind that one, and copies none. `Memory` is answered where there is no room for the record, and
+    /// where there are 2^32 of them; all is as before.
     pub fn drop_child(&mut self, word: u64, sep: Key) -> Result<u64, Memory>
         requires ends { IsChain self.old word }
         requires plain { word < floor_word }
@@ -134,23 +133,14 @@ impl Chains {
         ensures few { OnOk result (length self.old.records < 2 ^ 32) }
         ensures err { OnErr result (self.new ≡ self.old) }
     {
-        let page = self.without_child(word, &sep)?;
-        let record = self.add_record(Delta::DropChild { sep }, word)?;
-        self.bases.set(word as usize, Some(page));
-        Ok(record)
-    }
-
-    // An inner page without a child.
-    fn without_child(&self, word: u64, sep: &Key) -> Result<Page, Memory>
-        requires ends { IsChain self.now word }
-        requires plain { word < floor_word }
-        requires inner { IsSoundInner (page_at self.now word) }
-        requires other { sep.now ≢ low_of (page_at self.now word) }
-        ensures { IfOk result (λ page. plain page ≡ slot_without_child sep.now (page_at self.now word)) }
-    {
-        let Some(page) = self.base(word) else {
+        make_room(&mut self.arena)?;
+        let Some(mut base) = self.bases.replace(word as usize, None) else {
             unreachable!();
         };
-        without_child(page, sep)
+        drop_child(&mut base, &sep);
+        self.bases.set(word as usize, Some(base));
+        let record = FLOOR + self.arena.len() as u64;
+        self.arena.append(Delta::DropChild { sep }, word);
+        Ok(record)
     }
 }

@@ -1,9 +1,9 @@
-// Base pages that part in two, and that end where a split says.
-ghost use Rattle.std.specs.Prelude.{◌≡◌, ◌+◌, ◌<◌, ◌≤◌, ◌^◌, is_some, length, Some, IfOk, OnOk, OnErr, MatchOption};
+// Base pages that part in two, and that take the places of chains over them.
+ghost use Rattle.std.specs.Prelude.{◌≡◌, ◌+◌, ◌<◌, ◌≤◌, ◌^◌, is_some, length, Some, IfOk, IfSome, OnOk, OnErr, MatchOption};
 ghost use Rattle.bw_chain.specs.Chains.{IsChain, floor_word, page_at, record_at};
 ghost use Rattle.bw_level.specs.Slots.{IsSound};
 ghost use Rattle.bw_level.specs.Splits.{slot_entries};
-ghost use Rattle.bw_chain.specs.Restructuring.{IsCut, IsNarrowed, is_split};
+ghost use Rattle.bw_chain.specs.Restructuring.{IsCut, IsRebasedAt, is_in_base, is_split, is_told};
 
 use crate::bases::put_base;
 use crate::chains::{Chains, FLOOR};
@@ -46,16 +46,47 @@ impl Chains {
         Ok(record)
     }
 
-    /// Where a chain is a split over its base page, ends that page where the split says, so that it takes the place of
-    /// the chain, and answers its number, which as a mapping word names it.
+    /// Where a chain is one change over its base page, neither a write nor a new child, has that page take the place of the
+    /// chain, and answers its number, which as a mapping word names it. Under a split the base page is ended where that says;
+    /// an absorption and a dropped child tell of what it has already.
     ///
-    /// It copies one key and no entry. `Memory` is answered where that copy finds none; all is as before.
-    pub fn narrow(&mut self, head: u64) -> Result<Option<u64>, Memory>
+    /// It copies one key where the change is a split, and no entry. `Memory` is answered where that copy finds none; all is as
+    /// before.
+    pub fn consolidate_in_place(&mut self, head: u64) -> Result<Option<u64>, Memory>
+        requires ends { IsChain self.old head }
+        requires sound { IsSound (page_at self.old head) }
+        ensures some { IfOk result (λ number. is_some number ≡ is_in_base (record_at self.old.records head)) }
+        ensures ok { IfOk result
+            (λ number. MatchOption number (self.new ≡ self.old) (IsRebasedAt self.old self.new head)) }
+        ensures err { OnErr result (self.new ≡ self.old) }
+    {
+        if let Some(number) = self.changed_base(head) {
+            return Ok(Some(number));
+        }
+        self.narrow(head)
+    }
+
+    // The number of the base page under a chain that is an absorption or a dropped child over it.
+    fn changed_base(&self, head: u64) -> Option<u64>
+        requires ends { IsChain self.now head }
+        requires sound { IsSound (page_at self.now head) }
+        ensures some { is_some result ≡ is_told (record_at self.now.records head) }
+        ensures same { IfSome result (IsRebasedAt self.now self.now head) }
+    {
+        let (delta, number) = self.record(head)?;
+        match delta {
+            Delta::Absorb { .. } | Delta::DropChild { .. } => Some(number),
+            _ => None,
+        }
+    }
+
+    // Where a chain is a split over its base page, ends that page where the split says, and answers its number.
+    fn narrow(&mut self, head: u64) -> Result<Option<u64>, Memory>
         requires ends { IsChain self.old head }
         requires sound { IsSound (page_at self.old head) }
         ensures some { IfOk result (λ number. is_some number ≡ is_split (record_at self.old.records head)) }
         ensures ok { IfOk result
-            (λ number. MatchOption number (self.new ≡ self.old) (IsNarrowed self.old self.new head)) }
+            (λ number. MatchOption number (self.new ≡ self.old) (IsRebasedAt self.old self.new head)) }
         ensures err { OnErr result (self.new ≡ self.old) }
     {
         let Some((Delta::Split { sep, to }, number)) = self.record(head) else {

@@ -291,9 +291,3 @@ none_left rest r is none = no_length rest (grind (arith, nat_tests, is, none))
 
 pub some_left : (rest : List Pair) (r : Bool) → r ≡ (length rest == 0) → r ≡ false → 0 < length rest
 some_left rest r is some = grind (arith, nat_tests, is, some)
-
--- where the first pair is at a key none is below it
-pub first_at : (key : KeyBytes) (es : List Pair) (d : Pair) → 0 < length es → key_eq (get_or es 0 d).0 key ≡ true → place_of key es ≡ 0
-first_at key [] d some same = refl
-first_at key (e ∷ es) d some same =
-    ap (λ b. cond b (place_of key es + 1) 0) (ap (λ (k : KeyBytes). is_lt (key_cmp k key)) (same_keys e.0 key same) ∙ ap is_lt (cmp_self key))

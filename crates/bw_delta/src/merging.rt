@@ -3,7 +3,6 @@ ghost use Rattle.std.specs.Prelude.{◌≡◌, ◌≤◌, ◌<◌, ◌++◌, T, 
 ghost use Rattle.std.specs.Option.{option_copied};
 ghost use Rattle.std.specs.FinMap.{find, is_sorted};
 ghost use Rattle.bw_key.specs.Order.{KeyBytes, key_cmp, key_eq};
-ghost use Rattle.bw_model.specs.Sorted.{place_of};
 ghost use Rattle.bw_delta.specs.Batches.{writes_to};
 ghost use Rattle.bw_delta.specs.History.{pointed_to};
 ghost use Rattle.bw_delta.specs.Merging.{after_writes, merged_value, with_value, AreBehind, AreCutAt, AreFrom, IsMerging};
@@ -12,7 +11,7 @@ use crate::writes::Write;
 use bw_key::{Key, Memory};
 use bw_memory::Alloc;
 use bw_model::{Action, Pairs, Run};
-use bw_page::place;
+use bw_page::place_near;
 
 /// What writes that are sorted by key leave of sorted pairs, those of one key one after another.
 ///
@@ -72,10 +71,10 @@ fn is_last_of_key(writes: &[&Write], place: usize) -> bool
 // How many bytes the key of a write has, and the value that it puts.
 fn byte_count(write: &Write) -> usize {
     let value = match &write.action {
-        Action::Insert(value)
-        | Action::Upsert(value)
-        | Action::Update(value)
-        | Action::SwapIf(_, value) => value.bytes().len(),
+        Action::Insert(value) | Action::Upsert(value) | Action::Update(value) => {
+            value.bytes().len()
+        }
+        Action::SwapIf(_, value) => value.bytes().len(),
         Action::Delete => 0,
     };
     write.key.bytes().len().saturating_add(value)
@@ -110,7 +109,7 @@ pub(crate) fn parted<'a>(pairs: &Run<'a>, key: &Key) -> (Run<'a>, Option<&'a [u8
     requires { T (is_sorted key_cmp pairs.now) }
     ensures { AreCutAt pairs.now key.now result.0 (option_copied result.1) result.2 }
 {
-    let (before, rest) = pairs.split_at(place_from_first(pairs, key));
+    let (before, rest) = pairs.split_at(place_near(pairs, key, 0));
     if rest.is_empty() {
         return (before, None, rest);
     }
@@ -120,21 +119,6 @@ pub(crate) fn parted<'a>(pairs: &Run<'a>, key: &Key) -> (Run<'a>, Option<&'a [u8
     let value = rest.value_at(0);
     let (_first, behind) = rest.split_at(1);
     (before, Some(value), behind)
-}
-
-// How many pairs at the front have a smaller key.
-fn place_from_first(pairs: &Run<'_>, key: &Key) -> usize
-    requires { T (is_sorted key_cmp pairs.now) }
-    ensures value { result ≡ place_of key.now pairs.now }
-    ensures bound { result ≤ length pairs.now }
-{
-    if pairs.is_empty() {
-        return 0;
-    }
-    if pairs.key_at(0) == key.bytes() {
-        return 0;
-    }
-    place(pairs, key)
 }
 
 // The value once the first writes, which are those of a key, had their effects, and how many they are.

@@ -3,7 +3,7 @@ ghost use Rattle.std.specs.Prelude.{◌≡◌, IfOk};
 
 use bw_key::{Key, Memory};
 use bw_memory::Alloc;
-use bw_model::{Action, Op};
+use bw_model::{Action, BoxedValue, Op};
 use std::marker::Model;
 
 /// A write at a key. No two writes have one stamp.
@@ -55,7 +55,10 @@ impl Write {
             Op::SwapIf(key, old, new) => {
                 (
                     key,
-                    Action::SwapIf(old.copy_in(alloc)?, new.copy_in(alloc)?),
+                    Action::SwapIf(
+                        BoxedValue::copy_of(alloc, old)?,
+                        BoxedValue::copy_of(alloc, new)?,
+                    ),
                 )
             }
         };

@@ -45,15 +45,15 @@ fn join_inner(inner: &Inner, right: &Page) -> Result<Page, Memory>
     }
 }
 
-/// An inner page without the child at a separator, which isn't the key at which it begins. The other children are
-/// copied. `Memory` is answered where their list or the copy of a key finds none.
-pub fn without_child(page: &Page, sep: &Key) -> Result<Page, Memory>
-    requires inner { IsSoundInner (plain page.now) }
-    requires other { sep.now ≢ low_of (plain page.now) }
-    ensures { IfOk result (λ less. plain less ≡ slot_without_child sep.now (plain page.now)) }
+/// Takes the child at a separator, which isn't the key at which the page begins, from an inner page. It takes no memory, and
+/// moves the children behind that one.
+pub fn drop_child(page: &mut Page, sep: &Key)
+    requires inner { IsSoundInner (plain page.old) }
+    requires other { sep.now ≢ low_of (plain page.old) }
+    ensures { plain page.new ≡ slot_without_child sep.now (plain page.old) }
 {
     match page {
-        Page::Inner(inner) => Ok(Page::Inner(inner.without_child(sep)?)),
+        Page::Inner(inner) => inner.drop_child(sep),
         Page::Leaf(_) | Page::Gone(_) => unreachable!(),
     }
 }

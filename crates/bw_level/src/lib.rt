@@ -19,7 +19,7 @@ mod turns;
 
 pub use changed_inners::inner_over;
 pub use ends::{lower_end, reaches};
-pub use joined_pages::{join, without_child};
+pub use joined_pages::{drop_child, join};
 pub use laws::{
     child_is_kept, contents_are_kept, dropped_child_is_kept, freed_page_is_kept, home_is_one,
     home_is_there, levels_are_alike, levels_are_found, levels_are_grown, levels_are_kept,

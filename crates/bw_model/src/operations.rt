@@ -6,6 +6,7 @@ ghost use Rattle.bw_model.specs.Model.{key_of, IsReplyAt};
 ghost use Rattle.bw_model.specs.Values.{ValueBytes};
 ghost use Rattle.bw_model.specs.Verbs.{IsReplyTo};
 
+use crate::boxed_values::BoxedValue;
 use crate::values::Value;
 use crate::verbs::Verb;
 use bw_key::{Key, Memory};
@@ -52,8 +53,8 @@ pub enum Action {
     Update(Value),
     /// Takes the value away.
     Delete,
-    /// Puts the second value in place of the first.
-    SwapIf(Value, Value),
+    /// Puts the second value in place of the first. They lie in boxes, so that no other write has room for two values.
+    SwapIf(BoxedValue, BoxedValue),
 }
 
 // Not derived: whoever drops one calls this, and its proof is spared the parts.
@@ -114,7 +115,7 @@ impl Op {
             Op::Upsert(_, _) => Verb::Upsert,
             Op::Update(_, _) => Verb::Update,
             Op::Delete(_) => Verb::Delete,
-            Op::SwapIf(_, old, _) => Verb::SwapIf(old),
+            Op::SwapIf(_, old, _) => Verb::SwapIf(old.bytes()),
             Op::Scan { .. } | Op::Rscan { .. } => unreachable!(),
         }
     }
@@ -166,7 +167,7 @@ impl Action {
             Action::Upsert(_) => Verb::Upsert,
             Action::Update(_) => Verb::Update,
             Action::Delete => Verb::Delete,
-            Action::SwapIf(old, _) => Verb::SwapIf(old),
+            Action::SwapIf(old, _) => Verb::SwapIf(old.bytes()),
         }
     }
 

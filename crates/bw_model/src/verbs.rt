@@ -17,7 +17,7 @@ pub(crate) enum Verb<'a> {
     Update,
     Delete,
     /// Swaps where the key has this value.
-    SwapIf(&'a Value),
+    SwapIf(&'a [u8]),
 }
 
 impl Verb<'_> {
@@ -38,7 +38,7 @@ impl Verb<'_> {
             Verb::Insert => Reply::Held(held),
             Verb::Upsert | Verb::Update | Verb::Delete => Reply::Was(held),
             Verb::SwapIf(old) => {
-                if held == *old {
+                if held.bytes() == old {
                     Reply::Was(held)
                 } else {
                     Reply::Held(held)

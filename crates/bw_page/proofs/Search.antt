@@ -152,6 +152,22 @@ module _ {X : Type 0} where
       find_above q k (e ∷ es) above h =
           ap (λ t. cond t (Some e.1) (find key_cmp q es)) (less_no_tie q e.0 (below_trans q k e.0 above (both _ _ h).0)) ∙ find_above q k es above (true_holds _ (both _ _ h).1)
 
+-- a key stands at its place
+pub place_there : {X : Type 0} (q : KeyBytes) (es : List (KeyBytes × X)) (n : ℕ) (x : KeyBytes × X) → T (is_sorted key_cmp es) → n < length es → x ≡ get_or es n x → key_eq x.0 q ≡ true → n ≡ place_of q es
+place_there {X} q es n x sorted lt is same =
+    let tie : x.0 ≡ q = same_keys x.0 q same in
+    let upto = place_upto q es n x lt is (ap (λ (k : KeyBytes). is_lt (key_cmp k q)) tie ∙ below_self q) in
+    elim (cases_lt (place_of q es) n) [
+      | inl less ↦
+          let at = place_of q es in
+          let y = get_or es at x in
+          let read : y ≡ get_or es at y = get_or_default es at x y (omega (arith, less, lt)) in
+          let below : is_lt (key_cmp y.0 q) ≡ true = ap (λ (k : KeyBytes). is_lt (key_cmp y.0 k)) (sym tie) ∙ rises es at n y x sorted less lt read is in
+          let past = place_past q es at y sorted (omega (arith, less, lt)) read below in
+          absurd (omega (arith, past))
+      | inr not ↦ omega (arith, upto, not)
+    ]
+
 -- what is at place n of a list, if anything is, isn't at the key
 abbrev pub Misses : {X : Type 0} → KeyBytes → List (KeyBytes × X) → ℕ → Type 0
 Misses {X} q es n = n < length es → (x : KeyBytes × X) × (x ≡ get_or es n x) × (key_eq x.0 q ≡ false)

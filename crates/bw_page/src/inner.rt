@@ -238,13 +238,12 @@ impl Inner {
         self.over(sorted_entries::copy_with_all(alloc, &self.children, entries)?)
     }
 
-    /// This page without the separator and its child, or an equal page where it has no such separator. The separator
-    /// isn't `low`. This page stays as it is.
-    pub fn without_child(&self, sep: &Key) -> Result<Inner, Memory>
-        requires { sep.now ≢ self.now.low }
-        ensures { IfOk result (λ inner. inner ≡ without_child self.now sep.now) }
+    /// Takes away the separator and its child, if the page has it. The separator isn't `low`. It takes no memory: the
+    /// children behind that one are moved, and each separator is compared once.
+    pub fn drop_child(&mut self, sep: &Key)
+        requires { sep.now ≢ self.old.low }
+        ensures { self.new ≡ without_child self.old sep.now }
     {
-        let alloc = *self.children.allocator();
-        self.over(sorted_entries::copy_without(alloc, &self.children, sep)?)
+        sorted_entries::remove(&mut self.children, sep);
     }
 }

@@ -1,5 +1,5 @@
 // Leaf pages.
-ghost use Rattle.std.specs.Prelude.{◌≡◌, ◌<◌, filter, length, slice_index_or, [], Some, None, IfOk, OnErr, OnOk, MatchOption, T, true, false};
+ghost use Rattle.std.specs.Prelude.{◌≡◌, ◌<◌, ◌≤◌, filter, length, slice_index_or, [], Some, None, IfOk, OnErr, OnOk, MatchOption, T, true, false};
 ghost use Rattle.std.specs.FinMap.{find};
 ghost use Rattle.std.specs.Option.{option_copied};
 ghost use Rattle.bw_key.specs.Order.{key_cmp};
@@ -127,7 +127,17 @@ impl Leaf {
     pub fn find(&self, key: &Key) -> Option<&[u8]>
         ensures { option_copied result ≡ find key_cmp key.now self.now.pairs }
     {
-        leaf_pairs::value_at(&self.pairs, key)
+        self.find_near(key, self.pairs.len()).0
+    }
+
+    /// The value at a key, and the place where the next higher key stands, if there is one. Who asks for keys in their order
+    /// hands in the place that the last answer told: a key that stands there costs two comparisons, and any other one what
+    /// `find` does and one more.
+    pub fn find_near(&self, key: &Key, near: usize) -> (Option<&[u8]>, usize)
+        ensures value { option_copied result.0 ≡ find key_cmp key.now self.now.pairs }
+        ensures bound { result.1 ≤ length self.now.pairs }
+    {
+        leaf_pairs::value_near(&self.pairs, key, near)
     }
 
     /// The key at a place, as one of its own: one growth where it has more than 24 bytes, and `Memory` where that is

@@ -20,17 +20,32 @@ pub fn place(pairs: &Run<'_>, key: &Key) -> usize
     pairs.place(key.bytes())
 }
 
-/// The value at a key.
-pub(crate) fn value_at<'a>(pairs: &'a Pairs, key: &Key) -> Option<&'a [u8]>
+/// How many pairs at the front have a smaller key, in one key comparison where the key stands at the place `near`, and else
+/// in about log2 n and one more.
+pub fn place_near(pairs: &Run<'_>, key: &Key, near: usize) -> usize
     requires { T (is_sorted key_cmp pairs.now) }
-    ensures { option_copied result ≡ find key_cmp key.now pairs.now }
+    ensures value { result ≡ place_of key.now pairs.now }
+    ensures bound { result ≤ length pairs.now }
+{
+    if near < pairs.len() && pairs.key_at(near) == key.bytes() {
+        return near;
+    }
+    place(pairs, key)
+}
+
+/// The value at a key, and the place where the next higher key stands, if there is one. It costs what `place_near` does, and
+/// a comparison.
+pub(crate) fn value_near<'a>(pairs: &'a Pairs, key: &Key, near: usize) -> (Option<&'a [u8]>, usize)
+    requires { T (is_sorted key_cmp pairs.now) }
+    ensures value { option_copied result.0 ≡ find key_cmp key.now pairs.now }
+    ensures bound { result.1 ≤ length pairs.now }
 {
     let all = pairs.all();
-    let at = place(&all, key);
+    let at = place_near(&all, key, near);
     if at < all.len() && all.key_at(at) == key.bytes() {
-        Some(all.value_at(at))
+        (Some(all.value_at(at)), at + 1)
     } else {
-        None
+        (None, at)
     }
 }
 

@@ -169,22 +169,12 @@ fn add_entry<V: Copied + Drop>(
     Ok(passed + next)
 }
 
-/// The entries but for the one at a key.
-pub(crate) fn copy_without<V: Copied + Drop>(
-    alloc: Alloc,
-    entries: &[(Key, V)],
-    key: &Key,
-) -> Result<Vec<(Key, V), Alloc>, Memory>
-    ensures { IfOk result (λ copy. copy.items ≡ filter (λ entry. not (key_eq key.now entry.0)) entries.now) }
+/// Takes away the entry at a key, if there is one, and moves those behind it. It takes no memory, and one key comparison
+/// for each entry.
+pub(crate) fn remove<V: Drop>(entries: &mut Vec<(Key, V), Alloc>, key: &Key)
+    ensures { entries.new.items ≡ filter (λ entry. not (key_eq key.now entry.0)) entries.old.items }
 {
-    let mut copy = Vec::with_capacity(alloc, entries.len())?;
-    for entry in entries {
-        if *key == entry.0 {
-            continue;
-        }
-        copy.push((entry.0.copy()?, entry.1.copied()?))?;
-    }
-    Ok(copy)
+    entries.retain(|entry| *key != entry.0);
 }
 
 /// Moves the entries from a place on to a list of their own. `Memory` is answered where that list finds none, and all is as

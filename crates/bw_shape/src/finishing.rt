@@ -9,8 +9,8 @@ use bw_steps::{finish_absorb, finish_split, grow_root, release_run};
 use bw_tree::Tree;
 
 /// Finishes each merge, gives a root that was split a root above it, and finishes each split, level by level from the leaves
-/// up. It costs a list of all pages, a search for each and two for each removed page, and for each merge and each split that it
-/// finishes a copy of the children of the page above. After `Memory` some of them are finished.
+/// up. It costs a list of all pages, a search for each and two for each removed page, and for each split that it finishes a copy
+/// of the children of the page above. After `Memory` some of them are finished.
 pub(crate) fn finish_steps(tree: &mut Tree) -> Result<(), Memory>
     requires { tree.old.staged ≡ None }
     ensures holds { HoldsAll tree.old tree.new }

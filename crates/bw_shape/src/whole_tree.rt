@@ -18,7 +18,7 @@ use bw_tree::Tree;
 /// gets a root above it, and each split is finished, level by level from the leaves up. No batch is staged.
 ///
 /// It costs the list of all pages twice, a search for each, and for each inner page some looks for each level below it; each
-/// merge and each split that it finishes copies the children of the page above. An identifier that is given back costs a
+/// split that it finishes copies the children of the page above. An identifier that is given back costs a
 /// search, and a look at each removed page whose own isn't given back. Besides it costs what `tidy_due` does for all pages. At
 /// the first `Memory` it stops, and the tree holds the same. Where it doesn't stop, no leaf is over a limit, and so none has
 /// more than `page_max` and `chain_max` pairs together.

@@ -71,8 +71,9 @@ pub fn are_under_one(tree: &Tree, page: PageId, other: PageId) -> bool
 /// Finishes a merge: the page of the level above that still names the removed page drops its index entry. It isn't needed
 /// for a page that isn't a removed one, and where none names it any more. No batch is staged.
 ///
-/// It costs a search, a copy of one key and one of the other children, and one record; where the page above has a record,
-/// that page is consolidated first. After `Memory` the tree is as before, but that the page above may be consolidated.
+/// It costs a search, a copy of one key, and one record; where the page above has a record, that page is consolidated first,
+/// which copies its children where the record is of a new one. After `Memory` the tree is as before, but that the page above
+/// may be consolidated.
 pub fn finish_absorb(tree: &mut Tree, page: PageId) -> Result<Did, Memory>
     requires { tree.old.staged ≡ None }
     ensures ok { IfOk result (IsAbsorptionFinishStep tree.old tree.new page) }

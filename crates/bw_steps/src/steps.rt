@@ -28,8 +28,8 @@ pub enum Did {
 /// Consolidates a page: what its chain makes of its base page takes the place of that page, a leaf's as of the next stamp.
 /// It isn't needed where the page has no record, as a page of no level. No batch is staged.
 ///
-/// It costs a look at the page's mapping word, and for a page that has records a copy of its entries and the sorting of its
-/// writes. After `Memory` the tree is as before.
+/// It costs a look at the page's mapping word, for a page that has writes or a new child a copy of its entries and the sorting
+/// of its writes, and for one that was split a copy of a key. After `Memory` the tree is as before.
 pub fn consolidate(tree: &mut Tree, page: PageId) -> Result<Did, Memory>
     requires { tree.old.staged ≡ None }
     ensures ok { IfOk result (IsConsolidationStep tree.old tree.new page) }
@@ -134,7 +134,8 @@ fn moves_no_removed(tree: &Tree, page: PageId, keep: usize) -> bool
 /// and where the page stands on no level. No batch is staged.
 ///
 /// It costs a search, a copy of one key and one record; where the page above has a record, that page is consolidated
-/// first, which copies its children. After `Memory` the tree is as before, but that the page above may be consolidated.
+/// first, which copies its children where the record is of a new one. After `Memory` the tree is as before, but that the page
+/// above may be consolidated.
 pub fn finish_split(tree: &mut Tree, page: PageId) -> Result<Did, Memory>
     requires { tree.old.staged ≡ None }
     ensures ok { IfOk result (IsFinishStep tree.old tree.new page) }

@@ -1,4 +1,4 @@
--- A page whose base page was narrowed in its place, and what that is of a leaf.
+-- A page whose base page took the place of its chain, and what that is of a leaf.
 use Rattle.std.proofs.Common.{set, ◌≡◌, ◌<◌, length, ℕ, Bool, true, false, cond, ◌&&◌, T, List, [], get_or, Option, None, refl, sym, ap, ◌∙◌, subst, arith}
 use Rattle.std.proofs.lemmas.List.{get_or_default}
 use Rattle.std.specs.List.{Contains}
@@ -20,7 +20,7 @@ use Rattle.bw_level.specs.Reading.{base_of, body_pairs, body_writes, pairs_under
 use Rattle.bw_level.specs.Scans.{high_of, value_in_range}
 use Rattle.bw_level.specs.Searches.{IsInLevels}
 use Rattle.bw_level.specs.Slots.{Slot, Body, Pairs, Children, Live, IsSound, IsSoundBody, level_of, side_of, side_of_slot, slot_at}
-use Rattle.bw_chain.specs.Restructuring.{IsNarrowed}
+use Rattle.bw_chain.specs.Restructuring.{IsRebasedAt}
 use Rattle.bw_chain.specs.Supports.{base_under}
 use Rattle.bw_level.proofs.LeafRowLemmas.{page_outside}
 use Rattle.bw_level.proofs.RowLemmas.{InRow, in_row}
@@ -41,9 +41,9 @@ sound_at heads bases records root next bound staged tree p head is t on read =
     let st = (in_row tree.slots on.level _ (row tree.levels on.level) on.in_level.0 p (lawful.rows on.level on.within) on.in_level.1 on.in_level.2).stands in
     subst IsSound (sym st.is ∙ (page_at_head heads bases records root next bound staged tree p head is t on read).slot) st.sound
 
--- a tree of chains in which its base page was narrowed
+-- a tree of chains in which its base page took the place of its chain
 pub narrowed_on : (heads : List ℕ) (bases : Bases) (records : Records) (root next : ℕ) (staged : Option StageWords) (tree : TreeView) → IsTree heads bases records root next staged → view_of heads bases records root next staged ≡ tree → tree.staged ≡ None → (p head : ℕ) → IsInLevels tree.levels p → head ≡ get_or heads p head →
-    (word : ℕ) (new : ChainsView) → IsNarrowed (record { bases = bases; records = records }) new head word → (heads' : List ℕ) → heads' ≡ set heads p word →
+    (word : ℕ) (new : ChainsView) → IsRebasedAt (record { bases = bases; records = records }) new head word → (heads' : List ℕ) → heads' ≡ set heads p word →
     IsTree heads' new.bases new.records root next staged × IsRebased tree (view_of heads' new.bases new.records root next staged) p
 narrowed_on heads bases records root next staged tree t is none p head on read word new made heads' placed =
     let at = page_at_head heads bases records root next _ staged tree p head is t.now on read in
@@ -63,7 +63,7 @@ sorted_of low high side (Children n children) sound = tt
 abbrev leaf_of : Slot → LeafView ValueBytes
 leaf_of o = record { low = low_of o; high = high_of o; side = side_of_slot o; pairs = pairs_under o }
 
--- a leaf that was narrowed has all that the tree held in its range, and no write over it
+-- such a leaf has all that the tree held in its range, and no write over it
 module _ (old new : TreeView) (p : ℕ) (rebased : IsRebased old new p) (has : Contains (row old.levels 0) p) (none : old.staged ≡ None) (lawful : AreLevels old.slots old.root old.levels) (distinct : HasDistinctStamps (row_writes old.slots (row old.levels 0))) (bare_now : writes_over (slot_at new.slots p) ≡ []) where
   abbrev slot : Slot
   slot = slot_at old.slots p

@@ -5,7 +5,7 @@ use bw_delta::{Action, Write, leaf_as_of};
 use bw_fixtures::{LONG, Random, are};
 use bw_key::Key;
 use bw_memory::Alloc;
-use bw_model::{Pairs, Value};
+use bw_model::{BoxedValue, Pairs, Value};
 use bw_page::Leaf;
 use std::process::Abort;
 
@@ -25,6 +25,12 @@ fn drawn_value<R: Abort>(rt: &R, alloc: Alloc, random: &mut Random) -> Value {
     value(rt, alloc, VALUES[random.below(3)])
 }
 
+// The same in a box.
+fn drawn_boxed<R: Abort>(rt: &R, alloc: Alloc, random: &mut Random) -> BoxedValue {
+    let value = drawn_value(rt, alloc, random);
+    BoxedValue::copy_of(alloc, &value).expect(rt, "memory")
+}
+
 // An action.
 fn drawn_action<R: Abort>(rt: &R, alloc: Alloc, random: &mut Random) -> Action {
     match random.below(5) {
@@ -33,8 +39,8 @@ fn drawn_action<R: Abort>(rt: &R, alloc: Alloc, random: &mut Random) -> Action {
         2 => Action::Update(drawn_value(rt, alloc, random)),
         3 => Action::Delete,
         _ => {
-            let old = drawn_value(rt, alloc, random);
-            Action::SwapIf(old, drawn_value(rt, alloc, random))
+            let old = drawn_boxed(rt, alloc, random);
+            Action::SwapIf(old, drawn_boxed(rt, alloc, random))
         }
     }
 }

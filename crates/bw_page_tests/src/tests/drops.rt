@@ -1,5 +1,5 @@
 // Pages that are dropped give their memory back, with all that is in them.
-use super::making::small_heap;
+use super::making::{drop_child, has_children, small_heap, three_children};
 use crate::tests::assertions::{assert_equal, assert_that};
 use bw_fixtures::{LONG, key, one, pair};
 use bw_memory::Alloc;
@@ -43,4 +43,18 @@ fn what_is_dropped_gives_its_memory_back(rt: HostRuntime) {
     assert_equal(&rt, alloc.used(), 0);
     drop_inner(&rt, alloc);
     assert_equal(&rt, alloc.used(), 0);
+}
+
+#[test]
+fn a_child_that_is_dropped_gives_its_memory_back(rt: HostRuntime) {
+    let alloc = small_heap(&rt, rt.alloc());
+    let mut inner = three_children(&rt, alloc);
+    let sep = key(alloc, LONG).expect(&rt, "memory");
+    let before = alloc.used();
+    drop_child(&rt, &mut inner, &sep);
+    assert_equal(&rt, before.wrapping_sub(alloc.used()), LONG.len() as u64);
+    has_children(&rt, &inner, &[(b"", 0), (b"c", 1)]);
+    // It isn't there any more.
+    drop_child(&rt, &mut inner, &sep);
+    has_children(&rt, &inner, &[(b"", 0), (b"c", 1)]);
 }

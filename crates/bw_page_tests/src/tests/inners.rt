@@ -1,7 +1,7 @@
 // Inner pages.
 use super::making::{
-    c_with, from_c, from_start, from_start_and_c, has_children, heap, key, upper_half_inner,
-    with_child, without_child,
+    c_with, drop_child, from_c, from_start, from_start_and_c, has_children, heap, key,
+    upper_half_inner, with_child,
 };
 use crate::tests::assertions::{assert_equal, assert_that};
 use bw_memory::Alloc;
@@ -71,10 +71,13 @@ fn a_child_is_put_in_place_of_another(rt: HostRuntime) {
 #[test]
 fn a_child_is_taken_out(rt: HostRuntime) {
     let alloc = heap(&rt, rt.alloc());
-    let inner = from_start_and_c(&rt, alloc);
-    let less = without_child(&rt, &inner, &key(&rt, alloc, b"c")).expect(&rt, "memory");
-    is_last_from(&rt, &less, b"");
-    has_children(&rt, &less, &[(b"", 0)]);
+    let mut inner = from_start_and_c(&rt, alloc);
+    let sep = key(&rt, alloc, b"c");
+    alloc.refuse(1);
+    drop_child(&rt, &mut inner, &sep);
+    assert_equal(&rt, alloc.left(), 1);
+    is_last_from(&rt, &inner, b"");
+    has_children(&rt, &inner, &[(b"", 0)]);
 }
 
 #[test]

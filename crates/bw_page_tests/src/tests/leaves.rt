@@ -86,6 +86,35 @@ fn has_at<R: Abort>(rt: &R, alloc: Alloc, leaf: &Leaf, bytes: &[u8], wanted: Opt
     assert_equal(rt, alloc.left(), 1);
 }
 
+// Compares the value that is found from a place on, and the place behind it.
+fn finds_near<R: Abort>(
+    rt: &R,
+    leaf: &Leaf,
+    key: &Key,
+    near: usize,
+    wanted: (Option<&[u8]>, usize),
+) {
+    let (found, next) = leaf.find_near(key, near);
+    assert_equal(rt, found, wanted.0);
+    assert_equal(rt, next, wanted.1);
+}
+
+#[test]
+fn a_value_is_found_from_any_place(rt: HostRuntime) {
+    let alloc = heap(&rt, rt.alloc());
+    let leaf = c_to_h(&rt, alloc);
+    let (there, behind, last) = (
+        key(&rt, alloc, b"d"),
+        key(&rt, alloc, b"e"),
+        key(&rt, alloc, b"g"),
+    );
+    for near in 0..6 {
+        finds_near(&rt, &leaf, &there, near, (Some(b"4".as_slice()), 2));
+        finds_near(&rt, &leaf, &behind, near, (None, 3));
+        finds_near(&rt, &leaf, &last, near, (None, 4));
+    }
+}
+
 #[test]
 fn a_key_is_found_among_the_pairs_alone(rt: HostRuntime) {
     let alloc = heap(&rt, rt.alloc());

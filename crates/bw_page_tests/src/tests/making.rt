@@ -108,10 +108,10 @@ pub fn with_child<R: Abort>(
     inner.with_child(sep, child)
 }
 
-/// A page without a child, which isn't its first one.
-pub fn without_child<R: Abort>(rt: &R, inner: &Inner, sep: &Key) -> Result<Inner, Memory> {
+/// Takes a child, which isn't the first one, from a page.
+pub fn drop_child<R: Abort>(rt: &R, inner: &mut Inner, sep: &Key) {
     assert!(rt; *sep != *inner.low());
-    inner.without_child(sep)
+    inner.drop_child(sep);
 }
 
 /// The children of a page from place `keep` on, as a page.

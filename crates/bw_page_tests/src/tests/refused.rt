@@ -2,7 +2,7 @@
 // grew entry by entry would ask for more.
 use super::making::{
     c_with, from_start, heap, joined, joined_inner, key, many_children, up_to_c, upper_half,
-    upper_half_inner, with_child, without_child,
+    upper_half_inner, with_child,
 };
 use crate::tests::assertions::assert_equal;
 use bw_fixtures::LONG;
@@ -65,18 +65,6 @@ fn another_child_takes_one_growth_and_one_for_each_long_separator(rt: HostRuntim
         alloc.refuse(growth);
         let refused = with_child(&rt, &inner, &sep, PageId(5)).is_err();
         is_refused(&rt, alloc, refused, growth <= 3);
-    }
-}
-
-#[test]
-fn one_child_less_takes_one_growth_and_one_for_a_long_separator(rt: HostRuntime) {
-    let alloc = heap(&rt, rt.alloc());
-    let inner = many_children(&rt, alloc);
-    let sep = key(&rt, alloc, b"c");
-    for growth in 1..=3 {
-        alloc.refuse(growth);
-        let refused = without_child(&rt, &inner, &sep).is_err();
-        is_refused(&rt, alloc, refused, growth <= 2);
     }
 }
 

@@ -138,9 +138,9 @@ fn a_page_with_a_record_is_not_merged(rt: HostRuntime) {
     );
 }
 
-/// What leads to leaves 0, 1 and 3 under the root 2, which names the last one by a record, behind the merge of that one into
-/// leaf 1.
-pub const MERGED_UNDER_A_RECORD: &[Step] = &[
+// What leads to leaves 0, 1 and 3 under the root 2, which names the last one by a record, behind the merge of that one into
+// leaf 1.
+const MERGED_UNDER_A_RECORD: &[Step] = &[
     Done(Split(0, 2)),
     Done(GrowRoot),
     Done(Consolidate(0)),

@@ -1,13 +1,13 @@
 // Each growth of a merge refused in turn.
 use super::making::{FLOOR, memory};
-use super::merging::{MERGED, MERGED_UNDER_A_RECORD, TWO_LEAVES};
+use super::merging::{MERGED, TWO_LEAVES};
 use super::scripts::Call::{
     Absorb, Consolidate, DropRoot, FinishAbsorb, FinishSplit, GrowRoot, Split,
 };
 use super::scripts::Start::FivePairs;
 use super::scripts::Step::{Done, Seen};
 use super::scripts::{Refusal, Step, make, refuse_each, take_all, tree_after};
-use super::sights::Sight::{Records, Stands};
+use super::sights::Sight::{Finds, Records, Stands};
 use crate::tests::assertions::{assert_equal, assert_that};
 use bw_fixtures::was_refused;
 use bw_memory::Alloc;
@@ -17,6 +17,8 @@ use std::process::Abort;
 const NOT_MERGED: &[Step] = &[Seen(Stands(2, &[0, 1, 2])), Seen(Records(1))];
 
 const STILL_NAMED: &[Step] = &[Seen(Stands(2, &[FLOOR + 2, 1, 2]))];
+
+const BARE: &[Step] = &[Seen(Stands(2, &[0, 1, 2]))];
 
 // Merges two leaves.
 const A_MERGE: Refusal = Refusal {
@@ -28,26 +30,64 @@ const A_MERGE: Refusal = Refusal {
     done: STILL_NAMED,
 };
 
-// Finishes their merge.
+// Merges the second of three leaves, the last of which isn't named, into the first: there are four records then, and no room
+// for a fifth one.
+const MERGED_WITH_NO_ROOM: &[Step] = &[
+    Done(Split(0, 2)),
+    Done(GrowRoot),
+    Done(Consolidate(0)),
+    Done(Split(1, 1)),
+    Done(Consolidate(1)),
+    Done(Absorb(1)),
+];
+
+const NAMED_WITH_NO_ROOM: &[Step] = &[Seen(Stands(2, &[FLOOR + 3, 1, 2, 3]))];
+
+// Finishes that merge.
 const A_DROPPED_ENTRY: Refusal = Refusal {
     start: FivePairs,
-    before: MERGED,
+    before: MERGED_WITH_NO_ROOM,
     call: FinishAbsorb(1),
-    first: STILL_NAMED,
-    later: STILL_NAMED,
-    done: &[Seen(Stands(2, &[FLOOR + 2, 1, FLOOR + 3]))],
+    first: NAMED_WITH_NO_ROOM,
+    later: NAMED_WITH_NO_ROOM,
+    done: &[Seen(Stands(2, &[FLOOR + 3, 1, FLOOR + 4, 3]))],
 };
 
-const A_RECORD_ABOVE: &[Step] = &[Seen(Stands(2, &[0, FLOOR + 4, FLOOR + 2, 3]))];
+// What leads to a merge of leaf 3 into leaf 1 under the root 2, which has a record of a child, and to three splits behind it:
+// there are eight records then, and no room for a ninth one.
+const UNDER_A_RECORD_WITH_NO_ROOM: &[Step] = &[
+    Done(Split(0, 2)),
+    Done(GrowRoot),
+    Done(Consolidate(0)),
+    Done(Split(1, 1)),
+    Done(FinishSplit(1)),
+    Done(Consolidate(1)),
+    Done(Absorb(3)),
+    Done(Split(0, 1)),
+    Done(Consolidate(1)),
+    Done(Split(1, 1)),
+    Done(Split(5, 1)),
+];
 
-const CONSOLIDATED_ABOVE: &[Step] = &[Seen(Stands(2, &[0, FLOOR + 4, 2, 3]))];
+const A_RECORD_ABOVE: &[Step] = &[Seen(Stands(
+    2,
+    &[FLOOR + 5, FLOOR + 6, FLOOR + 2, 3, 4, FLOOR + 7, 6],
+))];
 
-const DROPPED_ABOVE: &[Step] = &[Seen(Stands(2, &[0, FLOOR + 4, FLOOR + 5, 3]))];
+const CONSOLIDATED_ABOVE: &[Step] = &[Seen(Stands(
+    2,
+    &[FLOOR + 5, FLOOR + 6, 2, 3, 4, FLOOR + 7, 6],
+))];
+
+const DROPPED_ABOVE: &[Step] = &[Seen(Stands(
+    2,
+    &[FLOOR + 5, FLOOR + 6, FLOOR + 8, 3, 4, FLOOR + 7, 6],
+))];
 
 // Finishes a merge under a page with a record where this growth is refused, and compares the tree after that: the page may
 // be consolidated. Whether it was.
 fn rebase_refused<R: Abort>(rt: &R, alloc: Alloc, growth: u64) -> bool {
-    let mut tree = tree_after(rt, alloc, FivePairs, MERGED_UNDER_A_RECORD);
+    let mut tree = tree_after(rt, alloc, FivePairs, UNDER_A_RECORD_WITH_NO_ROOM);
     alloc.refuse(growth);
     let finished = make(&mut tree, FinishAbsorb(3));
     if !was_refused(alloc, growth) {
@@ -113,6 +153,56 @@ fn each_growth_of_a_merge_is_refused(rt: HostRuntime) {
 #[test]
 fn each_growth_of_a_dropped_entry_is_refused(rt: HostRuntime) {
     refuse_each(&rt, rt.alloc(), &A_DROPPED_ENTRY, 1);
+}
+
+#[test]
+fn an_entry_whose_record_has_room_is_dropped_with_no_memory(rt: HostRuntime) {
+    let alloc = memory(&rt, rt.alloc());
+    let mut tree = tree_after(&rt, alloc, FivePairs, MERGED);
+    alloc.refuse(1);
+    assert_equal(&rt, make(&mut tree, FinishAbsorb(1)), Ok(Did::Done));
+    assert_equal(&rt, alloc.left(), 1);
+}
+
+// A page that took over its neighbour, or lost a child, has what its record tells already.
+#[test]
+fn behind_a_merge_both_pages_are_consolidated_with_no_memory(rt: HostRuntime) {
+    let alloc = memory(&rt, rt.alloc());
+    let mut tree = tree_after(&rt, alloc, FivePairs, MERGED);
+    assert_equal(&rt, make(&mut tree, FinishAbsorb(1)), Ok(Did::Done));
+    alloc.refuse(1);
+    assert_equal(&rt, make(&mut tree, Consolidate(0)), Ok(Did::Done));
+    assert_equal(&rt, make(&mut tree, Consolidate(2)), Ok(Did::Done));
+    assert_equal(&rt, alloc.left(), 1);
+    alloc.refuse(0);
+    take_all(&rt, alloc, &mut tree, BARE);
+}
+
+// What leads to two inner pages under the root 4, and to their merge: page 2 has both leaves.
+const INNER_PAGES_MERGED: &[Step] = &[
+    Done(Split(0, 2)),
+    Done(GrowRoot),
+    Done(Consolidate(0)),
+    Done(Split(2, 1)),
+    Done(GrowRoot),
+    Done(Consolidate(2)),
+    Done(Absorb(3)),
+];
+
+const INNER_PAGE_BARE: &[Step] = &[
+    Seen(Stands(4, &[0, 1, 2, 3, 4])),
+    Seen(Finds(0, b"c", Some(1))),
+];
+
+#[test]
+fn an_inner_page_that_took_over_its_neighbour_is_consolidated_with_no_memory(rt: HostRuntime) {
+    let alloc = memory(&rt, rt.alloc());
+    let mut tree = tree_after(&rt, alloc, FivePairs, INNER_PAGES_MERGED);
+    alloc.refuse(1);
+    assert_equal(&rt, make(&mut tree, Consolidate(2)), Ok(Did::Done));
+    assert_equal(&rt, alloc.left(), 1);
+    alloc.refuse(0);
+    take_all(&rt, alloc, &mut tree, INNER_PAGE_BARE);
 }
 
 #[test]

@@ -32,8 +32,8 @@ impl Tree {
     /// Drops an inner page's index entry at a separator, which isn't the first one and is a removed page's, as after a merge.
     /// The page is a base page by itself, and no batch is staged.
     ///
-    /// It adds one record, over the page, and copies the page's other children. `Memory` is answered where their list or the
-    /// copy of a key finds none, and where the list of records can't grow; the tree is as before.
+    /// It adds one record, over the page, and moves the children behind that one. `Memory` is answered where the list of records
+    /// can't grow, and where there are 2^32 of them; the tree is as before.
     pub fn unset_child(&mut self, parent: PageId, sep: Key) -> Result<(), Memory>
         requires none { self.old.staged ≡ None }
         requires page { MayLoseChild self.old parent sep }

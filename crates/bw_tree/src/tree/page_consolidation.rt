@@ -21,8 +21,8 @@ impl Tree {
     /// 2013). No batch is staged.
     ///
     /// The records of its chain stay among the others, and no word leads to them any more. It sorts the writes of this one
-    /// leaf and copies its pairs; where a leaf was split and has no write, it copies the key at which the leaf ends and no
-    /// pair. After `Memory` the tree is as before.
+    /// leaf and copies its pairs. Where a split alone lies over the base page, it copies the key at which the leaf ends and no
+    /// pair, and where an absorption alone does nothing. After `Memory` the tree is as before.
     pub fn consolidate(&mut self, page: PageId) -> Result<(), Memory>
         requires none { self.old.staged ≡ None }
         requires leaf { Contains (row self.old.levels 0) page }
@@ -30,7 +30,7 @@ impl Tree {
         ensures err { OnErr result (self.new ≡ self.old) }
     {
         self.know_levels();
-        if self.narrow(page)? {
+        if self.consolidate_in_place(page)? {
             self.know_records();
             return Ok(());
         }
@@ -49,16 +49,17 @@ impl Tree {
         Ok(())
     }
 
-    // Where a page's chain is a split over its base page, ends that page where the split says, in the place of the chain.
-    // Whether it did: else the tree is as before.
-    fn narrow(&mut self, page: PageId) -> Result<bool, Memory>
+    // Where a page's chain is one change over its base page, neither a write nor a new child, has that page take the place of
+    // the chain. Whether it did: else the tree is as before.
+    fn consolidate_in_place(&mut self, page: PageId) -> Result<bool, Memory>
         requires none { self.old.staged ≡ None }
         requires in_levels { IsInLevels self.old.levels page }
         ensures ok { IfOk result
-            (λ narrowed. MatchBool narrowed (IsRebased self.old self.new page) (self.new ≡ self.old)) }
+            (λ done. MatchBool done (IsRebased self.old self.new page) (self.new ≡ self.old)) }
         ensures err { OnErr result (self.new ≡ self.old) }
     {
-        let Some(word) = self.chains.narrow(self.heads[page.0 as usize])? else {
+        let head = self.heads[page.0 as usize];
+        let Some(word) = self.chains.consolidate_in_place(head)? else {
             return Ok(false);
         };
         self.heads[page.0 as usize] = word;
@@ -79,8 +80,8 @@ impl Tree {
     /// Consolidates an inner page: what its chain makes of its base page takes the place of that page, so that the page
     /// has no record any more. No batch is staged.
     ///
-    /// It costs a walk along the chain and a copy of the page's children; where a page was split, a copy of the key at
-    /// which it ends, and of no child. After `Memory` the tree is as before.
+    /// It costs a look at the page's record, and a copy of the page's children where that is of a new child or there is none;
+    /// where it is a split, a copy of the key at which the page ends, and of no child. After `Memory` the tree is as before.
     pub fn consolidate_inner(&mut self, page: PageId) -> Result<(), Memory>
         requires none { self.old.staged ≡ None }
         requires inner { IsInnerPage self.old page }
@@ -88,7 +89,7 @@ impl Tree {
         ensures err { OnErr result (self.new ≡ self.old) }
     {
         self.know_records();
-        if self.narrow(page)? {
+        if self.consolidate_in_place(page)? {
             return Ok(());
         }
         let inner = self.look().inner_page(page)?;

@@ -14,24 +14,24 @@ replies-requires-clause-homes g c κs within =
     let tree = c.args.tree.now in
     let posting = c.in_ok-homes.field-0 in
     let after = c.adopt.new.tree in
-    homes_stay tree after c.in_ok-posted.ensures.ok.levels
-    (adopted_wide tree after posting.folded.items c.know_levels.ensures.lawful c.in_ok-homes.ensures.posted.folded c.in_ok-posted.ensures.ok.pages)
+    homes_stay tree after c.in_ok-pages.ensures.ok.levels
+    (adopted_wide tree after posting.folded.items c.know_levels.ensures.lawful c.in_ok-homes.ensures.posted.folded c.in_ok-pages.ensures.ok.pages)
     c.args.batch.now.ops posting.homes
-    (ap (λ (l : List ℕ). length l) c.in_ok-posted.ensures.ok.heads ∙ length_put tree.heads posting.pages.items posting.closed.heads) c.in_ok-homes.ensures.homes
+    (ap (λ (l : List ℕ). length l) c.in_ok-pages.ensures.ok.heads ∙ length_put tree.heads posting.pages.items posting.closed.heads) c.in_ok-homes.ensures.homes
 
 pub returns-clause-replies : goal.returns-clause-replies
 returns-clause-replies g c =
     c.in_ok-replies.ensures
-    ∙ ap (replies_of c.args.batch.now.ops) (ap (contents_at c.adopt.new.tree) c.next_stamp-base.ensures ∙ start_adopted c.args.tree.now c.adopt.new.tree c.in_ok-posted.ensures.ok.next c.in_ok-posted.ensures.ok.contents)
+    ∙ ap (replies_of c.args.batch.now.ops) (ap (contents_at c.adopt.new.tree) c.next_stamp-base.ensures ∙ start_adopted c.args.tree.now c.adopt.new.tree c.in_ok-pages.ensures.ok.next c.in_ok-pages.ensures.ok.contents)
 
 pub returns-clause-within : goal.returns-clause-within
 returns-clause-within g c =
     let posting = c.in_ok-homes.field-0 in
     within_posted c.args.tree.now c.adopt.new.tree posting.pages.items posting.closed.heads posting.closed.links c.args.due.now.pages c.add.new.self.pages
-    (subst (λ (l : List ℕ). HasBoth l c.args.due.now.pages c.add.new.self.pages) (c.in_ok-posted.ensures.pages) c.in_ok-add.ensures.ok)
-    posting.folded.items c.in_ok-homes.ensures.posted c.in_ok-posted.ensures.ok.levels c.in_ok-posted.ensures.ok.pages c.in_ok-posted.ensures.ok.writes
+    (subst (λ (l : List ℕ). HasBoth l c.args.due.now.pages c.add.new.self.pages) (c.in_ok-pages.ensures.pages) c.in_ok-add.ensures.ok)
+    posting.folded.items c.in_ok-homes.ensures.posted c.in_ok-pages.ensures.ok.levels c.in_ok-pages.ensures.ok.pages c.in_ok-pages.ensures.ok.writes
 
 pub returns-clause-leaves : goal.returns-clause-leaves
 returns-clause-leaves g c =
-    wide_leaves c.args.tree.now c.adopt.new.tree c.in_ok-posted.ensures.ok.levels
-    (adopted_wide c.args.tree.now c.adopt.new.tree c.in_ok-homes.field-0.folded.items c.know_levels.ensures.lawful c.in_ok-homes.ensures.posted.folded c.in_ok-posted.ensures.ok.pages)
+    wide_leaves c.args.tree.now c.adopt.new.tree c.in_ok-pages.ensures.ok.levels
+    (adopted_wide c.args.tree.now c.adopt.new.tree c.in_ok-homes.field-0.folded.items c.know_levels.ensures.lawful c.in_ok-homes.ensures.posted.folded c.in_ok-pages.ensures.ok.pages)

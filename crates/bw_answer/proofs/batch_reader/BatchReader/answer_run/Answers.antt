@@ -25,7 +25,7 @@ answer_group-requires-clause-reads c =
     let first = c.index-points-start.result in
     let key = (get_or points at first).key.now in
     let part = entries_of (take (c.group_end-end.result - at) (drop at points)) in
-    let start = option_copied c.find-found.result in
+    let start = option_copied c.find_near-next.result.0 in
     let writes = pointed_to c.group_of-changes_end.result.0.now in
     let homes = subst (λ (t : TreeView). AllByRecursion (λ e. IsHome t.slots t.levels e.0 page) part) (sym is)
     (part_holds (λ e. IsHome c.args.self.now.tree.slots c.args.self.now.tree.levels e.0 page) points at (c.group_end-end.result - at) c.requires.homes) in
@@ -35,7 +35,7 @@ answer_group-requires-clause-reads c =
     subst (λ (t : TreeView). AllByRecursion (λ e. IsReadBy t start writes e.0) part) is
     (group_reads tree key start writes page part
     (group_read tree page key c.in_ok-leaf.leaf.base.now.pairs (pointed_to c.deref.result.now) (pointed_to c.in_ok-writes.writes.items) writes start c.know_homes.ensures.values c.in_ok-leaf.ensures.values distinct found
-    c.in_ok-writes.ensures.same c.find-found.ensures group)
+    c.in_ok-writes.ensures.same c.find_near-next.ensures.value group)
     (c.group_end-end.ensures.same first) homes)
 
 pub answer_group-requires-clause-entries : goal.answer_group-requires-clause-entries

@@ -5,11 +5,11 @@ use Rattle.bw_key.specs.Order.{KeyBytes}
 use Rattle.bw_page.specs.declared.pages.Page.{Page}
 use Rattle.bw_delta.specs.declared.deltas.Delta.TheVariants.{Split}
 use Rattle.bw_level.specs.Changes.{Bases, based, plain}
-use Rattle.bw_chain.specs.Chains.{ChainsView, IsChain, Records, floor_word, page_at}
+use Rattle.bw_chain.specs.Chains.{ChainsView, Records}
 use Rattle.bw_chain.specs.Placing.{put_at}
 use Rattle.bw_chain.specs.Removed.{HasAllRemoved}
 use Rattle.bw_level.specs.Splits.{first_entries, right_part, slot_entries, slot_left, slot_right, slot_separator}
-use Rattle.bw_chain.proofs.InPlaceLemmas.{plain_at, plain_within}
+use Rattle.bw_chain.proofs.InPlaceLemmas.{plain_within, taken}
 use Rattle.bw_chain.proofs.RemovedBases.{all_put, all_replaced, entries_live, live_page}
 use Rattle.bw_chain.proofs.chains.Chains.split.Goals as goal
 
@@ -19,12 +19,6 @@ refused (Err e) p = p
 
 abbrev view_of : Bases → Records → ChainsView
 view_of bases records = record { bases = bases; records = records }
-
--- the page that was taken out is the chain's
-taken : (chains : ChainsView) (items : Bases) (word : ℕ) (page : Option Page) → IsChain chains word → word < floor_word → items ≡ chains.bases →
-    slice_get items word ≡ Some page → page_at chains word ≡ based (Some page)
-taken chains items word page ends plain same is =
-    plain_at chains word page ends plain (sym (get_or_from_slice_get items word page page is) ∙ ap (λ (bs : Bases). get_or bs word page) same)
 
 pub replace-requires : goal.replace-requires
 replace-requires c =

@@ -19,7 +19,7 @@ loop-delta-preserved c =
     let p = passed_write c.args.self.now.bases c.args.self.now.records c.loop-delta.word c.in-Some.under c.in-Some.delta.now c.in-Put.write under.ends under.leaf (sym c.in-Some.ensures) c.in-Put.is in
     record {
       under = record { ends = p.ends; leaf = p.leaf; same = under.same ∙ p.same };
-      found = write_found c.loop-delta.found.items c.push.new.self.items _ _ _ _ p.writes c.in_ok-push-in-Put.ensures.items c.loop-delta.invariant.found;
+      found = write_found c.loop-delta.found.items c.add_write.new.found.items _ _ _ _ p.writes c.in_ok-add_write-in-Put.ensures c.loop-delta.invariant.found;
     }
 
 pub returns-clause-writes : goal.returns-clause-writes

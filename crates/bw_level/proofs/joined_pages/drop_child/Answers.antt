@@ -3,7 +3,7 @@ use Rattle.bw_page.specs.declared.pages.Page.{Page}
 use Rattle.bw_level.specs.Changes.{plain}
 use Rattle.bw_level.specs.Slots.{IsSoundInner}
 use Rattle.bw_level.proofs.JoiningLemmas.{differ}
-use Rattle.bw_level.proofs.joined_pages.without_child.Goals as goal
+use Rattle.bw_level.proofs.joined_pages.drop_child.Goals as goal
 
 pub unreachable-requires : goal.unreachable-requires
 unreachable-requires c = elim c.in-Leaf.is [
