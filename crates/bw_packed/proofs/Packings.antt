@@ -1,7 +1,8 @@
 -- Packed lists that are read, added to, and cut.
-use Rattle.std.proofs.Common.{◌≡◌, ℕ, zero, suc, ◌+◌, ◌-◌, ◌^◌, ◌<◌, ◌≤◌, List, [], ◌∷◌, ◌++◌, length, take, drop, map, get_or, slice_range, refl, sym, ap, ◌∙◌, subst, arith, length-append, length-take, length-drop}
-use Rattle.std.proofs.lemmas.List.{take_all}
-use Rattle.std.specs.List.{sum_by}
+use Rattle.std.proofs.Common.{◌≡◌, ℕ, zero, suc, ◌+◌, ◌-◌, ◌^◌, ◌<◌, ◌≤◌, List, [], ◌∷◌, ◌++◌, length, take, drop, map, get_or, set, slice_range, refl, sym, ap, ◌∙◌, subst, arith, length-append, length-take, length-drop}
+use Rattle.std.proofs.lemmas.List.{drop_more, get_or_at, get_or-append-add, length-map, set-append_right, take_all}
+use Rattle.std.proofs.lemmas.List.Edits.{map_over_more}
+use Rattle.std.specs.List.{remove, sum_by}
 use Rattle.bw_packed.specs.declared.list.Entry.{Entry}
 use Rattle.bw_packed.specs.Lists.{IsPacked, RiseTo, moved, start_at, unpacked}
 use Rattle.bw_packed.proofs.ListsLemmas.{length-unpacked, rises-append, rises-drop, rises-moved, rises-take, rises_le, start_at-drop, start_at_ge, start_at_le, start_at_next, sum_by-unpacked, unpacked-append, unpacked-drop, unpacked-moved, unpacked-take, unpacked_at}
@@ -15,6 +16,29 @@ next_place n = omega arith
 
 length_run : (cs : List ℕ) (from upto : ℕ) → from ≤ upto → upto ≤ length cs → length (slice_range cs from upto) ≡ upto - from
 length_run cs from upto rising within = omega (arith, length-take (upto - from) (drop from cs), length-drop from cs)
+
+-- what a loop writes over the elements behind others, one after another
+module _ {X : Type 0} (f : X → X) (front rest l : List X) (n k : ℕ) (x : X) (at : n ≡ length front + k) (lt : k < length rest) (is : l ≡ front ++ (map f (take k rest) ++ drop k rest)) where
+  there : x ≡ get_or l n x → x ≡ get_or (map f (take k rest) ++ drop k rest) k x
+  there read = read ∙ ap (λ ys. get_or ys n x) is ∙ ap (λ i. get_or (front ++ (map f (take k rest) ++ drop k rest)) i x) at ∙ get_or-append-add front _ k x
+
+  -- the next one isn't written yet
+  pub not_written : x ≡ get_or l n x → x ≡ get_or rest k x
+  not_written read =
+      let written = map f (take k rest) in
+      let long : length written ≡ k = length-map (take k rest) f ∙ omega (arith, length-take k rest, lt) in
+      there read ∙ ap (λ ys. get_or (written ++ ys) k x) (drop_more rest k x lt) ∙ get_or_at written _ _ x k long
+
+  pub written_more : x ≡ get_or l n x → set l n (f x) ≡ front ++ (map f (take (k + 1) rest) ++ drop (k + 1) rest)
+  written_more read =
+      ap (λ ys. set ys n (f x)) is
+      ∙ set-append_right front (map f (take k rest) ++ drop k rest) (length front) n (f x) refl (omega (arith, at))
+      ∙ ap (λ i. front ++ set (map f (take k rest) ++ drop k rest) i (f x)) (omega (arith, at))
+      ∙ ap (λ ys. front ++ ys) (map_over_more f rest (map f (take k rest) ++ drop k rest) k x lt refl (there read))
+
+-- a run up to the end of a list
+run_to_end : {X : Type 0} (xs : List X) (n : ℕ) → slice_range xs n (length xs) ≡ drop n xs
+run_to_end xs n = take_all (length xs - n) (drop n xs) (omega (arith, length-drop n xs))
 
 module _ {E : Type 0} where
   pub as_many : (bs : List ℕ) (es : List (Entry E)) (xs : List (List ℕ × E)) → unpacked 0 bs es ≡ xs → length es ≡ length xs
@@ -174,3 +198,79 @@ module _ {E : Type 0} where
         rises = subst (RiseTo 0 (take n es)) all (rises-take 0 (length bs) n es packed.rises);
         fits = omega (arith, all, packed.fits);
       }
+
+  -- all ends rise up to that of the last entry
+  start_at_end : (start stop : ℕ) (es : List (Entry E)) → RiseTo start es stop → start_at start es (length es) ≡ stop
+  start_at_end start stop [] h = h
+  start_at_end start stop (e ∷ es) h = start_at_end e.end stop es h.1
+
+  -- where the bytes of one entry lie, and the entries behind it
+  pub record IsCut (bs : List ℕ) (es : List (Entry E)) (n from upto : ℕ) : Type 0 where
+    pub there : n < length es
+    pub begins : from ≡ start_at 0 es n
+    pub ends : upto ≡ start_at 0 es (suc n)
+    pub rising : from ≤ upto
+    pub within : upto ≤ length bs
+    pub behind : RiseTo upto (drop (suc n) es) (length bs)
+
+  pub is_cut : (bs : List ℕ) (es fs : List (Entry E)) (n from : ℕ) (e : Entry E) → IsPacked bs es → n < length es → fs ≡ es → from ≡ start_at 0 fs n → e ≡ get_or es n e →
+      IsCut bs es n from e.end
+  is_cut bs es fs n from e packed lt same first read =
+      let at : from ≡ start_at 0 es n = first ∙ ap (λ l. start_at 0 l n) same in
+      let here : e.end ≡ (get_or es n e).end = ap (λ (x : Entry E). x.end) read in
+      let end : e.end ≡ start_at 0 es (suc n) = here ∙ sym (start_at_next 0 n es e lt) in
+      record {
+        there = lt;
+        begins = at;
+        ends = end;
+        rising = omega (arith, at, start_le_end bs es n e packed lt, here);
+        within = omega (arith, end, start_at_le 0 (length bs) (suc n) es packed.rises);
+        behind = subst (λ m. RiseTo m (drop (suc n) es) (length bs)) (sym end) (rises-drop 0 (length bs) (suc n) es packed.rises);
+      }
+
+  run_behind : (bs : List ℕ) (es : List (Entry E)) (n from upto : ℕ) → IsPacked bs es → IsCut bs es n from upto → IsRun bs es (suc n) (length es) upto (length bs)
+  run_behind bs es n from upto packed cut = record {
+    begins = cut.ends;
+    ends = sym (start_at_end 0 (length bs) es packed.rises);
+    rising = cut.within;
+    within = omega arith;
+    count = length_run bs upto (length bs) cut.within (omega arith);
+  }
+
+  front_packed : (bs : List ℕ) (es : List (Entry E)) (n from upto : ℕ) → IsPacked bs es → IsCut bs es n from upto → IsPacked (take from bs) (take n es)
+  front_packed bs es n from upto packed cut = subst (λ i. IsPacked (take i bs) (take n es)) (sym cut.begins) (truncated_packed bs es n packed)
+
+  -- one entry is taken away, by the bytes and the entries that are left
+  removed_parts : (bs : List ℕ) (es : List (Entry E)) (n from upto : ℕ) → IsCut bs es n from upto →
+      (take from bs ++ drop upto bs ≡ take from bs ++ slice_range bs upto (length bs))
+      × (take n es ++ map (moved upto from) (drop (suc n) es) ≡ take n es ++ map (moved upto (length (take from bs))) (slice_range es (suc n) (length es)))
+  removed_parts bs es n from upto cut =
+      let front : from ≡ length (take from bs) = omega (arith, length-take from bs, cut.rising, cut.within) in (
+        ap (λ l. take from bs ++ l) (sym (run_to_end bs upto)),
+        ap (λ l. take n es ++ map (moved upto from) l) (sym (run_to_end es (suc n)))
+            ∙ ap (λ i. take n es ++ map (moved upto i) (slice_range es (suc n) (length es))) front,
+      )
+
+  pub removed : (bs cs : List ℕ) (es fs : List (Entry E)) (n from upto : ℕ) → IsPacked bs es → IsCut bs es n from upto → cs ≡ take from bs ++ drop upto bs →
+      fs ≡ take n es ++ map (moved upto from) (drop (suc n) es) → unpacked 0 cs fs ≡ remove (unpacked 0 bs es) n
+  removed bs cs es fs n from upto packed cut bytes entries =
+      let parts = removed_parts bs es n from upto cut in
+      let xs = unpacked 0 bs es in
+      let front = take from bs in
+      let all : length es ≡ length xs = sym (length-unpacked 0 bs es) in
+      ap (λ l. unpacked 0 l fs) (bytes ∙ parts.0)
+      ∙ ap (λ l. unpacked 0 (front ++ slice_range bs upto (length bs)) l) (entries ∙ parts.1)
+      ∙ extended front bs (take n es) es (suc n) (length es) upto (length bs) (front_packed bs es n from upto packed cut) packed (omega (arith, cut.there)) (run_behind bs es n from upto packed cut)
+      ∙ ap (λ l. l ++ slice_range xs (suc n) (length es)) (ap (λ i. unpacked 0 (take i bs) (take n es)) cut.begins ∙ truncated bs es n packed)
+      ∙ ap (λ i. take n xs ++ slice_range xs (suc n) i) all
+      ∙ ap (λ l. take n xs ++ l) (run_to_end xs (suc n))
+
+  pub removed_packed : (bs cs : List ℕ) (es fs : List (Entry E)) (n from upto : ℕ) → IsPacked bs es → IsCut bs es n from upto → cs ≡ take from bs ++ drop upto bs →
+      fs ≡ take n es ++ map (moved upto from) (drop (suc n) es) → IsPacked cs fs
+  removed_packed bs cs es fs n from upto packed cut bytes entries =
+      let parts = removed_parts bs es n from upto cut in
+      let front = take from bs in
+      let few : length front + (length bs - upto) < 2 ^ 32 = omega (arith, length-take from bs, cut.rising, cut.within, packed.fits) in
+      subst (λ l. IsPacked l fs) (sym (bytes ∙ parts.0))
+      (subst (λ l. IsPacked (front ++ slice_range bs upto (length bs)) l) (sym (entries ∙ parts.1))
+      (extended_packed front bs (take n es) es (suc n) (length es) upto (length bs) (front_packed bs es n from upto packed cut) packed (omega (arith, cut.there)) (run_behind bs es n from upto packed cut) few))

@@ -1,6 +1,6 @@
 // Lists of byte strings, each with a tag.
-ghost use Rattle.std.specs.Prelude.{◌≡◌, ℕ, ◌<◌, ◌≤◌, ◌++◌, ◌∷◌, [], List, length, take, slice_range, slice_index_or, IfOk, OnOk, OnErr, ◌==◌, ◌+◌, ◌-◌, ◌^◌, map, vec_len, vec_capacity};
-ghost use Rattle.std.specs.List.{sum_by};
+ghost use Rattle.std.specs.Prelude.{◌≡◌, ℕ, suc, ◌<◌, ◌≤◌, ◌++◌, ◌∷◌, [], List, length, take, drop, slice_range, slice_index_or, IfOk, OnOk, OnErr, ◌==◌, ◌+◌, ◌-◌, ◌^◌, map, vec_len, vec_capacity};
+ghost use Rattle.std.specs.List.{remove, sum_by};
 ghost use Rattle.bw_packed.specs.Lists.{RiseTo, moved, start_at};
 
 use crate::BYTES_MAX;
@@ -14,6 +14,20 @@ use std::ops::Range;
 struct Entry<E: Copy> {
     end: u32,
     tag: E,
+}
+
+impl<E: Copy> Entry<E> {
+    // The entry where its bytes, which stood from one place on, stand from another on.
+    fn moved(&self, from: usize, to: usize) -> Entry<E>
+        requires behind { from ≤ self.now.end }
+        requires fits { (self.now.end - from) + to < 2 ^ 32 }
+        ensures { result ≡ moved from to self.now }
+    {
+        Entry {
+            end: (self.end as usize - from + to) as u32,
+            tag: self.tag,
+        }
+    }
 }
 
 /// A list of entries: byte strings, each with a tag.
@@ -170,6 +184,18 @@ impl<E: Copy> Packed<E> {
         }
     }
 
+    /// Takes away the entry at a place. It takes no memory, and gives none back: the bytes and the ends behind that entry are
+    /// moved.
+    pub fn remove(&mut self, place: usize)
+        requires { place < length self.old }
+        ensures { self.new ≡ remove self.old place }
+    {
+        let start = start_of(&self.entries, place);
+        let end = self.entries[place].end as usize;
+        remove_bytes(&mut self.bytes, start, end);
+        remove_entry(&mut self.entries, place, end, start);
+    }
+
     /// Gives back the room that isn't used. Where a smaller block is refused, the larger one stays.
     pub fn shrink_to_fit(&mut self)
         ensures { self.new ≡ self.old }
@@ -220,9 +246,29 @@ fn push_moved<E: Copy>(list: &mut Vec<Entry<E>, Alloc>, run: &[Entry<E>], from: 
     ensures { list.new.items ≡ list.old.items ++ map (moved from to) run.now }
 {
     for entry in run {
-        list.push_reserved(Entry {
-            end: (entry.end as usize - from + to) as u32,
-            tag: entry.tag,
-        });
+        list.push_reserved(entry.moved(from, to));
+    }
+}
+
+// Takes away the bytes from one place up to another.
+fn remove_bytes(list: &mut Vec<u8, Alloc>, start: usize, end: usize)
+    requires rising { start ≤ end }
+    requires within { end ≤ length list.old.items }
+    ensures { list.new.items ≡ take start list.old.items ++ drop end list.old.items }
+{
+    let len = list.len();
+    list.copy_within(end..len, start);
+    list.truncate(len - (end - start));
+}
+
+// Takes away the entry at a place. The bytes of those behind it stood from one place on, and stand from another on now.
+fn remove_entry<E: Copy>(list: &mut Vec<Entry<E>, Alloc>, place: usize, from: usize, to: usize)
+    requires there { place < length list.old.items }
+    requires ends { (stop : ℕ) × (RiseTo from (drop (suc place) list.old.items) stop × ((stop - from) + to < 2 ^ 32)) }
+    ensures { list.new.items ≡ take place list.old.items ++ map (moved from to) (drop (suc place) list.old.items) }
+{
+    let _removed = list.remove(place);
+    for i in place..list.len() {
+        list[i] = list[i].moved(from, to);
     }
 }

@@ -16,7 +16,7 @@ module _ {X : Type 0} where
   above_first k (suc n) [] h = tt
   above_first k (suc n) (e ∷ es) h = both_of _ _ (left_of _ _ h) (above_first k n es (right_of _ _ h))
 
-  sorted_first : (n : ℕ) (es : List (KeyBytes × X)) → T (is_sorted key_cmp es) → T (is_sorted key_cmp (take n es))
+  pub sorted_first : (n : ℕ) (es : List (KeyBytes × X)) → T (is_sorted key_cmp es) → T (is_sorted key_cmp (take n es))
   sorted_first zero es h = tt
   sorted_first (suc n) [] h = tt
   sorted_first (suc n) (e ∷ es) h = both_of _ _ (above_first e.0 n es (left_of _ _ h)) (sorted_first n es (right_of _ _ h))

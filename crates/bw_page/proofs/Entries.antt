@@ -1,6 +1,6 @@
 -- Parts, joins and edits of a page's entries keep the rules of a page.
-use Rattle.std.proofs.Common.{append_assoc, set, take, ◌+◌, ◌≡◌, ◌≢◌, ℕ, zero, suc, ◌<◌, Bool, true, false, cond, not, List, [], ◌∷◌, ◌++◌, length, get_or, drop, filter, Option, Some, None, T, refl, sym, ap, ◌∙◌, subst, arith}
-use Rattle.std.proofs.lemmas.List.{drop-set-lt, take-append-drop, take_more_set}
+use Rattle.std.proofs.Common.{append_assoc, set, take, ◌+◌, ◌-◌, ◌≡◌, ◌≢◌, ℕ, zero, suc, ◌<◌, ◌≤◌, Bool, true, false, cond, not, List, [], ◌∷◌, ◌++◌, length, get_or, drop, filter, Option, Some, None, T, refl, sym, ap, ◌∙◌, subst, arith, length-drop}
+use Rattle.std.proofs.lemmas.List.{drop-drop, get_or-drop, drop-set-lt, take-append-drop, take_more_set}
 use Rattle.std.specs.List.{list_all}
 use Rattle.std.specs.Ordering.{is_lt}
 use Rattle.std.specs.FinMap.{put, is_sorted}
@@ -228,3 +228,27 @@ module _ {X : Type 0} where
       ap (λ (m : ℕ). (take n es ++ (q, v) ∷ []) ++ drop m es) same
       ∙ append_assoc (take n es) ((q, v) ∷ []) (drop n es)
       ∙ put_absent_at q v es n at other
+
+  -- the same among the entries from a place on
+  pub put_over_from : (q : KeyBytes) (v : X) (es : List (KeyBytes × X)) (start at : ℕ) (x : KeyBytes × X) → start ≤ at → at - start ≡ place_of q (drop start es) → at < length es → x ≡ get_or es at x → key_eq x.0 q ≡ true →
+      (take (at - start) (drop start es) ++ (q, v) ∷ []) ++ drop (at + 1) es ≡ put key_cmp q v (drop start es)
+  put_over_from q v es start at x from place lt is same =
+      let n = at - start in
+      let rest = drop start es in
+      let on : start + n ≡ at = omega (arith, from) in
+      let read : x ≡ get_or rest n x = is ∙ ap (λ i. get_or es i x) (sym on) ∙ sym (get_or-drop start es n x) in
+      let next : drop (n + 1) rest ≡ drop (at + 1) es = drop-drop (n + 1) start es ∙ ap (λ i. drop i es) (omega (arith, from)) in
+      ap (λ l. (take n rest ++ (q, v) ∷ []) ++ l) (sym next)
+      ∙ put_over q v rest n (n + 1) x place (omega (arith, lt, from, length-drop start es)) read same refl
+
+  pub put_between_from : (q : KeyBytes) (v : X) (es : List (KeyBytes × X)) (start at : ℕ) → start ≤ at → at - start ≡ place_of q (drop start es) → Misses q es at →
+      (take (at - start) (drop start es) ++ (q, v) ∷ []) ++ drop at es ≡ put key_cmp q v (drop start es)
+  put_between_from q v es start at from place other =
+      let n = at - start in
+      let rest = drop start es in
+      let on : start + n ≡ at = omega (arith, from) in
+      let next : drop n rest ≡ drop at es = drop-drop n start es ∙ ap (λ i. drop i es) on in
+      let missing : Misses q rest n = λ lt.
+      let there = other (omega (arith, lt, from, length-drop start es)) in
+      (there.0, there.1 ∙ ap (λ i. get_or es i there.0) (sym on) ∙ sym (get_or-drop start es n there.0), there.2) in
+      ap (λ l. (take n rest ++ (q, v) ∷ []) ++ l) (sym next) ∙ put_between q v rest n n place missing refl

@@ -1,4 +1,5 @@
 pub mod LeafLemmas
+pub mod InnerLemmas
 pub mod Truths
 pub mod KeyLemmas
 pub mod Search
@@ -6,4 +7,5 @@ pub mod Entries
 pub mod Separators
 pub mod Ranges
 pub mod Cuts
+pub mod Removals
 pub mod MergingLemmas

@@ -1,5 +1,5 @@
 -- Entries put among others.
-use Rattle.std.proofs.Common.{◌≡◌, ℕ, zero, suc, ◌+◌, ◌-◌, ◌<◌, ◌≤◌, true, false, cond, T, List, [], ◌∷◌, ◌++◌, length, get_or, take, drop, Option, refl, sym, ap, ◌∙◌, subst, append_assoc, add-one, arith, length-drop, Ordering}
+use Rattle.std.proofs.Common.{◌≡◌, ℕ, zero, suc, ◌+◌, ◌-◌, ◌<◌, ◌≤◌, true, false, cond, T, List, [], ◌∷◌, ◌++◌, length, get_or, take, drop, slice_range, Option, refl, sym, ap, ◌∙◌, subst, append_assoc, add-one, arith, length-drop, Ordering}
 use Rattle.std.proofs.lemmas.List.{drop-drop}
 use Rattle.std.specs.List.{list_all}
 use Rattle.std.specs.Ordering.{is_lt, ordering_reverse}
@@ -11,6 +11,7 @@ use Rattle.bw_model.specs.Contents.{is_pair_in_range}
 use Rattle.bw_model.specs.Sorted.{place_of}
 use Rattle.bw_page.specs.Inners.{IsInner}
 use Rattle.bw_page.specs.MergedEntries.{AreBefore, HasAdded, put_all}
+use Rattle.bw_page.proofs.Cuts.{sorted_first}
 use Rattle.bw_page.proofs.Entries.{put_inner_page, sorted_drop}
 use Rattle.bw_page.proofs.KeyLemmas.{below_trans}
 use Rattle.bw_page.proofs.Search.{below_first}
@@ -51,16 +52,13 @@ module _ {V : Type 0} where
   before_last key (x ∷ xs) ys p = before_last key xs ys (right_of _ _ p)
 
   -- of entries in order the first ones come before a later one
-  before_there : (es : List (KeyBytes × V)) (n : ℕ) (e : KeyBytes × V) → T (is_sorted key_cmp es) → n < length es → e ≡ get_or es n e → AreBefore e.0 (take n es)
+  pub before_there : (es : List (KeyBytes × V)) (n : ℕ) (e : KeyBytes × V) → T (is_sorted key_cmp es) → n < length es → e ≡ get_or es n e → AreBefore e.0 (take n es)
   before_there [] n e sorted lt is = absurd (omega arith)
   before_there (x ∷ es) zero e sorted lt is = tt
   before_there (x ∷ es) (suc n) e sorted lt is =
       both_of _ _
       (true_holds _ (below_first x.0 es n e (left_of _ _ sorted) (omega arith) is))
       (before_there es n e (right_of _ _ sorted) (omega arith) is)
-
-  pub all_before : (yielded es : List (KeyBytes × V)) (e : KeyBytes × V) → yielded ≡ take (length yielded) es → T (is_sorted key_cmp es) → length yielded < length es → e ≡ get_or es (length yielded) e → AreBefore e.0 yielded
-  all_before yielded es e is sorted lt at = subst (AreBefore e.0) (sym is) (before_there es (length yielded) e sorted lt at)
 
   -- the entries before a key's place come before each key above it
   pub before_place : (q key : KeyBytes) (es : List (KeyBytes × V)) → is_lt (key_cmp q key) ≡ true → AreBefore key (take (place_of q es) es)
@@ -85,22 +83,24 @@ module _ {V : Type 0} where
   pub sorted_rest : (n : ℕ) (cs : List (KeyBytes × V)) → T (is_sorted key_cmp cs) → T (is_sorted key_cmp (take (length cs - n) (drop n cs)))
   sorted_rest n cs sorted = subst (λ (l : List (KeyBytes × V)). T (is_sorted key_cmp l)) (sym (rest_is n cs)) (sorted_drop n cs sorted)
 
+  pub sorted_run : (i j : ℕ) (cs : List (KeyBytes × V)) → T (is_sorted key_cmp cs) → T (is_sorted key_cmp (slice_range cs i j))
+  sorted_run i j cs sorted = sorted_first (j - i) (drop i cs) (sorted_drop i cs sorted)
+
   -- what was added: the entries before the entry's place, and the entry
-  pub entry_added : (all some new entries rest : List (KeyBytes × V)) (passed at next : ℕ) (e : KeyBytes × V) → rest ≡ drop passed entries → at ≡ place_of e.0 rest → ((value : V) → (take at rest ++ (e.0, value) ∷ []) ++ drop next rest ≡ put key_cmp e.0 value rest) → some ≡ all ++ take at rest → new ≡ some ++ e ∷ [] →
-      HasAdded all new (drop passed entries) (drop (passed + next) entries) e
-  entry_added all some new entries rest passed at next e is place puts copied pushed = record {
-    added = take at rest ++ e ∷ [];
-    is = pushed ∙ ap (λ (l : List (KeyBytes × V)). l ++ e ∷ []) copied ∙ append_assoc all (take at rest) (e ∷ []);
-    put =
-        ap (λ (l : List (KeyBytes × V)). put key_cmp e.0 e.1 l) (sym is)
-        ∙ sym (puts e.1)
-        ∙ ap (λ (l : List (KeyBytes × V)). (take at rest ++ e ∷ []) ++ drop next l) is
-        ∙ ap (λ (l : List (KeyBytes × V)). (take at rest ++ e ∷ []) ++ l) (drop-drop next passed entries);
-    before = λ key over.
-        before_both key (take at rest) (e ∷ [])
-        (subst (λ n. AreBefore key (take n rest)) (sym place) (before_place e.0 key rest over))
-        (both_of _ _ (true_holds _ over) tt);
-  }
+  pub entry_added : (all some new entries : List (KeyBytes × V)) (passed n next : ℕ) (e : KeyBytes × V) → n ≡ place_of e.0 (drop passed entries) →
+      ((value : V) → (take n (drop passed entries) ++ (e.0, value) ∷ []) ++ drop next entries ≡ put key_cmp e.0 value (drop passed entries)) →
+      some ≡ all ++ take n (drop passed entries) → new ≡ some ++ e ∷ [] → HasAdded all new (drop passed entries) (drop next entries) e
+  entry_added all some new entries passed n next e place puts copied pushed =
+      let rest = drop passed entries in
+      record {
+        added = take n rest ++ e ∷ [];
+        is = pushed ∙ ap (λ (l : List (KeyBytes × V)). l ++ e ∷ []) copied ∙ append_assoc all (take n rest) (e ∷ []);
+        put = sym (puts e.1);
+        before = λ key over.
+            before_both key (take n rest) (e ∷ [])
+            (subst (λ m. AreBefore key (take m rest)) (sym place) (before_place e.0 key rest over))
+            (both_of _ _ (true_holds _ over) tt);
+      }
 
   -- What was merged: the entries up to a place and the entries so far, which come before all that comes behind these.
   pub record HasMerged (yielded all entries : List (KeyBytes × V)) (passed : ℕ) : Type 0 where

@@ -28,10 +28,10 @@ same_keys k q e = elim (key_cmp k q) as (λ r. key_cmp k q ≡ r → k ≡ q) [
     different e = cc
 
 -- a key is the other, is below it, or is above it
-less_no_tie : (q k : KeyBytes) → is_lt (key_cmp q k) ≡ true → is_eq (key_cmp q k) ≡ false
+pub less_no_tie : (q k : KeyBytes) → is_lt (key_cmp q k) ≡ true → is_eq (key_cmp q k) ≡ false
 less_no_tie q k h = elim (key_cmp q k) as (λ r. is_lt r ≡ true → is_eq r ≡ false) [ Less ↦ λ e. refl | Equal ↦ λ e. sym e | Greater ↦ λ e. refl ] h
 
-not_tied : (q k : KeyBytes) → is_lt (key_cmp k q) ≡ true → is_eq (key_cmp q k) ≡ false
+pub not_tied : (q k : KeyBytes) → is_lt (key_cmp k q) ≡ true → is_eq (key_cmp q k) ≡ false
 not_tied q k h = elim (key_cmp q k) as (λ r. key_cmp q k ≡ r → is_eq r ≡ false) [
   | Less ↦ λ e. refl
   | Equal ↦ λ e. absurd (different (sym h ∙ ap (λ (x : KeyBytes). is_lt (key_cmp k x)) (keys_tie q k e) ∙ below_self k))
@@ -41,7 +41,7 @@ not_tied q k h = elim (key_cmp q k) as (λ r. key_cmp q k ≡ r → is_eq r ≡ 
     different : true ≡ false → ⊥
     different e = cc
 
-over : (q k : KeyBytes) → is_lt (key_cmp k q) ≡ false → key_eq k q ≡ false → is_lt (key_cmp q k) ≡ true
+pub over : (q k : KeyBytes) → is_lt (key_cmp k q) ≡ false → key_eq k q ≡ false → is_lt (key_cmp q k) ≡ true
 over q k b differs = elim (is_lt (key_cmp q k)) as (λ t. is_lt (key_cmp q k) ≡ t → t ≡ true) [
   | true ↦ λ e. refl
   | false ↦ λ e. absurd (different (sym differs ∙ key_ties k q ∙ ap is_eq (ap (λ (x : KeyBytes). key_cmp k x) (neither_below q k e b) ∙ cmp_self k)))

@@ -1,5 +1,5 @@
 -- Inner pages as contracts see them, and the rules that each one keeps.
-use Rattle.std.specs.Prelude.{ℕ, ◌≤◌, not, List, ◌++◌, Option, Some, T, take, drop, filter}
+use Rattle.std.specs.Prelude.{ℕ, ◌≤◌, Bool, not, List, ◌++◌, Option, Some, T, take, drop, filter}
 use Rattle.std.specs.List.{Contains}
 use Rattle.std.specs.Ordering.{is_lt}
 use Rattle.std.specs.FinMap.{put}
@@ -23,8 +23,11 @@ pub record IsInner (level : ℕ) (low : KeyBytes) (high : Option KeyBytes) (side
   pub begins : BeginsAt low children
 
 -- the first key isn't above the second
+abbrev pub is_upto : KeyBytes → KeyBytes → Bool
+is_upto a b = not (is_lt (key_cmp b a))
+
 abbrev pub IsUpto : KeyBytes → KeyBytes → Type 0
-IsUpto a b = T (not (is_lt (key_cmp b a)))
+IsUpto a b = T (is_upto a b)
 
 -- the entry with the greatest key that isn't above the given one has this value
 pub record IsLastUpto {V : Type 0} (key : KeyBytes) (entries : List (KeyBytes × V)) (value : V) : Type 0 where

@@ -4,7 +4,6 @@ ghost use Rattle.std.specs.Option.{option_copied};
 ghost use Rattle.bw_model.specs.Contents.{is_below_end};
 
 use crate::pages::PageId;
-use crate::sorted_entries;
 use bw_key::{Key, Memory};
 use std::marker::Model;
 
@@ -77,7 +76,7 @@ impl Bounds {
     {
         Ok(Bounds {
             low,
-            high: sorted_entries::copy_end(&self.high)?,
+            high: copy_end(&self.high)?,
             side: self.side,
         })
     }
@@ -88,5 +87,15 @@ impl Bounds {
     {
         self.high.replace(high);
         self.side.replace(side);
+    }
+}
+
+// The same end of a range again.
+fn copy_end(end: &Option<Key>) -> Result<Option<Key>, Memory>
+    ensures { IfOk result (λ copy. copy ≡ end.now) }
+{
+    match end {
+        Some(key) => Ok(Some(key.copy()?)),
+        None => Ok(None),
     }
 }

@@ -1,18 +1,17 @@
 // Inner pages.
-ghost use Rattle.std.specs.Prelude.{◌≡◌, ◌≢◌, ◌<◌, length, Some, IfOk, OnErr, OnOk, MatchOption, true, false, T};
+ghost use Rattle.std.specs.Prelude.{◌≡◌, ◌≢◌, ℕ, ◌<◌, length, slice_index_or, Some, IfOk, OnErr, OnOk, MatchOption, true, false, T};
 ghost use Rattle.std.specs.Option.{option_copied};
 ghost use Rattle.std.specs.FinMap.{is_sorted};
 ghost use Rattle.std.specs.List.{list_all};
-ghost use Rattle.bw_key.specs.Order.{key_cmp};
+ghost use Rattle.bw_key.specs.Order.{KeyBytes, key_cmp};
 ghost use Rattle.bw_model.specs.Contents.{is_below_end, is_in_range, is_pair_in_range};
 ghost use Rattle.bw_page.specs.Inners.{IsInner, IsLastUpto, IsUpto, joined_inner, lower_inner, narrowed_inner, upper_inner, with_child, with_children, without_child};
 ghost use Rattle.bw_page.specs.Pages.{BeginsAt};
 
 use crate::bounds::Bounds;
+use crate::children::Children;
 use crate::pages::PageId;
-use crate::sorted_entries;
 use bw_key::{Key, Memory};
-use bw_memory::Alloc;
 use std::marker::Model;
 
 /// An inner page: separators, each with the child whose keys are from it on. The separators strictly rise, and lie
@@ -24,7 +23,7 @@ use std::marker::Model;
 pub struct Inner {
     level: u32,
     bounds: Bounds,
-    children: Vec<(Key, PageId), Alloc>,
+    children: Children,
 }
 
 // Not derived: whoever drops one calls this, and its proof is spared the parts.
@@ -51,10 +50,10 @@ impl Model for Inner {
       low = p.bounds.low;
       high = p.bounds.high;
       side = p.bounds.side;
-      children = p.children.items;
+      children = p.children;
     } };
 
-    ghost invariant = { λ p. IsInner p.level p.bounds.low p.bounds.high p.bounds.side p.children.items };
+    ghost invariant = { λ p. IsInner p.level p.bounds.low p.bounds.high p.bounds.side p.children };
 }
 
 impl Inner {
@@ -64,14 +63,14 @@ impl Inner {
         low: Key,
         high: Option<Key>,
         side: Option<PageId>,
-        children: Vec<(Key, PageId), Alloc>,
+        children: Children,
     ) -> Inner
-        requires { IsInner level low high side children.items }
+        requires { IsInner level low high side children }
         ensures level { result.level ≡ level }
         ensures low { result.low ≡ low }
         ensures high { result.high ≡ high }
         ensures side { result.side ≡ side }
-        ensures children { result.children ≡ children.entry.items }
+        ensures children { result.children ≡ children }
     {
         Inner {
             level,
@@ -109,11 +108,11 @@ impl Inner {
     }
 
     /// The separators with their children, in order.
-    pub fn children(&self) -> &[(Key, PageId)]
+    pub fn children(&self) -> &Children
         ensures value { result.now ≡ self.now.children }
         ensures rules { IsInner self.now.level self.now.low self.now.high self.now.side self.now.children }
     {
-        self.children.as_slice()
+        &self.children
     }
 
     /// The right neighbour, where the key is past the end of the range: there a search goes on, as in a B-link tree.
@@ -124,20 +123,30 @@ impl Inner {
         self.bounds.past(key)
     }
 
+    /// The separator at a place, as a key of its own: one growth where it has more than 24 bytes, and `Memory` where that is
+    /// refused.
+    pub fn separator(&self, place: usize) -> Result<Key, Memory>
+        requires { place < length self.now.children }
+        ensures { (d : KeyBytes × ℕ) → IfOk result (λ key. key ≡ (slice_index_or self.now.children place d).0) }
+    {
+        Key::from_bytes(self.children.allocator(), self.children.separator(place))
+    }
+
     /// The child with the greatest separator that isn't above the key, in about log2 n key comparisons for n children.
     /// The key isn't below `low`.
     pub fn child_for(&self, key: &Key) -> PageId
         requires { IsUpto self.now.low key.now }
         ensures { IsLastUpto key.now self.now.children result }
     {
-        *sorted_entries::last_upto(&self.children, key)
+        let count = self.children.place_behind(0..self.children.len(), key);
+        self.children.child(count - 1)
     }
 
     /// The children from place `keep` on, as a page that begins at the first of their separators and ends where this
     /// one does. `keep` is less than the number of children.
     ///
-    /// It copies those children, in one growth for their list and one for each key of more than 24 bytes, the bounds
-    /// among them; so do the other calls here that make a page of others. `Memory` is answered where one of them is
+    /// It copies those children as one block of separators and one of ends, in a growth for each, and one for each bound of
+    /// more than 24 bytes; so do the other calls here that make a page of others. `Memory` is answered where one of them is
     /// refused. This page stays as it is.
     pub fn upper_half(&self, keep: usize) -> Result<Inner, Memory>
         requires { keep < length self.now.children }
@@ -145,18 +154,18 @@ impl Inner {
     {
         Ok(Inner {
             level: self.level,
-            bounds: self.bounds.with_low(self.children[keep].0.copy()?)?,
-            children: sorted_entries::copy_from(*self.children.allocator(), &self.children, keep)?,
+            bounds: self.bounds.with_low(self.separator(keep)?)?,
+            children: self.children.copy(keep..self.children.len())?,
         })
     }
 
     /// Cuts the page in its place: its children from place `keep` on move to a page that begins at the first of their
     /// separators and ends where this one did, and this one keeps the others and its bounds. Both have children.
     ///
-    /// No separator is copied but those that the new page has as bounds. It takes one growth for the list of the children
-    /// that move, and one for each bound of their page that has more than 24 bytes. `Memory` is answered where one of
-    /// them is refused, and this page is as before. A last growth, to a smaller block, gives back the room that the
-    /// children leave; where that is refused the room stays.
+    /// The children that move are copied as one block of separators and one of ends, in a growth for each, and one for each
+    /// bound of their page that has more than 24 bytes. `Memory` is answered where one of them is refused, and this page is as
+    /// before. Two last growths, to smaller blocks, give back the room that the children leave; where one is refused the room
+    /// stays.
     pub fn cut(&mut self, keep: usize) -> Result<Inner, Memory>
         requires some { 0 < keep }
         requires fewer { keep < length self.old.children }
@@ -164,8 +173,8 @@ impl Inner {
         ensures kept { OnOk result (self.new ≡ lower_inner self.old keep) }
         ensures err { OnErr result (self.new ≡ self.old) }
     {
-        let bounds = self.bounds.with_low(self.children[keep].0.copy()?)?;
-        let children = sorted_entries::cut(&mut self.children, keep)?;
+        let bounds = self.bounds.with_low(self.separator(keep)?)?;
+        let children = self.children.cut(keep)?;
         Ok(Inner {
             level: self.level,
             bounds,
@@ -180,7 +189,7 @@ impl Inner {
         requires { T (is_below_end (Some high) self.old.low) }
         ensures { self.new ≡ narrowed_inner self.old high side }
     {
-        sorted_entries::keep_below(&mut self.children, &high);
+        self.children.keep_below(&high);
         self.bounds.narrow(high, side);
     }
 
@@ -194,18 +203,14 @@ impl Inner {
         Ok(Inner {
             level: self.level,
             bounds: right.bounds.with_low(self.bounds.low().copy()?)?,
-            children: sorted_entries::join(
-                *self.children.allocator(),
-                &self.children,
-                &right.children,
-            )?,
+            children: self.children.joined(&right.children)?,
         })
     }
 
     // A page of the same level, bounds and neighbour.
-    fn over(&self, children: Vec<(Key, PageId), Alloc>) -> Result<Inner, Memory>
-        requires { IsInner self.now.level self.now.low self.now.high self.now.side children.items }
-        ensures { IfOk result (λ inner. inner ≡ record self.now { children = children.entry.items }) }
+    fn over(&self, children: Children) -> Result<Inner, Memory>
+        requires { IsInner self.now.level self.now.low self.now.high self.now.side children }
+        ensures { IfOk result (λ inner. inner ≡ record self.now { children = children }) }
     {
         Ok(Inner {
             level: self.level,
@@ -220,30 +225,28 @@ impl Inner {
         requires { T (is_in_range self.now.low self.now.high sep.now) }
         ensures { IfOk result (λ inner. inner ≡ with_child self.now sep.now child) }
     {
-        let alloc = *self.children.allocator();
-        self.over(sorted_entries::copy_with(alloc, &self.children, sep, child)?)
+        self.over(self.children.with(sep, child)?)
     }
 
     /// This page with these children among its own, each in place of one that stands at its separator. The separators rise,
     /// and are in the range of the page. This page stays as it is.
     ///
-    /// It copies its children once and moves the others, each of which costs a binary search among the children behind the
+    /// Its own children are copied once, by runs, and each of the others costs a binary search among the children behind the
     /// one before it: so a page that gets many children gets them at once.
-    pub fn with_children(&self, entries: Vec<(Key, PageId), Alloc>) -> Result<Inner, Memory>
-        requires rising { T (is_sorted key_cmp entries.items) }
-        requires inside { T (list_all (is_pair_in_range self.now.low self.now.high) entries.items) }
-        ensures { IfOk result (λ inner. inner ≡ with_children self.now entries.entry.items) }
+    pub fn with_children(&self, entries: &[(Key, PageId)]) -> Result<Inner, Memory>
+        requires rising { T (is_sorted key_cmp entries.now) }
+        requires inside { T (list_all (is_pair_in_range self.now.low self.now.high) entries.now) }
+        ensures { IfOk result (λ inner. inner ≡ with_children self.now entries.now) }
     {
-        let alloc = *self.children.allocator();
-        self.over(sorted_entries::copy_with_all(alloc, &self.children, entries)?)
+        self.over(self.children.with_all(entries)?)
     }
 
-    /// Takes away the separator and its child, if the page has it. The separator isn't `low`. It takes no memory: the
-    /// children behind that one are moved, and each separator is compared once.
+    /// Takes away the separator and its child, if the page has it. The separator isn't `low`. It takes no memory, and about
+    /// log2 n key comparisons for n children; the children behind that one are moved.
     pub fn drop_child(&mut self, sep: &Key)
         requires { sep.now ≢ self.old.low }
         ensures { self.new ≡ without_child self.old sep.now }
     {
-        sorted_entries::remove(&mut self.children, sep);
+        self.children.remove(sep);
     }
 }

@@ -4,12 +4,13 @@
 #![tactic(auto)]
 
 mod bounds;
+mod children;
 mod inner;
 mod leaf;
 mod leaf_pairs;
 mod pages;
-mod sorted_entries;
 
+pub use children::Children;
 pub use inner::Inner;
 pub use leaf::Leaf;
 pub use leaf_pairs::{place, place_near};

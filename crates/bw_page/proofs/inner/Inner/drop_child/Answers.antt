@@ -10,4 +10,4 @@ invariant_of-self c =
     let bounds = c.self.inside.bounds in
     let other : c.args.sep.now ≢ bounds.low = subst (λ (v : InnerView). c.args.sep.now ≢ v.low) (sym c.self.view_is) c.requires in
     subst (λ (es : List (KeyBytes × ℕ)). IsInner level bounds.low bounds.high bounds.side es) (sym c.remove.ensures)
-    (without_inner_page level bounds.low bounds.high bounds.side c.args.sep.now c.self.inside.children.items other c.self.invariant)
+    (without_inner_page level bounds.low bounds.high bounds.side c.args.sep.now c.self.inside.children other c.self.invariant)

@@ -12,6 +12,6 @@ invariant_of-result c =
     let meets : left.high ≡ Some right.low =
     ap (λ (v : InnerView). v.high) c.self.view_is ∙ c.requires.next ∙ sym (ap (λ (v : InnerView). Some v.low) c.right.view_is)
     in
-    let all : c.in_ok-join.field-0.items ≡ c.self.inside.children.items ++ c.right.inside.children.items = cc (c.in_ok-join.ensures, c.deref.ensures.value, c.deref-2.ensures.value) in
+    let all : _ ≡ c.self.inside.children ++ c.right.inside.children = c.in_ok-joined.ensures in
     same_inner c.self.inside.level _ _ _ _ (c.in_ok-with_low.ensures ∙ ap (λ (k : KeyBytes). record right { low = k }) (c.in_ok-copy.ensures.ok ∙ c.low.ensures)) all
-    (joined_inner_page c.self.inside.level c.right.inside.level left.low right.low left.high right.high left.side right.side c.self.inside.children.items c.right.inside.children.items meets c.self.invariant c.right.invariant)
+    (joined_inner_page c.self.inside.level c.right.inside.level left.low right.low left.high right.high left.side right.side c.self.inside.children c.right.inside.children meets c.self.invariant c.right.invariant)

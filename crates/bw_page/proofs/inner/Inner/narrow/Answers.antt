@@ -6,5 +6,5 @@ use Rattle.bw_page.proofs.inner.Inner.narrow.Goals as goal
 
 pub invariant_of-self : goal.invariant_of-self
 invariant_of-self c =
-    narrowed_inner_page c.self.inside.level c.self.inside.bounds _ c.args.high _ c.self.inside.children.items _ c.narrow.ensures c.keep_below.ensures
+    narrowed_inner_page c.self.inside.level c.self.inside.bounds _ c.args.high _ c.self.inside.children _ c.narrow.ensures c.keep_below.ensures
     (subst (λ (v : InnerView). T (is_below_end (Some c.args.high) v.low)) (sym c.self.view_is) c.requires) c.self.invariant

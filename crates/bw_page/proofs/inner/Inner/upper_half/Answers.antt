@@ -1,16 +1,18 @@
-use Rattle.std.proofs.Common.{◌∙◌, ◌<◌, ap, drop, length, arith}
-use Rattle.bw_page.specs.Inners.{InnerView}
-use Rattle.bw_page.specs.Pages.{BoundsView}
-use Rattle.bw_key.specs.Order.{KeyBytes}
-use Rattle.bw_page.proofs.Entries.{first_read, same_inner, upper_inner_page}
+use Rattle.std.proofs.Common.{◌∙◌, ap, slice_range}
+use Rattle.bw_page.proofs.InnerLemmas.{upper_inner_part}
+use Rattle.bw_page.proofs.MergingLemmas.{rest_is}
 use Rattle.bw_page.proofs.inner.Inner.upper_half.Goals as goal
 
 pub invariant_of-result : goal.invariant_of-result
 invariant_of-result c =
-    let bounds : BoundsView = c.self.inside.bounds in
-    let items = c.self.inside.children.items in
-    let there : c.args.keep < length items = omega (arith, c.requires, ap (λ (v : InnerView). length v.children) c.self.view_is) in
-    same_inner c.self.inside.level _ _ _ _
-    (c.in_ok-with_low.ensures ∙ ap (λ (k : KeyBytes). record bounds { low = k }) (c.in_ok-copy.ensures.ok ∙ first_read items c.args.keep c.index.result.now there c.index.ensures))
-    (c.in_ok-copy_from.ensures ∙ ap (drop c.args.keep) c.deref.ensures.value)
-    (upper_inner_page c.self.inside.level bounds.low bounds.high bounds.side items c.args.keep c.self.invariant there)
+    let children = c.self.inside.children in
+    let keep = c.args.keep in
+    let rest = c.in_ok-copy.ensures ∙ ap (λ n. slice_range children keep n) c.len.ensures ∙ rest_is keep children in
+    (upper_inner_part c.args.self.now c.self.inside.level c.self.inside.bounds children keep c.self.view_is c.requires c.in_ok-with_low.field-0 c.in_ok-separator.field-0 c.in_ok-copy.field-0 c.in_ok-separator.ensures c.in_ok-with_low.ensures rest c.self.invariant).rules
+
+pub returns : goal.returns
+returns c =
+    let children = c.self.inside.children in
+    let keep = c.args.keep in
+    let rest = c.in_ok-copy.ensures ∙ ap (λ n. slice_range children keep n) c.len.ensures ∙ rest_is keep children in
+    (upper_inner_part c.args.self.now c.self.inside.level c.self.inside.bounds children keep c.self.view_is c.requires c.in_ok-with_low.field-0 c.in_ok-separator.field-0 c.in_ok-copy.field-0 c.in_ok-separator.ensures c.in_ok-with_low.ensures rest c.self.invariant).view

@@ -11,6 +11,6 @@ over-requires c =
     let inner = c.args.self.now in
     let bounds : BoundsView = record { low = inner.low; high = inner.high; side = inner.side } in
     let rules = rules_of_view _ _ c.self.view_is c.self.invariant in
-    let there : c.in_ok-copy_with.field-0.items ≡ put key_cmp c.args.sep.now c.args.child inner.children =
-    c.in_ok-copy_with.ensures ∙ ap (put key_cmp c.args.sep.now c.args.child) (c.deref.ensures.value ∙ ap (λ (v : InnerView). v.children) c.self.view_is) in
+    let there : _ ≡ put key_cmp c.args.sep.now c.args.child inner.children =
+    c.in_ok-with.ensures ∙ ap (put key_cmp c.args.sep.now c.args.child) (ap (λ (v : InnerView). v.children) c.self.view_is) in
     same_inner inner.level bounds bounds _ _ refl there (put_inner_page inner.level inner.low inner.high inner.side c.args.sep.now c.args.child inner.children c.requires rules)

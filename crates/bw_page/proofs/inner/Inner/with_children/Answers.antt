@@ -11,6 +11,6 @@ over-requires c =
     let inner = c.args.self.now in
     let bounds : BoundsView = record { low = inner.low; high = inner.high; side = inner.side } in
     let rules = rules_of_view _ _ c.self.view_is c.self.invariant in
-    let there : c.in_ok-copy_with_all.field-0.items ≡ put_all c.args.entries.items inner.children =
-    c.in_ok-copy_with_all.ensures ∙ ap (put_all c.args.entries.items) (c.deref.ensures.value ∙ ap (λ (v : InnerView). v.children) c.self.view_is) in
-    same_inner inner.level bounds bounds _ _ refl there (inner_with_all inner.level inner.low inner.high inner.side c.args.entries.items inner.children c.requires.inside rules)
+    let there : _ ≡ put_all c.args.entries.now inner.children =
+    c.in_ok-with_all.ensures ∙ ap (put_all c.args.entries.now) (ap (λ (v : InnerView). v.children) c.self.view_is) in
+    same_inner inner.level bounds bounds _ _ refl there (inner_with_all inner.level inner.low inner.high inner.side c.args.entries.now inner.children c.requires.inside rules)
