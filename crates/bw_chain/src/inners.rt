@@ -42,7 +42,7 @@ impl Chains {
             unreachable!();
         };
         match base {
-            Page::Inner(inner) => inner_over(self.bases.allocator(), delta, inner),
+            Page::Inner(inner) => inner_over(delta, inner),
             Page::Leaf(_) | Page::Gone(_) => unreachable!(),
         }
     }

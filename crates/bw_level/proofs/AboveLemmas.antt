@@ -3,14 +3,14 @@ use Rattle.std.proofs.Common.{◌≡◌, ℕ, zero, suc, ◌-◌, ◌<◌, ◌�
 use Rattle.std.specs.List.{Contains}
 use Rattle.bw_key.specs.Order.{KeyBytes}
 use Rattle.bw_model.specs.Contents.{is_below_end}
-use Rattle.bw_page.specs.Inners.{IsUpto}
+use Rattle.bw_page.specs.Inners.{IsUpto, is_upto}
 use Rattle.bw_page.proofs.KeyLemmas.{below_self}
 use Rattle.bw_page.proofs.Truths.{not_holds}
 use Rattle.bw_level.specs.Before.{low_at}
 use Rattle.bw_level.specs.Levels.{AreLevels, IsHomeAt, IsReached, LeadsBelow, row}
 use Rattle.bw_level.specs.Searches.{Sought, level_at}
 use Rattle.bw_level.specs.Slots.{Slot, PageState, Body, Pairs, Children, Free, Gone, Live, IsSoundBody, IsSoundPage, children_of, left_of, left_of_slot, level_of, slot_at, slot_level}
-use Rattle.bw_level.specs.Targets.{IsLinked, StartsFrom, is_upto, lies_from}
+use Rattle.bw_level.specs.Targets.{IsLinked, StartsFrom, lies_from}
 use Rattle.bw_level.specs.Turns.{IsTurn, StartsUpto}
 use Rattle.bw_level.specs.declared.target.Target.{Target}
 use Rattle.bw_level.specs.Walk.{Leads}

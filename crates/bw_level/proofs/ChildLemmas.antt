@@ -6,11 +6,11 @@ use Rattle.std.specs.FinMap.{put}
 use Rattle.std.specs.FinMap.Entries.{by_order}
 use Rattle.std.specs.declared.cmp.Ordering.TheVariants.{Less, Equal, Greater}
 use Rattle.bw_key.specs.Order.{KeyBytes, key_cmp}
-use Rattle.bw_page.specs.Inners.{IsLastUpto, IsUpto}
+use Rattle.bw_page.specs.Inners.{IsLastUpto, IsUpto, is_upto}
 use Rattle.bw_page.proofs.Truths.{holds, holds_not, not_holds, true_holds}
 use Rattle.bw_page.proofs.KeyLemmas.{below_back, below_self, keys_tie, upto_trans}
 use Rattle.bw_level.specs.declared.target.Target.{Target}
-use Rattle.bw_level.specs.Targets.{IsChildFor, IsEntryFor, IsLastEntry, SeparatorsAgree, is_upto, lies_from}
+use Rattle.bw_level.specs.Targets.{IsChildFor, IsEntryFor, IsLastEntry, SeparatorsAgree, lies_from}
 
 different : true ≡ false → ⊥
 different e = cc

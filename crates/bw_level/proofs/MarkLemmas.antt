@@ -7,13 +7,13 @@ use Rattle.std.specs.Option.{option_copied}
 use Rattle.std.specs.Ordering.{is_lt}
 use Rattle.bw_key.specs.Order.{KeyBytes, key_cmp}
 use Rattle.bw_model.specs.Contents.{is_below_end}
-use Rattle.bw_page.specs.Inners.{IsUpto}
+use Rattle.bw_page.specs.Inners.{IsUpto, is_upto}
 use Rattle.bw_page.proofs.Truths.{holds, true_holds, holds_not}
 use Rattle.bw_page.proofs.KeyLemmas.{below_back, below_self, upto_trans}
 use Rattle.bw_level.specs.declared.target.Target.{Target}
 use Rattle.bw_level.specs.declared.target.Target.TheVariants.{Home, Before}
 use Rattle.bw_level.specs.Slots.{Slot, Free, Gone, Live, children_of, slot_at}
-use Rattle.bw_level.specs.Targets.{StandsFor, StandsOn, StandsOnAll, is_upto, lies_from}
+use Rattle.bw_level.specs.Targets.{StandsFor, StandsOn, StandsOnAll, lies_from}
 use Rattle.bw_level.proofs.TargetLemmas.{lies_before}
 
 not_there : (a : Bool) → a ≡ false → T (not a)

@@ -3,7 +3,7 @@ use Rattle.std.proofs.Common.{◌≡◌, ℕ, ◌+◌, ◌<◌, ◌≤◌, true,
 use Rattle.std.specs.Ordering.{is_lt}
 use Rattle.bw_key.specs.Order.{KeyBytes, key_cmp}
 use Rattle.bw_model.specs.Contents.{is_below_end}
-use Rattle.bw_page.specs.Inners.{InnerView, IsInner, IsLastUpto}
+use Rattle.bw_page.specs.Inners.{InnerView, IsInner, IsLastUpto, is_upto}
 use Rattle.bw_page.specs.Pages.{BeginsAt}
 use Rattle.bw_page.proofs.Truths.{holds, true_holds, holds_not}
 use Rattle.bw_page.proofs.KeyLemmas.{below_upto}
@@ -13,7 +13,7 @@ use Rattle.bw_level.specs.Slots.{Slot, PageState, Body, Pairs, Children, Free, G
 use Rattle.bw_level.specs.Levels.{AreLevels, row}
 use Rattle.bw_level.specs.Scans.{Reaches}
 use Rattle.bw_level.specs.Before.{IsBefore}
-use Rattle.bw_level.specs.Targets.{AreAtHome, IsLinked, IsTurnFor, SeparatorsAgree, StandsFor, StandsOn, StandsOnAll, StartsFrom, is_upto, lies_from, lies_past}
+use Rattle.bw_level.specs.Targets.{AreAtHome, IsLinked, IsTurnFor, SeparatorsAgree, StandsFor, StandsOn, StandsOnAll, StartsFrom, lies_from, lies_past}
 use Rattle.bw_level.specs.Turns.{IsTurn, StartsUpto}
 use Rattle.bw_level.specs.Searches.{IsInLevels, IsPlaceFor, IsSearching, Sought, plain_inner}
 use Rattle.bw_level.proofs.RowLemmas.{in_row}

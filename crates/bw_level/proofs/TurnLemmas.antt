@@ -4,7 +4,7 @@ use Rattle.std.specs.List.{Contains}
 use Rattle.std.specs.Ordering.{is_lt}
 use Rattle.bw_key.specs.Order.{KeyBytes, key_cmp}
 use Rattle.bw_model.specs.Contents.{is_below_end}
-use Rattle.bw_page.specs.Inners.{IsLastUpto}
+use Rattle.bw_page.specs.Inners.{IsLastUpto, is_upto}
 use Rattle.bw_page.proofs.Truths.{holds}
 use Rattle.bw_page.proofs.KeyLemmas.{below_upto, upto_below}
 use Rattle.bw_page.specs.Pages.{below}
@@ -19,7 +19,7 @@ use Rattle.bw_level.specs.Slots.{Slot, PageState, Body, Pairs, Children, Free, G
 use Rattle.bw_level.specs.Changes.{Bases, change, body_below}
 use Rattle.bw_level.specs.Scans.{high_of}
 use Rattle.bw_level.specs.Turns.{IsTurn, IsWithin, slot_without_writes, body_without_writes}
-use Rattle.bw_level.specs.Targets.{IsLinked, IsTurnFor, IsWithinFor, SeparatorsAgree, StandsFor, StandsOn, is_upto, lies_from, lies_past}
+use Rattle.bw_level.specs.Targets.{IsLinked, IsTurnFor, IsWithinFor, SeparatorsAgree, StandsFor, StandsOn, lies_from, lies_past}
 use Rattle.bw_level.proofs.ChangeLemmas.{as_it_is}
 use Rattle.bw_level.proofs.TargetLemmas.{holds_not, lies_no_more}
 

@@ -6,17 +6,13 @@ use Rattle.std.specs.Option.{option_copied}
 use Rattle.std.specs.Ordering.{is_lt}
 use Rattle.bw_key.specs.Order.{KeyBytes, key_cmp}
 use Rattle.bw_model.specs.Contents.{is_below_end}
-use Rattle.bw_page.specs.Inners.{IsLastUpto, IsUpto}
+use Rattle.bw_page.specs.Inners.{IsLastUpto, IsUpto, is_upto}
 use Rattle.bw_level.specs.declared.target.Target.{Target}
 use Rattle.bw_level.specs.declared.target.Target.TheVariants.{Home, Before}
 use Rattle.bw_level.specs.declared.turns.Turn.{Turn}
 use Rattle.bw_level.specs.Slots.{Slot, Free, Gone, Live, slot_at, children_of}
 use Rattle.bw_level.specs.Levels.{IsHome}
 use Rattle.bw_level.specs.Turns.{IsTurn, IsWithin}
-
--- the first key isn't above the second
-abbrev pub is_upto : KeyBytes → KeyBytes → Bool
-is_upto a b = not (is_lt (key_cmp b a))
 
 -- what is sought lies at this key or behind it
 abbrev pub lies_from : Target → KeyBytes → Bool

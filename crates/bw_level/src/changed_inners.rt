@@ -9,13 +9,12 @@ ghost use Rattle.bw_level.specs.Turns.{IsNoWrite, over};
 
 use bw_delta::Delta;
 use bw_key::{Key, Memory};
-use bw_memory::Alloc;
-use bw_page::{Inner, PageId};
+use bw_page::{Children, Inner, PageId};
 
 /// What a change, if there is one, makes of an inner page, as a page by itself. The change isn't a write. It costs a
 /// copy of each child that is left. `Memory` is answered where the list of the children or the copy of a key finds
 /// none.
-pub fn inner_over(alloc: Alloc, delta: Option<&Delta>, base: &Inner) -> Result<Inner, Memory>
+pub fn inner_over(delta: Option<&Delta>, base: &Inner) -> Result<Inner, Memory>
     requires other { IsNoWrite delta }
     requires sound { (bases : Bases) → IsSoundInner (over bases delta (plain_inner base.now)) }
     ensures { IfOk result (λ inner. (bases : Bases) →
@@ -25,7 +24,7 @@ pub fn inner_over(alloc: Alloc, delta: Option<&Delta>, base: &Inner) -> Result<I
         return base.upper_half(0);
     };
     match delta {
-        Delta::Split { sep, to } => lower_part(alloc, base, sep, *to),
+        Delta::Split { sep, to } => lower_part(base, sep, *to),
         Delta::AddChild { sep, child } => base.with_child(sep, *child),
         Delta::Absorb { .. } | Delta::DropChild { .. } => base.upper_half(0),
         _ => unreachable!(),
@@ -33,30 +32,20 @@ pub fn inner_over(alloc: Alloc, delta: Option<&Delta>, base: &Inner) -> Result<I
 }
 
 // The part of an inner page below a separator, with this right neighbour.
-fn lower_part(alloc: Alloc, base: &Inner, sep: &Key, side: PageId) -> Result<Inner, Memory>
+fn lower_part(base: &Inner, sep: &Key, side: PageId) -> Result<Inner, Memory>
     requires { IsInner base.now.level base.now.low (Some sep.now) (Some side) (below sep.now base.now.children) }
     ensures { IfOk result (λ part. part
         ≡ record base.now { high = Some sep.now; side = Some side; children = below sep.now base.now.children }) }
 {
-    let children = children_below(alloc, base.children(), sep)?;
+    let children = children_below(base, sep)?;
     let low = base.low().copy()?;
     Ok(Inner::from_children(base.level(), low, Some(sep.copy()?), Some(side), children))
 }
 
-// The children below a separator again.
-fn children_below(
-    alloc: Alloc,
-    children: &[(Key, PageId)],
-    sep: &Key,
-) -> Result<Vec<(Key, PageId), Alloc>, Memory>
-    ensures { IfOk result (λ kept. kept.items ≡ below sep.now children.now) }
+// The children of an inner page below a separator, in a list of their own.
+fn children_below(inner: &Inner, sep: &Key) -> Result<Children, Memory>
+    ensures { IfOk result (λ kept. kept ≡ below sep.now inner.now.children) }
 {
-    let mut kept = Vec::with_capacity(alloc, children.len())?;
-    for child in children {
-        if child.0 >= *sep {
-            continue;
-        }
-        kept.push((child.0.copy()?, child.1))?;
-    }
-    Ok(kept)
+    let children = inner.children();
+    children.copy(0..children.place(sep))
 }

@@ -28,7 +28,7 @@ pub fn leaf_end_over<'a>(
     };
     match delta {
         Delta::Split { sep, .. } => {
-            if target.lies_from(sep) {
+            if target.lies_from(sep.bytes()) {
                 return None;
             }
             Some(Some(sep))
@@ -51,7 +51,7 @@ pub fn leaf_end_plain<'a>(base: &'a Page, target: Target<'_>) -> Option<Option<&
     let Some(high) = leaf.high() else {
         return Some(None);
     };
-    if target.lies_from(high) {
+    if target.lies_from(high.bytes()) {
         return None;
     }
     Some(Some(high))

@@ -19,7 +19,13 @@ pub fn child_in_place(base: Option<&Page>, place: usize) -> Option<PageId>
     ensures { result ≡ slot_child place (plain_at base.entry) }
 {
     match base? {
-        Page::Inner(inner) => Some(inner.children().get(place)?.1),
+        Page::Inner(inner) => {
+            let children = inner.children();
+            if place >= children.len() {
+                return None;
+            }
+            Some(children.child(place))
+        }
         Page::Leaf(_) | Page::Gone(_) => None,
     }
 }
@@ -56,9 +62,10 @@ fn child_in(inner: &Inner, key: &Key, child: PageId) -> bool
     ensures there { Decides result (HasChildAt (plain_inner inner.now) key.now child) }
     ensures sorted { T (is_sorted key_cmp inner.now.children) }
 {
-    let entry = Target::Home(key).last_entry(inner);
-    if entry.0 != *key {
+    let children = inner.children();
+    let place = Target::Home(key).last_place(inner);
+    if children.separator(place) != key.bytes() {
         return false;
     }
-    entry.1.0 == child.0
+    children.child(place).0 == child.0
 }

@@ -10,7 +10,7 @@ ghost use Rattle.bw_delta.specs.declared.deltas.Delta.TheVariants.{AddChild, Spl
 
 use bw_delta::Delta;
 use bw_key::Key;
-use bw_page::{Leaf, Page, PageId, place};
+use bw_page::{Children, Inner, Leaf, Page, place};
 
 /// How many pairs or children a base page has with one change over it, which isn't a write. A page that was removed
 /// has none. It costs a binary search where the change is a split or an added child, and takes no memory.
@@ -43,7 +43,7 @@ fn count_split(sep: &Key, base: &Page) -> usize
 {
     match base {
         Page::Leaf(leaf) => count_pairs_below(leaf, sep),
-        Page::Inner(inner) => count_below(inner.children(), sep),
+        Page::Inner(inner) => count_children_below(inner, sep),
         Page::Gone(_) => 0,
     }
 }
@@ -67,22 +67,20 @@ fn count_pairs_below(leaf: &Leaf, key: &Key) -> usize
     place(&leaf.pairs().all(), key)
 }
 
-// How many children have a separator below this one, in about log2 n key comparisons.
-fn count_below(children: &[(Key, PageId)], key: &Key) -> usize
-    requires { T (is_sorted key_cmp children.now) }
-    ensures value { result ≡ length (below key.now children.now) }
-    ensures bound { result ≤ length children.now }
+// How many children of an inner page have a separator below this key, in about log2 n key comparisons.
+fn count_children_below(inner: &Inner, key: &Key) -> usize
+    ensures { result ≡ length (below key.now inner.now.children) }
 {
-    children.partition_point(|entry| entry.0 < *key)
+    inner.children().place(key)
 }
 
 // How many children there are with one at this separator.
-fn count_with(children: &[(Key, PageId)], sep: &Key) -> usize
+fn count_with(children: &Children, sep: &Key) -> usize
     requires { T (is_sorted key_cmp children.now) }
     ensures { (child : ℕ) → result ≡ length (put key_cmp sep.now child children.now) }
 {
-    let place = count_below(children, sep);
-    if place < children.len() && children[place].0 == *sep {
+    let place = children.place(sep);
+    if place < children.len() && children.separator(place) == sep.bytes() {
         return children.len();
     }
     children.len() + 1

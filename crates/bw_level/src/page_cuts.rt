@@ -24,7 +24,7 @@ pub fn cut(base: &mut Page, keep: usize) -> Result<(Key, Page), Memory>
             Ok((sep, Page::Leaf(leaf.cut(keep)?)))
         }
         Page::Inner(inner) => {
-            let sep = inner.children()[keep].0.copy()?;
+            let sep = inner.separator(keep)?;
             Ok((sep, Page::Inner(inner.cut(keep)?)))
         }
         Page::Gone(_) => unreachable!(),

@@ -1,14 +1,14 @@
 // What a search is for.
-ghost use Rattle.std.specs.Prelude.{◌≡◌, ◌<◌, ◌≤◌, T, length, is_some};
+ghost use Rattle.std.specs.Prelude.{◌≡◌, ℕ, ◌-◌, ◌<◌, ◌≤◌, T, length, is_some, slice_index_or, slice_range};
 ghost use Rattle.std.specs.Option.{option_copied};
 ghost use Rattle.std.specs.FinMap.{is_sorted, put};
-ghost use Rattle.bw_key.specs.Order.{key_cmp};
+ghost use Rattle.bw_key.specs.Order.{KeyBytes, key_cmp};
 ghost use Rattle.bw_level.specs.Searches.{IsFromPlace, IsPlaceFor, IsStretch};
 ghost use Rattle.bw_level.specs.Targets.{IsChildFor, IsEntryFor, IsPast, PartsChildren, lies_from};
 
 use bw_key::Key;
-use bw_model::is_below;
-use bw_page::{Inner, PageId};
+use bw_page::{Children, Inner, PageId};
+use std::ops::Range;
 
 /// The leaf that a search is for. On its way down it asks of a page's end and of separators only on which side of them
 /// the leaf lies.
@@ -22,12 +22,13 @@ pub enum Target<'a> {
 
 impl Target<'_> {
     /// Whether it lies at a key or behind it.
-    pub(crate) fn lies_from(self, at: &Key) -> bool
+    pub(crate) fn lies_from(self, at: &[u8]) -> bool
         ensures { result ≡ lies_from self.entry at.now }
     {
         match self {
-            Target::Home(key) => *key >= *at,
-            Target::Before(end) => is_below(at, end),
+            Target::Home(key) => key.bytes().cmp(&at).is_ge(),
+            Target::Before(Some(end)) => at.cmp(&end.bytes()).is_lt(),
+            Target::Before(None) => true,
         }
     }
 
@@ -37,7 +38,7 @@ impl Target<'_> {
         ensures { IsPast self.entry (option_copied high.entry) side result }
     {
         match high {
-            Some(high) if self.lies_from(high) => side,
+            Some(high) if self.lies_from(high.bytes()) => side,
             _ => None,
         }
     }
@@ -47,7 +48,7 @@ impl Target<'_> {
         requires { T (lies_from self inner.now.low) }
         ensures { IsChildFor self.entry inner.now.children result }
     {
-        self.last_entry(inner).1
+        inner.children().child(self.last_place(inner))
     }
 
     /// The same where an inner page has a further child at a separator, in place of one that stands there. It takes at
@@ -56,21 +57,24 @@ impl Target<'_> {
         requires { T (lies_from self inner.now.low) }
         ensures { IsChildFor self.entry (put key_cmp sep.now child inner.now.children) result }
     {
-        let last = self.last_entry(inner);
-        if !self.lies_from(sep) || *sep < last.0 {
-            return last.1;
+        let children = inner.children();
+        let last = self.last_place(inner);
+        if !self.lies_from(sep.bytes()) || sep.bytes().cmp(&children.separator(last)).is_lt() {
+            return children.child(last);
         }
         child
     }
 
-    /// The last separator that this isn't before, with its child.
-    pub(crate) fn last_entry<'i>(self, inner: &'i Inner) -> &'i (Key, PageId)
+    /// The place of the last separator that this isn't before.
+    pub(crate) fn last_place(self, inner: &Inner) -> usize
         requires { T (lies_from self inner.now.low) }
-        ensures entry { IsEntryFor self.entry inner.now.children result.now }
+        ensures within { result < length inner.now.children }
+        ensures entry { (d : KeyBytes × ℕ) →
+            IsEntryFor self.entry inner.now.children (slice_index_or inner.now.children result d) }
         ensures sorted { T (is_sorted key_cmp inner.now.children) }
     {
         let children = inner.children();
-        &children[self.count(children) - 1]
+        self.count(children) - 1
     }
 
     /// The place of the child with the last separator that this isn't before, if there is one. The search goes on from a
@@ -83,21 +87,21 @@ impl Target<'_> {
     }
 
     // How many children, from the first on, have a separator that this isn't before, found from a place on.
-    fn count_from(self, children: &[(Key, PageId)], from: usize) -> usize
+    fn count_from(self, children: &Children, from: usize) -> usize
         requires { T (is_sorted key_cmp children.now) }
         ensures parts { PartsChildren self.entry children.now result }
         ensures bound { result ≤ length children.now }
     {
-        if from >= children.len() || !self.lies_from(&children[from].0) {
+        if from >= children.len() || !self.lies_from(children.separator(from)) {
             return self.count(children);
         }
         let (start, end) = self.stretch(children, from);
-        start + self.count(&children[start..end])
+        start + self.count_in(children, start..end)
     }
 
     // The places between which the first separator is that this is before, by steps from a place on, each of which is
     // twice the one before it.
-    fn stretch(self, children: &[(Key, PageId)], from: usize) -> (usize, usize)
+    fn stretch(self, children: &Children, from: usize) -> (usize, usize)
         requires sorted { T (is_sorted key_cmp children.now) }
         requires there { from < length children.now }
         requires from { IsFromPlace self children.now from }
@@ -110,7 +114,7 @@ impl Target<'_> {
             if next >= children.len() {
                 return (last + 1, children.len());
             }
-            if !self.lies_from(&children[next].0) {
+            if !self.lies_from(children.separator(next)) {
                 return (last + 1, next);
             }
             last = next;
@@ -119,11 +123,28 @@ impl Target<'_> {
     }
 
     // How many children, from the first on, have a separator that this isn't before.
-    fn count(self, children: &[(Key, PageId)]) -> usize
+    fn count(self, children: &Children) -> usize
         requires { T (is_sorted key_cmp children.now) }
         ensures parts { PartsChildren self.entry children.now result }
         ensures bound { result ≤ length children.now }
     {
-        children.partition_point(|child| self.lies_from(&child.0))
+        self.count_in(children, 0..children.len())
+    }
+
+    // The same of a range of places.
+    fn count_in(self, children: &Children, range: Range<usize>) -> usize
+        requires sorted { T (is_sorted key_cmp children.now) }
+        requires ordered { range.start ≤ range.end }
+        requires within { range.end ≤ length children.now }
+        ensures parts { PartsChildren self.entry (slice_range children.now range.start range.end) result }
+        ensures bound { result ≤ range.end - range.start }
+    {
+        match self {
+            Target::Home(key) => children.place_behind(range, key),
+            Target::Before(end) => match end {
+                Some(end) => children.place_in(range, end),
+                None => range.end - range.start,
+            },
+        }
     }
 }

@@ -44,7 +44,7 @@ fn turn_split(sep: &Key, to: PageId, base: &Page, target: Target<'_>) -> Turn
     requires { StartsFrom (plain base.now) target }
     ensures { (bases : Bases) → IsTurnFor target.entry (change bases (Split sep.now to) (plain base.now)) result }
 {
-    if !target.lies_from(sep) {
+    if !target.lies_from(sep.bytes()) {
         return turn_within(base, target);
     }
     match base {

@@ -91,7 +91,8 @@ impl<E: Copy> Packed<E> {
 
     /// How many entries there are.
     pub fn len(&self) -> usize
-        ensures { result ≡ length self.now }
+        ensures value { result ≡ length self.now }
+        ensures limit { result < 2 ^ 63 }
     {
         self.entries.len()
     }

@@ -1,5 +1,5 @@
 // The children of inner pages.
-ghost use Rattle.std.specs.Prelude.{◌≡◌, ℕ, ◌+◌, ◌-◌, ◌<◌, ◌≤◌, [], ◌∷◌, ◌++◌, List, drop, filter, length, not, slice_index_or, slice_range, take, IfOk, OnErr, OnOk, T};
+ghost use Rattle.std.specs.Prelude.{◌≡◌, ℕ, ◌-◌, ◌^◌, ◌<◌, ◌≤◌, [], ◌∷◌, ◌++◌, List, drop, filter, length, not, slice_index_or, slice_range, take, IfOk, OnErr, OnOk, T};
 ghost use Rattle.std.specs.FinMap.{is_sorted, put};
 ghost use Rattle.std.specs.Ordering.{is_lt};
 ghost use Rattle.bw_key.specs.Order.{KeyBytes, key_cmp, key_eq};
@@ -67,7 +67,8 @@ impl Children {
 
     /// How many children there are.
     pub fn len(&self) -> usize
-        ensures { result ≡ length self.now }
+        ensures value { result ≡ length self.now }
+        ensures limit { result < 2 ^ 63 }
     {
         self.entries.len()
     }

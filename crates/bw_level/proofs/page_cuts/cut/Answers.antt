@@ -15,3 +15,13 @@ returns-in_ok-cut-in-Leaf-clause-separator c =
     c.in_ok-sep-in-Leaf.ensures ([], [])
     ∙ first_read pairs keep (get_or pairs keep ([], [])) there (read_at pairs keep ([], []) there)
     ∙ ap (λ (p : Page). slot_separator keep (plain p)) (sym c.in-Leaf.is)
+
+pub returns-in_ok-cut-in-Inner-clause-separator : goal.returns-in_ok-cut-in-Inner-clause-separator
+returns-in_ok-cut-in-Inner-clause-separator c =
+    let children = c.in-Inner.inner.children in
+    let keep = c.args.keep in
+    let many : slot_entries (plain c.args.base.now) ≡ length children = ap (λ (p : Page). slot_entries (plain p)) c.in-Inner.is in
+    let there : keep < length children = omega (arith, c.requires.fewer, many) in
+    c.in_ok-sep-in-Inner.ensures ([], 0)
+    ∙ first_read children keep (get_or children keep ([], 0)) there (read_at children keep ([], 0) there)
+    ∙ ap (λ (p : Page). slot_separator keep (plain p)) (sym c.in-Inner.is)

@@ -15,9 +15,9 @@ returns-clause-ok c =
     let n = c.place_in.result in
     let rest = drop passed all in
     let sorted = sorted_drop passed all c.requires.sorted in
-    let behind = ap (λ i. slice_range all passed i) c.len.ensures ∙ rest_is passed all in
+    let behind = ap (λ i. slice_range all passed i) c.len.ensures.value ∙ rest_is passed all in
     let ends = subst (λ (l : List (KeyBytes × ℕ)). EndsAt (is_before key) l n) behind c.place_in.ensures.parts in
-    let place : n ≡ place_of key rest = parts_at key rest n sorted (omega (arith, c.place_in.ensures.bound, c.len.ensures, length-drop passed all)) (ends (parted key rest sorted)) in
+    let place : n ≡ place_of key rest = parts_at key rest n sorted (omega (arith, c.place_in.ensures.bound, c.len.ensures.value, length-drop passed all)) (ends (parted key rest sorted)) in
     let back : (passed + n) - passed ≡ n = omega arith in
     entry_added c.args.self.now _ c.push.new.self all passed n c.behind.result c.args.entry.now place
     (λ child. ap (λ i. (take i rest ++ (key, child) ∷ []) ++ drop c.behind.result all) (sym back) ∙ c.behind.ensures.put passed (omega arith) (back ∙ place) child)

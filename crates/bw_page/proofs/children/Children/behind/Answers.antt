@@ -8,7 +8,7 @@ pub returns-then-eq-clause-put : goal.returns-then-eq-clause-put
 returns-then-eq-clause-put c start from at child =
     let all = c.args.self.now in
     let x = get_or all c.args.at ([], 0) in
-    let there : c.args.at < _ = omega (arith, c.if-at-len.true, c.len.ensures) in
+    let there : c.args.at < _ = omega (arith, c.if-at-len.true, c.len.ensures.value) in
     put_over_from c.args.key.now child all start c.args.at x from at there (read_at all c.args.at ([], 0) there)
     (reads_key c.args.key.now x _ _ _ true (c.separator.ensures ([], 0)) c.bytes.ensures.value c.eq.ensures c.if-eq.true)
 
@@ -20,5 +20,5 @@ returns-else-at-len-clause-put c start from at child =
       | else-at-len-via-then-at-len+else-eq w ↦
           let x = get_or all c.args.at ([], 0) in
           (x, read_at all c.args.at ([], 0) lt, reads_key c.args.key.now x _ _ _ false (w.separator.ensures ([], 0)) w.bytes.ensures.value w.eq.ensures w.if-eq.false)
-      | else-at-len-via-else-at-len w ↦ absurd (omega (arith, lt, c.len.ensures, w.if-at-len.false))
+      | else-at-len-via-else-at-len w ↦ absurd (omega (arith, lt, c.len.ensures.value, w.if-at-len.false))
     ])

@@ -10,7 +10,7 @@ returns-then-eq c =
     let all = c.args.self.now in
     let at = c.place-at.result in
     let x = get_or all at ([], 0) in
-    let there : at < _ = omega (arith, c.if-at-len.true, c.len.ensures) in
+    let there : at < _ = omega (arith, c.if-at-len.true, c.len.ensures.value) in
     c.remove.ensures ∙ ap (λ l. remove l at) c.self.view_is
     ∙ sym (without_there c.args.sep.now all at x c.requires c.place-at.ensures.value there (read_at all at ([], 0) there)
     (reads_key c.args.sep.now x _ _ _ true (c.separator.ensures ([], 0)) c.bytes.ensures.value c.eq.ensures c.if-eq.true))
@@ -24,5 +24,5 @@ returns-else-at-len c =
       | else-at-len-via-then-at-len+else-eq w ↦
           let x = get_or all at ([], 0) in
           (x, read_at all at ([], 0) lt, reads_key c.args.sep.now x _ _ _ false (w.separator.ensures ([], 0)) w.bytes.ensures.value w.eq.ensures w.if-eq.false)
-      | else-at-len-via-else-at-len w ↦ absurd (omega (arith, lt, c.len.ensures, w.if-at-len.false))
+      | else-at-len-via-else-at-len w ↦ absurd (omega (arith, lt, c.len.ensures.value, w.if-at-len.false))
     ]))

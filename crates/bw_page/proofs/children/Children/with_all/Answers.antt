@@ -22,7 +22,7 @@ returns c =
     let own = c.args.self.now in
     let more = c.args.more.now in
     c.shrink_to_fit.ensures ∙ c.all.view_is ∙ c.in_ok-extend.ensures.ok
-    ∙ ap (λ n. c.loop-entry.all ++ slice_range own c.loop-entry.passed n) c.len-2.ensures
+    ∙ ap (λ n. c.loop-entry.all ++ slice_range own c.loop-entry.passed n) c.len-2.ensures.value
     ∙ ap (λ l. c.loop-entry.all ++ l) (rest_is c.loop-entry.passed own)
     ∙ c.loop-entry.invariant.is
     ∙ ap (λ l. put_all l own) (take_all c.loop-entry.entry-index more (omega (arith, c.loop-entry-test.false)))
