@@ -118,7 +118,7 @@ impl<'a> Routes<'a> {
         let inner = self.kept(key)?;
         let place = Target::Home(key).place_from(inner, self.place)?;
         self.place = place;
-        Some(inner.children()[place].1)
+        Some(inner.children().child(place))
     }
 
     // The page that is kept, where its range doesn't end before the key.

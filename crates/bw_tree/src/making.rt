@@ -4,20 +4,20 @@ ghost use Rattle.std.specs.List.{AllByRecursion};
 ghost use Rattle.bw_look.specs.PageStates.{HasRules};
 ghost use Rattle.bw_tree.specs.Making.{base_of_leaf, count_from, terms_from};
 
-use bw_key::{Key, Memory};
+use bw_key::Memory;
 use bw_memory::Alloc;
-use bw_page::{Leaf, Page, PageId};
+use bw_page::{Children, Leaf, Page, PageId};
 use bw_segment::Segmented;
 
 /// The separators of a root over leaves: their low keys, each with the place of its leaf.
-pub(crate) fn separators(alloc: Alloc, leaves: &[Leaf]) -> Result<Vec<(Key, PageId), Alloc>, Memory>
+pub(crate) fn separators(alloc: Alloc, leaves: &[Leaf]) -> Result<Children, Memory>
     requires { length leaves.now ≤ 2 ^ 32 }
-    ensures items { IfOk result (λ children. children.items ≡ terms_from 0 leaves.now) }
+    ensures items { IfOk result (λ children. children ≡ terms_from 0 leaves.now) }
     ensures rules { OnOk result (AllByRecursion HasRules leaves.now) }
 {
-    let mut children = Vec::with_capacity(alloc, leaves.len())?;
+    let mut children = Children::with_capacity(alloc, leaves.len(), 0)?;
     for (place, leaf) in leaves.iter().enumerate() {
-        children.push((leaf.low().copy()?, PageId(place as u32)))?;
+        children.push(leaf.low(), PageId(place as u32))?;
     }
     Ok(children)
 }

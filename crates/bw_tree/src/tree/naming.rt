@@ -22,8 +22,8 @@ impl Tree {
     ///
     /// The children as they stand and the entries become the page's base page, and no record stands over it any more. There is
     /// a record more for each entry all the same, which no chain names: records are counted as `set_child` makes them. It
-    /// costs a copy of the page's children, a second one where it had a record, and a binary search and a copy of the key for
-    /// each entry. After `Memory` the tree is as before.
+    /// costs a copy of the page's children, a second one where it had a record, and a binary search for each entry. After
+    /// `Memory` the tree is as before.
     pub fn name_all(
         &mut self,
         parent: PageId,
@@ -36,8 +36,8 @@ impl Tree {
         ensures ok { OnOk result (AreNamed self.old self.new parent entries.entry.items) }
         ensures err { OnErr result (self.new ≡ self.old) }
     {
-        let deltas = added_children(*self.heads.allocator(), &entries)?;
-        let page = self.inner_with(parent, entries)?;
+        let page = self.inner_with(parent, &entries)?;
+        let deltas = added_children(*self.heads.allocator(), entries)?;
         let head = self.heads[parent.0 as usize];
         self.chains.add_records(deltas, head)?;
         self.chains.replace_base(parent, Page::Inner(page));
@@ -46,16 +46,12 @@ impl Tree {
     }
 
     // An inner page with these entries among its children.
-    fn inner_with(
-        &self,
-        parent: PageId,
-        entries: Vec<(Key, PageId), Alloc>,
-    ) -> Result<Inner, Memory>
+    fn inner_with(&self, parent: PageId, entries: &[(Key, PageId)]) -> Result<Inner, Memory>
         requires page { IsInnerPage self.now parent }
-        requires rising { T (is_sorted key_cmp entries.items) }
-        requires fit { MayHaveChildren self.now parent entries.items }
+        requires rising { T (is_sorted key_cmp entries.now) }
+        requires fit { MayHaveChildren self.now parent entries.now }
         ensures { IfOk result (λ page. (was : PageState) → slot_at self.now.slots parent ≡ Live was →
-            plain_inner page ≡ Live (state_with_children entries.entry.items was)) }
+            plain_inner page ≡ Live (state_with_children entries.now was)) }
     {
         let tree = self.look();
         match tree.inner(parent) {
@@ -66,15 +62,15 @@ impl Tree {
 }
 
 // The changes by which a page is given these children, one for each.
-fn added_children(alloc: Alloc, entries: &[(Key, PageId)]) -> Result<Vec<Delta, Alloc>, Memory>
-    ensures { IfOk result (λ deltas. deltas.items ≡ map (λ e. AddChild e.0 e.1) entries.now) }
+fn added_children(
+    alloc: Alloc,
+    entries: Vec<(Key, PageId), Alloc>,
+) -> Result<Vec<Delta, Alloc>, Memory>
+    ensures { IfOk result (λ deltas. deltas.items ≡ map (λ e. AddChild e.0 e.1) entries.entry.items) }
 {
     let mut deltas = Vec::with_capacity(alloc, entries.len())?;
-    for entry in entries {
-        deltas.push(Delta::AddChild {
-            sep: entry.0.copy()?,
-            child: entry.1,
-        })?;
+    for (sep, child) in entries {
+        deltas.push(Delta::AddChild { sep, child })?;
     }
     Ok(deltas)
 }

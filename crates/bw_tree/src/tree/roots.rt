@@ -7,7 +7,7 @@ use super::Tree;
 use crate::mapping_words::put_own;
 use bw_key::{Key, Memory};
 use bw_memory::Alloc;
-use bw_page::{Inner, Page, PageId};
+use bw_page::{Children, Inner, Page, PageId};
 
 impl Tree {
     ghost use Rattle.bw_tree.specs.TreeRoots.{HasNewRoot, IsOverRoot};
@@ -65,16 +65,11 @@ impl Tree {
 }
 
 // A child for the keys below this one, and one for those from there on.
-fn two_children(
-    alloc: Alloc,
-    left: PageId,
-    key: &Key,
-    right: PageId,
-) -> Result<Vec<(Key, PageId), Alloc>, Memory>
-    ensures { IfOk result (λ children. children.items ≡ two_children left key.now right) }
+fn two_children(alloc: Alloc, left: PageId, key: &Key, right: PageId) -> Result<Children, Memory>
+    ensures { IfOk result (λ children. children ≡ two_children left key.now right) }
 {
-    let mut children = Vec::with_capacity(alloc, 2)?;
-    children.push((Key::new(alloc, &[]).unwrap(), left))?;
-    children.push((key.copy()?, right))?;
+    let mut children = Children::with_capacity(alloc, 2, key.bytes().len())?;
+    children.push(&Key::new(alloc, &[]).unwrap(), left)?;
+    children.push(key, right)?;
     Ok(children)
 }

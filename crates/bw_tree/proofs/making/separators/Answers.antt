@@ -4,6 +4,6 @@ use Rattle.bw_tree.proofs.making.separators.Goals as goal
 
 pub loop-place-preserved : goal.loop-place-preserved
 loop-place-preserved c = record {
-  items = terms_more c.loop-place.children.items c.push.new.self.items c.args.leaves.now c.loop-place.place c.index-leaves-place.result c.in_ok-copy.field-0 c.loop-place-test.true c.index-leaves-place.is (c.in_ok-copy.ensures.ok ∙ c.low.ensures.value) c.in_ok-push.ensures.items c.loop-place.invariant.items;
+  items = terms_more c.loop-place.children c.push.new.self c.args.leaves.now c.loop-place.place c.index-leaves-place.result c.low.result.now c.loop-place-test.true c.index-leaves-place.is c.low.ensures.value c.in_ok-push.ensures.ok c.loop-place.invariant.items;
   rules = rules_more c.args.leaves.now c.loop-place.place c.index-leaves-place.result c.loop-place-test.true c.index-leaves-place.is c.low.ensures.rules c.loop-place.invariant.rules;
 }

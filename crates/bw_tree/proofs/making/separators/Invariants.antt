@@ -6,6 +6,6 @@ use Rattle.bw_tree.proofs.making.separators.Given as goal
 
 abbrev pub invariant-loop-place : goal.invariant-loop-place
 invariant-loop-place l = record {
-  items : l.children.items ≡ terms_from 0 (take l.place l.leaves);
+  items : l.children ≡ terms_from 0 (take l.place l.leaves);
   rules : AllByRecursion HasRules (take l.place l.leaves);
 }

@@ -25,5 +25,5 @@ returns c =
     let at = page_at_head c.self.inside.heads.now.items c.self.inside.chains.now.bases c.self.inside.chains.now.records c.self.inside.root c.self.inside.next _ c.self.inside.staged.now _ c.args.page c.index.result.now c.self.view_is c.self.invariant.now (raised_page c.args.self.now c.args.level c.args.page c.requires.page c.requires.inner).in_levels
     (c.index.ensures ∙ ap (λ n. get_or c.self.inside.heads.now.items n c.index.result.now) c.page.view_is) in
     if_same c.shape_from.result _ _
-    (inner_shape c.args.self.now c.args.level c.args.page c.in_ok-inner.inner c.low.result.now (option_copied c.high.result) (length c.children.result.now) (at.slot ∙ c.in_ok-inner.ensures) c.low.ensures c.high.ensures (ap length c.children.ensures.value))
+    (inner_shape c.args.self.now c.args.level c.args.page c.in_ok-inner.inner c.low.result.now (option_copied c.high.result) c.len.result (at.slot ∙ c.in_ok-inner.ensures) c.low.ensures c.high.ensures (c.len.ensures.value ∙ ap length c.children.ensures.value))
     c.shape_from.ensures

@@ -17,7 +17,7 @@ pub from_children-root-requires : goal.from_children-root-requires
 from_children-root-requires c =
     let leaves = c.args.leaves.items in
     let low : c.unwrap-low.result ≡ [] = search rules in
-    subst (λ (k : KeyBytes). IsInner 1 k _ _ c.in_ok-children.children.items) (sym low)
+    subst (λ (k : KeyBytes). IsInner 1 k _ _ c.in_ok-children.children) (sym low)
     (subst (λ (cs : List _). IsInner 1 [] _ _ cs) (sym (c.in_ok-children.ensures.items ∙ ap (terms_from 0) c.deref.ensures.value))
     (root_rules leaves c.requires (subst (λ (ls : List (LeafView ValueBytes)). AllByRecursion HasRules ls) c.deref.ensures.value c.in_ok-children.ensures.rules)))
 

@@ -1,12 +1,15 @@
-use Rattle.std.proofs.Common.{set, Some, ◌≡◌, ◌≤◌, ◌^◌, ◌++◌, length, ◌∙◌, ap, subst, arith}
+use Rattle.std.proofs.Common.{ℕ, List, set, Some, ◌≡◌, ◌≤◌, ◌^◌, ◌++◌, length, ◌∙◌, ap, subst, arith}
 use Rattle.std.proofs.lemmas.List.{length-map}
 use Rattle.bw_delta.specs.declared.deltas.Delta.{Delta}
 use Rattle.bw_delta.specs.declared.deltas.Delta.TheVariants.{AddChild}
 use Rattle.bw_page.specs.declared.pages.Page.TheVariants.{Inner as InnerPage}
+use Rattle.bw_key.specs.Order.{KeyBytes}
 use Rattle.bw_level.specs.Changes.{Bases}
+use Rattle.bw_level.specs.Searches.{plain_inner}
+use Rattle.bw_level.specs.Slots.{Live, PageState, slot_at}
 use Rattle.bw_chain.specs.Chains.{Records}
 use Rattle.bw_chain.specs.Records.{with_link}
-use Rattle.bw_tree.specs.TreeChildren.{AreNamed}
+use Rattle.bw_tree.specs.TreeChildren.{AreNamed, state_with_children}
 use Rattle.bw_look.specs.Trees.{IsTree, view_of}
 use Rattle.bw_tree.proofs.NamingLemmas.{all_named_on, own_behind}
 use Rattle.bw_look.proofs.RoutingLemmas.{page_there}
@@ -34,11 +37,12 @@ named_now c =
     let more = with_link head deltas in
     let longer : c.add_records.new.self.records ≡ records ++ more = c.in_ok-add_records.ensures.ok in
     let count : length more ≡ length c.args.entries.items =
-    length-map deltas (λ (d : Delta). (d, head)) ∙ ap length c.in_ok-deltas.ensures ∙ length-map c.deref.result.now (λ e. AddChild e.0 e.1) ∙ ap length c.deref.ensures.value in
+    length-map deltas (λ (d : Delta). (d, head)) ∙ ap length c.in_ok-deltas.ensures ∙ length-map c.args.entries.items (λ e. AddChild e.0 e.1) in
+    let named = subst (λ (l : List (KeyBytes × ℕ)). (was : PageState) → slot_at c.args.self.now.slots c.args.parent ≡ Live was → plain_inner c.in_ok-page.page ≡ Live (state_with_children l was)) c.deref.ensures.value c.in_ok-page.ensures in
     let there = page_there heads c.self.inside.chains.bases records c.self.inside.root c.self.inside.next _ c.self.inside.staged _ c.args.parent c.self.view_is c.self.invariant.now c.requires.page.in_levels in
     all_named_on heads c.self.inside.chains.bases records more c.self.inside.root c.self.inside.next c.self.inside.staged c.args.self.now c.args.parent c.args.entries.items (InnerPage c.in_ok-page.page)
     count (subst (λ (r : Records). length r ≤ 2 ^ 32) longer c.in_ok-add_records.ensures.few)
-    c.self.invariant c.self.view_is c.requires.none c.requires.page c.requires.fit c.in_ok-page.ensures
+    c.self.invariant c.self.view_is c.requires.none c.requires.page c.requires.fit named
     (set heads c.parent-2.inside.0 c.parent-2.inside.0) c.replace_base.new.self.bases c.replace_base.new.self.records c.args.parent
     (own_behind heads c.self.inside.chains.bases records more c.self.invariant.now.own c.self.invariant.now.ends c.args.parent there)
     (ap (λ n. set heads n n) c.parent-2.view_is)
