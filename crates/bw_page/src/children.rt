@@ -218,13 +218,13 @@ impl Children {
         ensures { IfOk result (λ all. all ≡ put_all more.now self.now) }
     {
         let count = self.len().saturating_add(more.len());
-        let mut all = Children::with_capacity(self.allocator(), count, self.byte_count())?;
+        let bytes = self.byte_count().saturating_add(byte_count_of(more));
+        let mut all = Children::with_capacity(self.allocator(), count, bytes)?;
         let mut passed = 0;
         for entry in more {
             passed = all.add_entry(self, passed, entry)?;
         }
         all.extend(self, passed..self.len())?;
-        all.entries.shrink_to_fit();
         Ok(all)
     }
 
@@ -282,4 +282,13 @@ impl Children {
         let end = self.place(key);
         self.entries.truncate(end);
     }
+}
+
+// How many bytes the separators of these entries have together.
+fn byte_count_of(entries: &[(Key, PageId)]) -> usize {
+    let mut count: usize = 0;
+    for entry in entries {
+        count = count.saturating_add(entry.0.bytes().len());
+    }
+    count
 }

@@ -242,7 +242,7 @@ impl Inner {
     }
 
     /// Takes away the separator and its child, if the page has it. The separator isn't `low`. It takes no memory, and about
-    /// log2 n key comparisons for n children; the children behind that one are moved.
+    /// log2 n key comparisons for n children; the children behind that one are moved, and the room that it leaves stays.
     pub fn drop_child(&mut self, sep: &Key)
         requires { sep.now ≢ self.old.low }
         ensures { self.new ≡ without_child self.old sep.now }

@@ -1,7 +1,7 @@
 // What is read of a list, how runs of it are copied, and how it is searched.
 ghost use Rattle.std.specs.Prelude.{◌≡◌, ◌≤◌, length};
 
-use super::making::{Child, KEY, KEY_AND_VALUE, has, heap, list_of, push_all};
+use super::making::{Child, KEY, KEY_AND_VALUE, counted, has, heap, list_of, push_all};
 use crate::tests::assertions::{assert_equal, assert_that};
 use bw_memory::Alloc;
 use bw_packed::Packed;
@@ -70,6 +70,29 @@ fn a_list_is_cut_and_goes_on(rt: HostRuntime) {
     assert_that(&rt, has(&list, &ENTRIES, 0));
     list.truncate(0);
     assert_that(&rt, list.is_empty());
+}
+
+// Takes an entry away, and compares those before it and those behind it.
+fn loses_entry<R: Abort>(rt: &R, alloc: Alloc, place: usize) {
+    let mut list = list_of(rt, alloc, &ENTRIES);
+    assert!(rt; place < list.len());
+    let before = alloc.left();
+    list.remove(place);
+    assert_equal(rt, alloc.left(), before);
+    assert!(rt; place < ENTRIES.len() && place <= list.len());
+    let (mut front, mut behind) = (Packed::new(alloc), Packed::new(alloc));
+    front.extend(&list, 0..place).expect(rt, "memory");
+    behind.extend(&list, place..list.len()).expect(rt, "memory");
+    assert_that(rt, has(&front, &ENTRIES[..place], 0));
+    assert_that(rt, has(&behind, &ENTRIES[place + 1..], place + 1));
+}
+
+#[test]
+fn an_entry_is_taken_away_without_memory(rt: HostRuntime) {
+    let alloc = counted(&rt, rt.alloc());
+    for place in 0..ENTRIES.len() {
+        loses_entry(&rt, alloc, place);
+    }
 }
 
 // Compares how many of the entries at these places have a smaller key.

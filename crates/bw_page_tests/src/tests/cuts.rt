@@ -115,7 +115,8 @@ fn inner_refused<R: Abort>(rt: &R, alloc: Alloc, inner: &mut Inner, growth: u64)
     has_children(rt, inner, &[(b"", 0), (LONG, 5), (b"c", 1)]);
 }
 
-// Cuts it where only the room that the children leave isn't given back.
+// Cuts it where only the room that the children leave isn't given back: that for their ends, since no byte of a separator
+// stays.
 fn inner_keeps_room<R: Abort>(rt: &R, alloc: Alloc, growth: u64) {
     let mut inner = three_children(rt, alloc);
     alloc.refuse(growth);
@@ -130,7 +131,8 @@ fn an_inner_page_is_whole_after_each_growth_of_a_cut_that_is_refused(rt: HostRun
     let mut inner = three_children(&rt, alloc);
     inner_refused(&rt, alloc, &mut inner, 1);
     inner_refused(&rt, alloc, &mut inner, 2);
-    inner_keeps_room(&rt, alloc, 3);
+    inner_refused(&rt, alloc, &mut inner, 3);
+    inner_keeps_room(&rt, alloc, 4);
 }
 
 // Narrows an inner page to an end behind its low key.

@@ -3,7 +3,7 @@ use crate::tests::assertions::assert_equal;
 use bw_fixtures::{LONG, one, pair};
 use bw_key::{Key, Memory};
 use bw_memory::{Alloc, Heap};
-use bw_page::{Inner, Leaf, PageId};
+use bw_page::{Children, Inner, Leaf, PageId};
 use std::alloc::Global;
 use std::process::Abort;
 
@@ -65,7 +65,8 @@ pub fn from_start<R: Abort>(rt: &R, alloc: Alloc) -> Inner {
         bw_fixtures::key(alloc, b"").expect(rt, "memory"),
         bw_fixtures::key(alloc, b"c").expect(rt, "memory"),
     );
-    let children = vec![in alloc; (least, PageId(0))].expect(rt, "the child");
+    let mut children = Children::with_capacity(alloc, 1, 0).expect(rt, "memory");
+    children.push(&least, PageId(0)).expect(rt, "the child");
     Inner::from_children(1, low, Some(high), Some(PageId(9)), children)
 }
 
@@ -75,7 +76,8 @@ pub fn from_c<R: Abort>(rt: &R, alloc: Alloc) -> Inner {
         bw_fixtures::key(alloc, b"c").expect(rt, "memory"),
         bw_fixtures::key(alloc, b"c").expect(rt, "memory"),
     );
-    let children = vec![in alloc; (sep, PageId(1))].expect(rt, "the child");
+    let mut children = Children::with_capacity(alloc, 1, 1).expect(rt, "memory");
+    children.push(&sep, PageId(1)).expect(rt, "the child");
     Inner::from_children(1, low, None, None, children)
 }
 
@@ -146,9 +148,11 @@ pub fn many_children<R: Abort>(rt: &R, alloc: Alloc) -> Inner {
 
 /// Compares the separators and children of a page.
 pub fn has_children<R: Abort>(rt: &R, inner: &Inner, wanted: &[(&'static [u8], u32)]) {
-    assert_equal(rt, inner.children().len(), wanted.len());
-    for (child, (sep, page)) in inner.children().iter().zip(wanted) {
-        assert_equal(rt, child.0.bytes(), *sep);
-        assert_equal(rt, child.1.0, *page);
+    let children = inner.children();
+    assert_equal(rt, children.len(), wanted.len());
+    for (place, (sep, page)) in wanted.iter().enumerate() {
+        assert!(rt; place < children.len());
+        assert_equal(rt, children.separator(place), *sep);
+        assert_equal(rt, children.child(place).0, *page);
     }
 }

@@ -42,34 +42,34 @@ fn two_leaves_take_two_growths_and_none_for_a_long_value(rt: HostRuntime) {
 }
 
 #[test]
-fn two_inner_pages_take_one_growth(rt: HostRuntime) {
+fn two_inner_pages_take_two_growths(rt: HostRuntime) {
     let alloc = heap(&rt, rt.alloc());
     let left = from_start(&rt, alloc);
     let right = upper_half_inner(&rt, &many_children(&rt, alloc), 2).expect(&rt, "memory");
-    for growth in 1..=2 {
+    for growth in 1..=3 {
         alloc.refuse(growth);
         let refused = joined_inner(&rt, &left, &right).is_err();
-        is_refused(&rt, alloc, refused, growth <= 1);
+        is_refused(&rt, alloc, refused, growth <= 2);
     }
 }
 
-// A separator of more than 24 bytes, as the second child of these pages has one.
+// A separator of more than 24 bytes, as the second child of these pages has one. It lies among the others.
 const LONGER: &[u8] = b"c and more than 24 bytes behind it";
 
 #[test]
-fn another_child_takes_one_growth_and_one_for_each_long_separator(rt: HostRuntime) {
+fn another_child_takes_two_growths_and_none_for_a_long_separator(rt: HostRuntime) {
     let alloc = heap(&rt, rt.alloc());
     let inner = many_children(&rt, alloc);
     let sep = key(&rt, alloc, LONGER);
-    for growth in 1..=4 {
+    for growth in 1..=3 {
         alloc.refuse(growth);
         let refused = with_child(&rt, &inner, &sep, PageId(5)).is_err();
-        is_refused(&rt, alloc, refused, growth <= 3);
+        is_refused(&rt, alloc, refused, growth <= 2);
     }
 }
 
 #[test]
-fn the_half_of_an_inner_page_takes_one_growth_and_two_for_a_long_low_key(rt: HostRuntime) {
+fn the_half_of_an_inner_page_takes_two_growths_and_one_for_a_long_low_key(rt: HostRuntime) {
     let alloc = heap(&rt, rt.alloc());
     let inner = many_children(&rt, alloc);
     for growth in 1..=4 {

@@ -166,7 +166,7 @@ pub struct Refusal {
     /// The steps that lead to the tree.
     pub before: &'static [Step],
     pub call: Call,
-    /// The steps behind the first growth that is refused.
+    /// The steps behind one of the first two growths that is refused: two are what a page takes that is consolidated first.
     pub first: &'static [Step],
     /// Those behind a later one.
     pub later: &'static [Step],
@@ -186,7 +186,7 @@ fn refuses<R: Abort>(rt: &R, alloc: Alloc, tree: &mut Tree, refusal: &Refusal, g
         return false;
     }
     assert_equal(rt, made, Err(Memory));
-    let steps = if growth == 1 {
+    let steps = if growth <= 2 {
         refusal.first
     } else {
         refusal.later

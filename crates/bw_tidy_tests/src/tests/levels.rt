@@ -22,8 +22,9 @@ fn add_children<R: Abort>(rt: &R, tree: &Tree, page: PageId, list: &mut Vec<Page
     let Some(Page::Inner(inner)) = state else {
         panic!(rt; "an inner page");
     };
-    for child in inner.children() {
-        list.push(child.1).expect(rt, "memory");
+    let children = inner.children();
+    for place in 0..children.len() {
+        list.push(children.child(place)).expect(rt, "memory");
     }
 }
 

@@ -21,7 +21,7 @@ pub returns : goal.returns
 returns c =
     let own = c.args.self.now in
     let more = c.args.more.now in
-    c.shrink_to_fit.ensures ∙ c.all.view_is ∙ c.in_ok-extend.ensures.ok
+    c.in_ok-extend.ensures.ok
     ∙ ap (λ n. c.loop-entry.all ++ slice_range own c.loop-entry.passed n) c.len-2.ensures.value
     ∙ ap (λ l. c.loop-entry.all ++ l) (rest_is c.loop-entry.passed own)
     ∙ c.loop-entry.invariant.is
