@@ -19,7 +19,7 @@ use thiserror::Error;
 mod prefixes;
 mod spelled_bytes;
 
-pub use prefixes::compare_prefixed;
+pub use prefixes::{compare_bytes, compare_prefixed};
 pub use spelled_bytes::Spelled;
 
 /// Out of memory, the same in every crate of the workspace: the allocator refused a growth, since the system has no

@@ -17,6 +17,7 @@ pub fn compare_prefixed(left: &Key, left_prefix: u64, right: &Key, right_prefix:
     requires right { right_prefix ≡ key_prefix right.now }
     ensures { result ≡ key_cmp left.now right.now }
 {
+    let (left, right) = (left.bytes(), right.bytes());
     know_bytes(left);
     know_bytes(right);
     match left_prefix.cmp(&right_prefix) {
@@ -25,15 +26,31 @@ pub fn compare_prefixed(left: &Key, left_prefix: u64, right: &Key, right_prefix:
     }
 }
 
-// How two keys of one prefix stand: one that ends within it begins the other.
+/// How the bytes of two keys stand: as these keys do. Those that have eight bytes or more, and differ in the first eight, are
+/// told apart by one comparison of numbers.
+#[inline(always)]
+pub fn compare_bytes(left: &[u8], right: &[u8]) -> Ordering
+    ensures { result ≡ key_cmp left.now right.now }
+{
+    if left.len() < PREFIX_LEN || right.len() < PREFIX_LEN {
+        return left.cmp(&right);
+    }
+    know_bytes(left);
+    know_bytes(right);
+    match prefix_of(left).cmp(&prefix_of(right)) {
+        Ordering::Equal => compare_alike(left, right),
+        other => other,
+    }
+}
+
+// How the bytes of two keys of one prefix stand: one that ends within it begins the other.
 #[inline(never)]
-fn compare_alike(left: &Key, right: &Key) -> Ordering
+fn compare_alike(left: &[u8], right: &[u8]) -> Ordering
     requires { key_prefix left.now ≡ key_prefix right.now }
     ensures { result ≡ key_cmp left.now right.now }
 {
     know_bytes(left);
     know_bytes(right);
-    let (left, right) = (left.bytes(), right.bytes());
     if left.len() <= PREFIX_LEN || right.len() <= PREFIX_LEN {
         left.len().cmp(&right.len())
     } else {
@@ -75,10 +92,9 @@ fn byte_at(bytes: &[u8], place: usize) -> u64
     }
 }
 
-// That the bytes of a key are bytes. It does nothing.
-fn know_bytes(key: &Key)
-    ensures { IsBytes key.now }
+// That bytes are bytes. It does nothing.
+fn know_bytes(bytes: &[u8])
+    ensures { IsBytes bytes.now }
 {
-    let bytes = key.bytes();
     let _len = bytes.len();
 }

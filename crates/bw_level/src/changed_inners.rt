@@ -12,8 +12,7 @@ use bw_key::{Key, Memory};
 use bw_page::{Children, Inner, PageId};
 
 /// What a change, if there is one, makes of an inner page, as a page by itself. The change isn't a write. It costs a
-/// copy of each child that is left. `Memory` is answered where the list of the children or the copy of a key finds
-/// none.
+/// copy of the children that are left, by blocks. `Memory` is answered where their list or the copy of a bound finds none.
 pub fn inner_over(delta: Option<&Delta>, base: &Inner) -> Result<Inner, Memory>
     requires other { IsNoWrite delta }
     requires sound { (bases : Bases) → IsSoundInner (over bases delta (plain_inner base.now)) }

@@ -6,7 +6,7 @@ ghost use Rattle.bw_key.specs.Order.{KeyBytes, key_cmp};
 ghost use Rattle.bw_level.specs.Searches.{IsFromPlace, IsPlaceFor, IsStretch};
 ghost use Rattle.bw_level.specs.Targets.{IsChildFor, IsEntryFor, IsPast, PartsChildren, lies_from};
 
-use bw_key::Key;
+use bw_key::{Key, compare_bytes};
 use bw_page::{Children, Inner, PageId};
 use std::ops::Range;
 
@@ -26,8 +26,8 @@ impl Target<'_> {
         ensures { result ≡ lies_from self.entry at.now }
     {
         match self {
-            Target::Home(key) => key.bytes().cmp(&at).is_ge(),
-            Target::Before(Some(end)) => at.cmp(&end.bytes()).is_lt(),
+            Target::Home(key) => !compare_bytes(key.bytes(), at).is_lt(),
+            Target::Before(Some(end)) => compare_bytes(at, end.bytes()).is_lt(),
             Target::Before(None) => true,
         }
     }
@@ -59,7 +59,9 @@ impl Target<'_> {
     {
         let children = inner.children();
         let last = self.last_place(inner);
-        if !self.lies_from(sep.bytes()) || sep.bytes().cmp(&children.separator(last)).is_lt() {
+        if !self.lies_from(sep.bytes())
+            || compare_bytes(sep.bytes(), children.separator(last)).is_lt()
+        {
             return children.child(last);
         }
         child

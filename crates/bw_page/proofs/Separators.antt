@@ -1,17 +1,16 @@
 -- The last entry of a sorted list whose key isn't above a given one.
-use Rattle.std.proofs.Common.{inl, inr, ◌≡◌, ℕ, zero, suc, ◌+◌, ◌-◌, ◌<◌, ◌≤◌, Bool, true, false, not, List, [], ◌∷◌, length, drop, get_or, slice_range, T, refl, sym, ap, ◌∙◌, subst, arith}
+use Rattle.std.proofs.Common.{inl, inr, ◌≡◌, ℕ, zero, suc, ◌-◌, ◌<◌, ◌≤◌, Bool, true, false, not, List, [], ◌∷◌, length, get_or, T, sym, ap, ◌∙◌, arith}
 use Rattle.std.proofs.lemmas.Bool.{cases_lt}
-use Rattle.std.proofs.lemmas.List.{get_or-drop, get_or-take, get_or_default}
+use Rattle.std.proofs.lemmas.List.{get_or_default}
 use Rattle.std.specs.List.Sorted.{IsPartitionedBy, IsPartitionPoint}
 use Rattle.std.specs.Ordering.{is_lt}
 use Rattle.std.specs.FinMap.{is_sorted}
-use Rattle.bw_key.specs.Order.{KeyBytes, key_cmp, key_eq}
-use Rattle.bw_packed.specs.Search.{EndsAt}
+use Rattle.bw_key.specs.Order.{KeyBytes, key_cmp}
 use Rattle.bw_page.specs.Inners.{IsLastUpto, IsUpto, is_upto}
 use Rattle.bw_page.specs.Pages.{BeginsAt, first_key}
 use Rattle.bw_page.proofs.Truths.{holds_not, not_holds, true_holds}
-use Rattle.bw_page.proofs.KeyLemmas.{below_back, below_self, below_trans, below_upto}
-use Rattle.bw_page.proofs.Search.{is_before, over, parted, rises, same_keys}
+use Rattle.bw_page.proofs.KeyLemmas.{below_back, below_self, below_upto}
+use Rattle.bw_page.proofs.Search.{rises}
 
 -- whether an entry's key isn't above another
 abbrev pub isnt_above : {X : Type 0} → KeyBytes → KeyBytes × X → Bool
@@ -30,10 +29,6 @@ not_upto a b h = ap not h
 pub first_there : {X : Type 0} (low : KeyBytes) (es : List (KeyBytes × X)) → BeginsAt low es → (0 < length es) × (first_key es ≡ low)
 first_there low [] h = absurd h
 first_there low (e ∷ es) h = (omega arith, h)
-
--- what is read in a list, in a run of it
-pub in_run : {X : Type 0} (xs : List (KeyBytes × X)) (i j n : ℕ) (k : KeyBytes) → ((d : KeyBytes × X) → k ≡ (get_or xs (i + n) d).0) → n < j - i → (d : KeyBytes × X) → k ≡ (get_or (slice_range xs i j) n d).0
-in_run {X} xs i j n k is lt d = is d ∙ ap (λ (e : KeyBytes × X). e.0) (sym (get_or-take (j - i) (drop i xs) n d lt ∙ get_or-drop i xs n d))
 
 module _ {X : Type 0} where
   -- an entry before one that isn't above a key isn't either
@@ -89,44 +84,3 @@ module _ {X : Type 0} where
     where
       different : false ≡ true → ⊥
       different e = cc
-
-  -- The entries below a key end at a place. Those that aren't above it end behind the one that is there, if it is at the key,
-  module _ (q : KeyBytes) (es : List (KeyBytes × X)) (n : ℕ) (sorted : T (is_sorted key_cmp es)) (ends : EndsAt (is_before q) es n) where
-    parts : IsPartitionPoint (λ e. is_before q e ≡ true) (λ e. is_before q e ≡ false) es n
-    parts = ends (parted q es sorted)
-
-    below_there : (i : ℕ) (d : KeyBytes × X) → i < n → is_upto (get_or es i d).0 q ≡ true
-    below_there i d lt = upto_is (get_or es i d).0 q (below_back (get_or es i d).0 q (parts.0 i d (omega arith) lt))
-
-    above_there : (i j : ℕ) (d : KeyBytes × X) → i < j → j < length es → is_lt (key_cmp q (get_or es i d).0) ≡ true → is_upto (get_or es j d).0 q ≡ false
-    above_there i j d lt within over = not_upto (get_or es j d).0 q (below_trans q (get_or es i d).0 (get_or es j d).0 over (rises es i j (get_or es i d) (get_or es j d) sorted lt within (read es i d (omega (arith, lt, within))) (read es j d within)))
-
-    pub ends_behind : n < length es → ((d : KeyBytes × X) → key_eq (get_or es n d).0 q ≡ true) → EndsAt (isnt_above q) es (n + 1)
-    ends_behind lt same _ = (front, behind)
-      where
-        front : (i : ℕ) (d : KeyBytes × X) → 0 ≤ i → i < n + 1 → is_upto (get_or es i d).0 q ≡ true
-        front i d low up = elim (cases_lt i n) [
-          | inl less ↦ below_there i d less
-          | inr ge ↦
-              let at : n ≡ i = omega (arith, up, ge) in
-              subst (λ m. is_upto (get_or es m d).0 q ≡ true) at (ap (λ (k : KeyBytes). is_upto k q) (same_keys (get_or es n d).0 q (same d)) ∙ upto_is q q (below_self q))
-        ]
-
-        behind : (i : ℕ) (d : KeyBytes × X) → n + 1 ≤ i → i < length es → is_upto (get_or es i d).0 q ≡ false
-        behind i d low up =
-            let here = same_keys (get_or es n d).0 q (same d) in
-            let rising = rises es n i (get_or es n d) (get_or es i d) sorted (omega (arith, low)) up (read es n d lt) (read es i d up) in
-            not_upto (get_or es i d).0 q (ap (λ (k : KeyBytes). is_lt (key_cmp k (get_or es i d).0)) (sym here) ∙ rising)
-
-    -- and else at that place
-    pub ends_there : (n < length es → (d : KeyBytes × X) → key_eq (get_or es n d).0 q ≡ false) → EndsAt (isnt_above q) es n
-    ends_there other _ = ((λ i d low up. below_there i d up), behind)
-      where
-        behind : (i : ℕ) (d : KeyBytes × X) → n ≤ i → i < length es → is_upto (get_or es i d).0 q ≡ false
-        behind i d low up =
-            let lt : n < length es = omega (arith, low, up) in
-            let above = over q (get_or es n d).0 (parts.1 n d (omega arith) lt) (other lt d) in
-            elim (cases_lt n i) [
-              | inl less ↦ above_there n i d less up above
-              | inr ge ↦ let at : n ≡ i = omega (arith, low, ge) in subst (λ m. is_upto (get_or es m d).0 q ≡ false) at (not_upto (get_or es n d).0 q above)
-            ]

@@ -1,5 +1,5 @@
 // The children of inner pages.
-ghost use Rattle.std.specs.Prelude.{◌≡◌, ℕ, ◌-◌, ◌^◌, ◌<◌, ◌≤◌, [], ◌∷◌, ◌++◌, List, drop, filter, length, not, slice_index_or, slice_range, take, IfOk, OnErr, OnOk, T};
+ghost use Rattle.std.specs.Prelude.{◌≡◌, ℕ, ◌-◌, ◌^◌, ◌<◌, ◌≤◌, [], ◌∷◌, ◌++◌, drop, filter, length, not, slice_index_or, slice_range, take, IfOk, OnErr, OnOk, T};
 ghost use Rattle.std.specs.FinMap.{is_sorted, put};
 ghost use Rattle.std.specs.Ordering.{is_lt};
 ghost use Rattle.bw_key.specs.Order.{KeyBytes, key_cmp, key_eq};
@@ -118,23 +118,14 @@ impl Children {
         self.entries.place(range, key.bytes())
     }
 
-    /// How many children of a range of places have a separator that isn't above the key, in about log2 n key comparisons for
-    /// n children and one more.
+    /// How many have a separator that isn't above the key, likewise.
     pub fn place_behind(&self, range: Range<usize>, key: &Key) -> usize
-        requires sorted { T (is_sorted key_cmp self.now) }
         requires ordered { range.start ≤ range.end }
         requires within { range.end ≤ length self.now }
         ensures bound { result ≤ range.end - range.start }
         ensures parts { EndsAt (λ e. is_upto e.0 key.now) (slice_range self.now range.start range.end) result }
     {
-        let Range { start, end } = range;
-        let place = self.place_in(start..end, key);
-        let at = start + place;
-        if at < end && self.separator(at) == key.bytes() {
-            place + 1
-        } else {
-            place
-        }
+        self.entries.place_behind(range, key.bytes())
     }
 
     /// The children of a range of places, in a list of their own with just the room that it needs: one block of separators is
@@ -183,13 +174,16 @@ impl Children {
         requires { T (is_sorted key_cmp self.now) }
         ensures { IfOk result (λ all. all ≡ put key_cmp sep.now child self.now) }
     {
+        let len = self.len();
         let at = self.place(sep);
-        let bytes = self.byte_count().saturating_add(sep.bytes().len());
-        let count = self.len().saturating_add(1);
+        let rest = self.behind(at, sep);
+        let kept = self.entries.bytes_in(0..at) + self.entries.bytes_in(rest..len);
+        let count = at + 1 + (len - rest);
+        let bytes = kept + sep.bytes().len();
         let mut all = Children::with_capacity(self.allocator(), count, bytes)?;
         all.extend(self, 0..at)?;
         all.push(sep, child)?;
-        all.extend(self, self.behind(at, sep)..self.len())?;
+        all.extend(self, rest..len)?;
         Ok(all)
     }
 
@@ -225,6 +219,10 @@ impl Children {
             passed = all.add_entry(self, passed, entry)?;
         }
         all.extend(self, passed..self.len())?;
+        // Where some stand in place of others there was room for more.
+        if all.len() < count {
+            all.entries.shrink_to_fit();
+        }
         Ok(all)
     }
 
@@ -260,8 +258,8 @@ impl Children {
         }
     }
 
-    /// Moves the children from a place on to a list of their own. `Memory` is answered where that list finds none, and all is
-    /// as before. The room that they leave is given back, by growths that may be refused: then it stays.
+    /// Copies the children from a place on to a list of their own, and leaves the others. `Memory` is answered where that list
+    /// finds none, and all is as before. The room that they leave is given back, by growths that may be refused: then it stays.
     pub(crate) fn cut(&mut self, keep: usize) -> Result<Children, Memory>
         requires { keep ≤ length self.old }
         ensures kept { OnOk result (self.new ≡ take keep self.old) }

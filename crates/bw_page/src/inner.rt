@@ -1,5 +1,5 @@
 // Inner pages.
-ghost use Rattle.std.specs.Prelude.{◌≡◌, ◌≢◌, ℕ, ◌<◌, length, slice_index_or, Some, IfOk, OnErr, OnOk, MatchOption, true, false, T};
+ghost use Rattle.std.specs.Prelude.{◌≡◌, ◌≢◌, ℕ, ◌<◌, ◌≤◌, length, slice_index_or, Some, IfOk, IsOk, OnErr, OnOk, MatchOption, true, false, T};
 ghost use Rattle.std.specs.Option.{option_copied};
 ghost use Rattle.std.specs.FinMap.{is_sorted};
 ghost use Rattle.std.specs.List.{list_all};
@@ -127,7 +127,9 @@ impl Inner {
     /// refused.
     pub fn separator(&self, place: usize) -> Result<Key, Memory>
         requires { place < length self.now.children }
-        ensures { (d : KeyBytes × ℕ) → IfOk result (λ key. key ≡ (slice_index_or self.now.children place d).0) }
+        ensures ok { (d : KeyBytes × ℕ) → IfOk result (λ key. key ≡ (slice_index_or self.now.children place d).0) }
+        ensures short { (d : KeyBytes × ℕ) →
+            length (slice_index_or self.now.children place d).0 ≤ 24 → IsOk result }
     {
         Key::from_bytes(self.children.allocator(), self.children.separator(place))
     }
@@ -147,7 +149,7 @@ impl Inner {
     ///
     /// It copies those children as one block of separators and one of ends, in a growth for each, and one for each bound of
     /// more than 24 bytes; so do the other calls here that make a page of others. `Memory` is answered where one of them is
-    /// refused. This page stays as it is.
+    /// refused, or where a page's separators would have 2^32 bytes or more. This page stays as it is.
     pub fn upper_half(&self, keep: usize) -> Result<Inner, Memory>
         requires { keep < length self.now.children }
         ensures { IfOk result (λ half. half ≡ upper_inner self.now keep) }
@@ -184,7 +186,7 @@ impl Inner {
 
     /// Ends the page at this key, which isn't its low one nor below it, before this right neighbour. The children with
     /// smaller separators stay, and the others are let go. It takes no memory, and about log2 n key comparisons for n
-    /// children.
+    /// children. The room that they leave stays.
     pub fn narrow(&mut self, high: Key, side: PageId)
         requires { T (is_below_end (Some high) self.old.low) }
         ensures { self.new ≡ narrowed_inner self.old high side }

@@ -1,5 +1,5 @@
 // Leaf pages.
-ghost use Rattle.std.specs.Prelude.{◌≡◌, ◌<◌, ◌≤◌, filter, length, slice_index_or, [], Some, None, IfOk, OnErr, OnOk, MatchOption, T, true, false};
+ghost use Rattle.std.specs.Prelude.{◌≡◌, ◌<◌, ◌≤◌, filter, length, slice_index_or, [], Some, None, IfOk, IsOk, OnErr, OnOk, MatchOption, T, true, false};
 ghost use Rattle.std.specs.FinMap.{find};
 ghost use Rattle.std.specs.Option.{option_copied};
 ghost use Rattle.bw_key.specs.Order.{key_cmp};
@@ -144,7 +144,8 @@ impl Leaf {
     /// refused.
     pub fn key_at(&self, place: usize) -> Result<Key, Memory>
         requires { place < length self.now.pairs }
-        ensures { (d : Pair) → IfOk result (λ key. key ≡ (slice_index_or self.now.pairs place d).0) }
+        ensures ok { (d : Pair) → IfOk result (λ key. key ≡ (slice_index_or self.now.pairs place d).0) }
+        ensures short { (d : Pair) → length (slice_index_or self.now.pairs place d).0 ≤ 24 → IsOk result }
     {
         Key::from_bytes(self.pairs.allocator(), self.pairs.key_at(place))
     }
@@ -191,7 +192,8 @@ impl Leaf {
     }
 
     /// Ends the leaf at this key, which isn't its low one nor below it, before this right neighbour. The pairs with smaller
-    /// keys stay, and the others are let go. It takes no memory, and about log2 n key comparisons for n pairs.
+    /// keys stay, and the others are let go. It takes no memory, and about log2 n key comparisons for n pairs. The room that
+    /// they leave stays.
     pub fn narrow(&mut self, high: Key, side: PageId)
         requires { T (is_below_end (Some high) self.old.low) }
         ensures { self.new ≡ narrowed_leaf self.old high side }

@@ -9,3 +9,4 @@ mod largest;
 mod leaves;
 mod making;
 mod refused;
+mod separators;

@@ -15,11 +15,20 @@ pub(crate) fn separators(alloc: Alloc, leaves: &[Leaf]) -> Result<Children, Memo
     ensures items { IfOk result (λ children. children ≡ terms_from 0 leaves.now) }
     ensures rules { OnOk result (AllByRecursion HasRules leaves.now) }
 {
-    let mut children = Children::with_capacity(alloc, leaves.len(), 0)?;
+    let mut children = Children::with_capacity(alloc, leaves.len(), low_byte_count(leaves))?;
     for (place, leaf) in leaves.iter().enumerate() {
         children.push(leaf.low(), PageId(place as u32))?;
     }
     Ok(children)
+}
+
+// How many bytes the low keys of leaves have together.
+fn low_byte_count(leaves: &[Leaf]) -> usize {
+    let mut count: usize = 0;
+    for leaf in leaves {
+        count = count.saturating_add(leaf.low().bytes().len());
+    }
+    count
 }
 
 /// Leaves as base pages.

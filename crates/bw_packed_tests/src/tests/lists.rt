@@ -123,3 +123,33 @@ fn a_place_is_behind_the_smaller_keys(rt: HostRuntime) {
     is_behind(&rt, &list, (2, 2), b"l", 0);
     is_behind(&rt, &list_of(&rt, alloc, &[]), (0, 0), b"a", 0);
 }
+
+// Compares how many of the entries at these places have a key that isn't above one.
+fn are_upto<R: Abort>(
+    rt: &R,
+    list: &Packed<Child>,
+    range: (usize, usize),
+    key: &[u8],
+    count: usize,
+) {
+    let (start, end) = range;
+    assert!(rt; start <= end && end <= list.len());
+    assert_equal(rt, list.place_behind(start..end, key), count);
+}
+
+#[test]
+fn a_place_is_behind_the_keys_that_arent_greater(rt: HostRuntime) {
+    let alloc = heap(&rt, rt.alloc());
+    let rising: [&[u8]; 6] = [b"", b"a", b"ab", b"b", KEY, b"kkkkkkkl"];
+    let list = list_of(&rt, alloc, &rising);
+    for (place, key) in rising.iter().enumerate() {
+        are_upto(&rt, &list, (0, 6), key, place.saturating_add(1));
+    }
+    are_upto(&rt, &list, (0, 6), b"aa", 2);
+    are_upto(&rt, &list, (0, 6), b"kkkkkkkk", 4);
+    are_upto(&rt, &list, (0, 6), b"l", 6);
+    are_upto(&rt, &list, (1, 4), b"aa", 1);
+    are_upto(&rt, &list, (1, 4), b"b", 3);
+    are_upto(&rt, &list, (2, 2), b"l", 0);
+    are_upto(&rt, &list_of(&rt, alloc, &[]), (0, 0), b"a", 0);
+}

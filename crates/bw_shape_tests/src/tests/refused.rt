@@ -69,12 +69,12 @@ const AN_INDEX_ENTRY: Refusal = Refusal {
 
 #[test]
 fn each_growth_of_an_index_entry_is_refused(rt: HostRuntime) {
-    refuse_each(&rt, rt.alloc(), &AN_INDEX_ENTRY, 2);
+    refuse_each(&rt, rt.alloc(), &AN_INDEX_ENTRY, 3);
 }
 
 #[test]
 fn each_growth_of_a_consolidation_is_refused(rt: HostRuntime) {
-    refuse_each(&rt, rt.alloc(), &A_CONSOLIDATION, 1);
+    refuse_each(&rt, rt.alloc(), &A_CONSOLIDATION, 2);
 }
 
 // Makes a call where the next growth is refused, and takes these steps after that. What came of the call, and how many growths

@@ -16,8 +16,8 @@ impl Tree {
     /// one level more. The identifier of the new root is answered. No batch is staged.
     ///
     /// Other pages of the old root's level, if it has more, are come to by side links until they are named. It costs a
-    /// walk along the old root's chain and a copy of one key. `Memory` is answered where the copy or a list finds none,
-    /// and where no identifier or no higher level is left; the tree is as before.
+    /// walk along the old root's chain and a copy of one key. `Memory` is answered where a list finds none, and where no
+    /// identifier or no higher level is left; the tree is as before.
     pub fn new_root(&mut self) -> Result<PageId, Memory>
         requires none { self.old.staged ≡ None }
         requires neighbour { is_some (side_of self.old.slots self.old.root) ≡ true }

@@ -11,5 +11,5 @@ returns c d q below =
     let value_is = c.in_ok-value.ensures.ok ∙ c.value_at.ensures d ∙ ap (λ (l : List Pair). (get_or l c.args.place d).1) c.pairs-pairs.ensures.value in
     c.in_ok-insert.ensures.updates.0 q
     ∙ changed q c.in_ok-key.key (Some c.in_ok-value.value) before
-    ∙ ap (λ (k : KeyBytes). cond (key_eq q k) (Some c.in_ok-value.value) before) (c.in_ok-key.ensures d)
+    ∙ ap (λ (k : KeyBytes). cond (key_eq q k) (Some c.in_ok-value.value) before) (c.in_ok-key.ensures.ok d)
     ∙ ap (λ (v : ValueBytes). cond (key_eq q (get_or c.args.leaf.now.pairs c.args.place d).0) (Some v) before) value_is

@@ -12,7 +12,7 @@ returns-in_ok-cut-in-Leaf-clause-separator c =
     let keep = c.args.keep in
     let many : slot_entries (plain c.args.base.now) ≡ length pairs = ap (λ (p : Page). slot_entries (plain p)) c.in-Leaf.is in
     let there : keep < length pairs = omega (arith, c.requires.fewer, many) in
-    c.in_ok-sep-in-Leaf.ensures ([], [])
+    c.in_ok-sep-in-Leaf.ensures.ok ([], [])
     ∙ first_read pairs keep (get_or pairs keep ([], [])) there (read_at pairs keep ([], []) there)
     ∙ ap (λ (p : Page). slot_separator keep (plain p)) (sym c.in-Leaf.is)
 
@@ -22,6 +22,6 @@ returns-in_ok-cut-in-Inner-clause-separator c =
     let keep = c.args.keep in
     let many : slot_entries (plain c.args.base.now) ≡ length children = ap (λ (p : Page). slot_entries (plain p)) c.in-Inner.is in
     let there : keep < length children = omega (arith, c.requires.fewer, many) in
-    c.in_ok-sep-in-Inner.ensures ([], 0)
+    c.in_ok-sep-in-Inner.ensures.ok ([], 0)
     ∙ first_read children keep (get_or children keep ([], 0)) there (read_at children keep ([], 0) there)
     ∙ ap (λ (p : Page). slot_separator keep (plain p)) (sym c.in-Inner.is)

@@ -22,7 +22,7 @@ returns-then-not-lies_from c =
           behind_new c.args.self sep c.args.child children e entry
           (ap (λ (k : KeyBytes). is_lt (key_cmp sep k)) (sym (w.separator.ensures ([], 0) ∙ ap here c.children-children.ensures.value))
           ∙ ap (λ (k : KeyBytes). is_lt (key_cmp k w.separator.result.now)) (sym w.bytes-else-not-lies_from.ensures.value)
-          ∙ ap is_lt (sym w.cmp.ensures) ∙ sym w.is_lt.ensures ∙ w.if-is_lt.true)
+          ∙ ap is_lt (sym w.compare_bytes.ensures) ∙ sym w.is_lt.ensures ∙ w.if-is_lt.true)
     ])
 
 pub returns : goal.returns
@@ -35,4 +35,4 @@ returns c =
     (ap (lies_from c.args.self) (sym c.bytes.ensures.value) ∙ sym c.lies_from.ensures ∙ c.if-not-lies_from.false)
     (ap (λ (k : KeyBytes). is_lt (key_cmp sep k)) (sym (c.separator.ensures ([], 0) ∙ ap here c.children-children.ensures.value))
     ∙ ap (λ (k : KeyBytes). is_lt (key_cmp k c.separator.result.now)) (sym c.bytes-else-not-lies_from.ensures.value)
-    ∙ ap is_lt (sym c.cmp.ensures) ∙ sym c.is_lt.ensures ∙ c.if-is_lt.false)
+    ∙ ap is_lt (sym c.compare_bytes.ensures) ∙ sym c.is_lt.ensures ∙ c.if-is_lt.false)

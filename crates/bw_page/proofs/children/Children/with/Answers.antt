@@ -12,7 +12,7 @@ returns c =
     let entry : KeyBytes × ℕ = (sep, c.args.child) in
     let place : at - 0 ≡ place_of sep own = omega (arith, c.place-at.ensures.value) in
     c.in_ok-extend-2.ensures.ok
-    ∙ ap (λ l. l ++ slice_range own c.behind.result c.len-2.result) (c.in_ok-push.ensures.ok ∙ ap (λ l. l ++ entry ∷ []) (c.in_ok-extend.ensures.ok ∙ ap (λ l. l ++ slice_range own 0 at) c.in_ok-all.ensures))
-    ∙ ap (λ n. (take (at - 0) own ++ entry ∷ []) ++ slice_range own c.behind.result n) c.len-2.ensures.value
-    ∙ ap (λ l. (take (at - 0) own ++ entry ∷ []) ++ l) (rest_is c.behind.result own)
-    ∙ c.behind.ensures.put 0 (omega arith) place c.args.child
+    ∙ ap (λ l. l ++ slice_range own c.behind-rest.result c.len-len.result) (c.in_ok-push.ensures.ok ∙ ap (λ l. l ++ entry ∷ []) (c.in_ok-extend.ensures.ok ∙ ap (λ l. l ++ slice_range own 0 at) c.in_ok-all.ensures))
+    ∙ ap (λ n. (take (at - 0) own ++ entry ∷ []) ++ slice_range own c.behind-rest.result n) c.len-len.ensures.value
+    ∙ ap (λ l. (take (at - 0) own ++ entry ∷ []) ++ l) (rest_is c.behind-rest.result own)
+    ∙ c.behind-rest.ensures.put 0 (omega arith) place c.args.child

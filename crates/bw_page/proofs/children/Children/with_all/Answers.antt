@@ -3,6 +3,7 @@ use Rattle.std.proofs.lemmas.List.{take_all, take_more}
 use Rattle.bw_page.specs.MergedEntries.{put_all}
 use Rattle.bw_page.proofs.MergingLemmas.{HasMerged, before_there, merging_more, merging_none, rest_is}
 use Rattle.bw_page.proofs.children.Children.with_all.Goals as goal
+use Rattle.bw_page.proofs.children.Children.with_all.Goals.{then-len-count, else-len-count}
 
 pub loop-entry-init : goal.loop-entry-init
 loop-entry-init c = merging_none c.in_ok-all.all c.args.self.now c.in_ok-all.ensures
@@ -21,8 +22,12 @@ pub returns : goal.returns
 returns c =
     let own = c.args.self.now in
     let more = c.args.more.now in
-    c.in_ok-extend.ensures.ok
+    let whole = c.in_ok-extend.ensures.ok
     ∙ ap (λ n. c.loop-entry.all ++ slice_range own c.loop-entry.passed n) c.len-2.ensures.value
     ∙ ap (λ l. c.loop-entry.all ++ l) (rest_is c.loop-entry.passed own)
     ∙ c.loop-entry.invariant.is
-    ∙ ap (λ l. put_all l own) (take_all c.loop-entry.entry-index more (omega (arith, c.loop-entry-test.false)))
+    ∙ ap (λ l. put_all l own) (take_all c.loop-entry.entry-index more (omega (arith, c.loop-entry-test.false))) in
+    elim c.if-len-count.branch [
+      | then-len-count w ↦ w.all-is ∙ w.shrink_to_fit.ensures ∙ c.all.view_is ∙ whole
+      | else-len-count w ↦ w.all-is ∙ whole
+    ]

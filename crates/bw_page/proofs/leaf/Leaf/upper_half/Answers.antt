@@ -3,12 +3,12 @@ use Rattle.bw_page.proofs.leaf.Leaf.upper_half.Goals as goal
 
 pub invariant_of-result : goal.invariant_of-result
 invariant_of-result c =
-    (upper_part c.args.self.now c.self.inside.bounds c.self.inside.pairs c.args.keep c.self.view_is c.requires c.in_ok-with_low.field-0 c.in_ok-key_at.field-0 c.in_ok-copy_from.field-0 c.in_ok-key_at.ensures c.in_ok-with_low.ensures c.in_ok-copy_from.ensures c.self.invariant).rules
+    (upper_part c.args.self.now c.self.inside.bounds c.self.inside.pairs c.args.keep c.self.view_is c.requires c.in_ok-with_low.field-0 c.in_ok-key_at.field-0 c.in_ok-copy_from.field-0 c.in_ok-key_at.ensures.ok c.in_ok-with_low.ensures c.in_ok-copy_from.ensures c.self.invariant).rules
 
 pub returns-clause-value : goal.returns-clause-value
 returns-clause-value c =
-    (upper_part c.args.self.now c.self.inside.bounds c.self.inside.pairs c.args.keep c.self.view_is c.requires c.in_ok-with_low.field-0 c.in_ok-key_at.field-0 c.in_ok-copy_from.field-0 c.in_ok-key_at.ensures c.in_ok-with_low.ensures c.in_ok-copy_from.ensures c.self.invariant).view
+    (upper_part c.args.self.now c.self.inside.bounds c.self.inside.pairs c.args.keep c.self.view_is c.requires c.in_ok-with_low.field-0 c.in_ok-key_at.field-0 c.in_ok-copy_from.field-0 c.in_ok-key_at.ensures.ok c.in_ok-with_low.ensures c.in_ok-copy_from.ensures c.self.invariant).view
 
 pub returns-clause-kept : goal.returns-clause-kept
 returns-clause-kept c =
-    (upper_part c.args.self.now c.self.inside.bounds c.self.inside.pairs c.args.keep c.self.view_is c.requires c.in_ok-with_low.field-0 c.in_ok-key_at.field-0 c.in_ok-copy_from.field-0 c.in_ok-key_at.ensures c.in_ok-with_low.ensures c.in_ok-copy_from.ensures c.self.invariant).begins
+    (upper_part c.args.self.now c.self.inside.bounds c.self.inside.pairs c.args.keep c.self.view_is c.requires c.in_ok-with_low.field-0 c.in_ok-key_at.field-0 c.in_ok-copy_from.field-0 c.in_ok-key_at.ensures.ok c.in_ok-with_low.ensures c.in_ok-copy_from.ensures c.self.invariant).begins
