@@ -19,7 +19,7 @@ use Rattle.bw_look.specs.View.{TreeView, contents_at}
 use Rattle.bw_look.specs.declared.look.shape.PageShape.{PageShape}
 use Rattle.bw_look.proofs.ConsolidatedLeaves.{high_is}
 use Rattle.bw_batch.specs.Lens.{leaf_pairs}
-use Rattle.bw_batch.proofs.IndexContents.{all_in_range}
+use Rattle.bw_delta.proofs.Replays.{all_in_range}
 
 -- a range cut in two at a key above its low one, with one entry more
 one_more : (low high : KeyBytes) → is_lt (key_cmp low high) ≡ true → (e : KeyBytes × ValueBytes) (first second all : List (KeyBytes × ValueBytes)) → length first + length second ≡ length all →

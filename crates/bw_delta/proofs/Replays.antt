@@ -1,5 +1,5 @@
 -- A replay at a later stamp, and what its pairs are.
-use Rattle.std.proofs.Common.{◌≡◌, ℕ, zero, suc, ◌+◌, ◌≤◌, Ordering, Bool, true, false, cond, not, ◌&&◌, T, List, [], ◌∷◌, ◌++◌, drop, length, take, nat_le, Option, Some, None, refl, sym, ap, ◌∙◌, subst, arith}
+use Rattle.std.proofs.Common.{◌≡◌, ℕ, zero, suc, ◌+◌, ◌<◌, ◌≤◌, Ordering, Bool, true, false, cond, not, ◌&&◌, T, List, [], ◌∷◌, ◌++◌, drop, length, take, nat_le, Option, Some, None, refl, sym, ap, ◌∙◌, subst, arith}
 use Rattle.std.proofs.lemmas.List.{length-take, take-append-le}
 use Rattle.std.specs.Prelude.{filter, slice_get}
 use Rattle.std.specs.Borrow.{Bor}
@@ -52,6 +52,22 @@ from_least high low key least below =
 pub all_from_least : {V : Type 0} (es : List (KeyBytes × V)) → T (list_all (is_pair_in_range [] None) es)
 all_from_least [] = tt
 all_from_least (e ∷ es) = both_of _ _ (true_holds _ (from_least None [] e.0 refl tt)) (all_from_least es)
+
+-- each key is in the range of all keys
+pub all_in_range : {V : Type 0} (es : List (KeyBytes × V)) → filter (is_pair_in_range [] None) es ≡ es
+all_in_range [] = refl
+all_in_range (e ∷ es) =
+    ap (λ b. cond b (e ∷ filter (is_pair_in_range [] None) es) (filter (is_pair_in_range [] None) es)) (holds _ (true_holds _ (from_least None [] e.0 refl tt)))
+    ∙ ap (λ l. e ∷ l) (all_in_range es)
+
+-- of fewer than the most that were asked for none is missing
+pub all_found : {X : Type 0} (most : ℕ) (found xs : List X) → found ≡ take most xs → length found < most → found ≡ xs
+all_found most found xs is few = is ∙ first_all most xs (subst (λ l. length l < most) is few)
+  where
+    first_all : {X : Type 0} (most : ℕ) (xs : List X) → length (take most xs) < most → take most xs ≡ xs
+    first_all zero xs lt = absurd (omega (arith, lt))
+    first_all (suc most) [] lt = refl
+    first_all (suc most) (x ∷ xs) lt = ap (λ l. x ∷ l) (first_all most xs (omega (arith, lt)))
 
 module _ (start : KeyBytes → Option ValueBytes) (high : Option KeyBytes) (writes : List WriteView) where
   -- a replay that went on to a later stamp

@@ -5,7 +5,7 @@ use Rattle.std.specs.FinMap.Entries.{put, where_key}
 use Rattle.bw_key.specs.Order.{KeyBytes, key_cmp}
 use Rattle.bw_model.specs.Values.{Pair, ValueBytes}
 use Rattle.bw_delta.specs.declared.present.Base.{Base}
-use Rattle.bw_delta.specs.declared.present.Base.TheVariants.{Lent, Joined}
+use Rattle.bw_delta.specs.declared.present.Base.TheVariants.{Lent, Made}
 use Rattle.bw_delta.specs.declared.present.Present.{Present}
 
 -- a key that was changed, and its value now, if it has one
@@ -24,7 +24,7 @@ changed_pairs (change ∷ changes) pairs = with_change change (changed_pairs cha
 
 abbrev pub base_pairs : Base → List Pair
 base_pairs (Lent leaf) = leaf.now.pairs
-base_pairs (Joined leaf) = leaf.pairs
+base_pairs (Made leaf) = leaf.pairs
 
 abbrev pub present_pairs : Present → List Pair
 present_pairs present = changed_pairs present.changes.entries (base_pairs present.base)

@@ -1,5 +1,5 @@
 // The pairs that a replay has now.
-ghost use Rattle.std.specs.Prelude.{◌≡◌, ◌≤◌, ◌++◌, T, drop, filter, length, reverse, take, IfOk, OnOk, if◌then◌else◌};
+ghost use Rattle.std.specs.Prelude.{◌≡◌, ◌≤◌, ◌++◌, [], T, drop, filter, length, reverse, take, IfOk, OnOk, if◌then◌else◌};
 ghost use Rattle.std.specs.Option.{option_copied};
 ghost use Rattle.std.specs.FinMap.{find, is_sorted};
 ghost use Rattle.bw_key.specs.Order.{KeyBytes, key_cmp, key_eq};
@@ -23,6 +23,9 @@ use bw_page::Leaf;
 use std::collections::BTreeMap;
 use std::collections::btree_map::Range;
 
+// Up to so many changes are left over the pairs of a base, and one more for each so many pairs.
+const FEW: usize = 8;
+
 /// The pairs of a page: those of its base, which stay where they stand, and what writes made of some of them.
 ///
 /// A write that changes a value costs up to two searches among the changes and two on the base, and a copy of its key and
@@ -38,8 +41,8 @@ pub(crate) struct Present<'a> {
 #[derive(Drop)]
 pub(crate) enum Base<'a> {
     Lent(&'a Leaf),
-    // of several parts
-    Joined(Leaf),
+    // of several parts, or with earlier changes made
+    Made(Leaf),
 }
 
 impl<'a> Base<'a> {
@@ -48,7 +51,7 @@ impl<'a> Base<'a> {
     {
         match self {
             Base::Lent(leaf) => leaf,
-            Base::Joined(leaf) => leaf,
+            Base::Made(leaf) => leaf,
         }
     }
 }
@@ -67,7 +70,7 @@ impl<'a> Present<'a> {
         let base = if parts.len() == 1 {
             Base::Lent(parts[0])
         } else {
-            Base::Joined(joined(alloc, parts, high)?)
+            Base::Made(joined(alloc, parts, high)?)
         };
         Ok(Present {
             base,
@@ -97,6 +100,46 @@ impl<'a> Present<'a> {
             self.put_write(alloc, write)?;
         }
         Ok((self, writes.len()))
+    }
+
+    /// The same pairs, with the changes made where there are many of them. So a read of a range passes few changes, however many
+    /// keys were written, and a change costs a copy of some eight pairs in the long run. `Memory` is answered where the list of
+    /// the pairs finds none.
+    pub(crate) fn settle(self, alloc: Alloc) -> Result<Present<'a>, Memory>
+        ensures { IfOk result (λ present. present_pairs present ≡ present_pairs self.entry) }
+    {
+        if self.changes.len() <= few_over(self.base.leaf().pairs().len()) {
+            return Ok(self);
+        }
+        Ok(Present {
+            base: Base::Made(self.to_leaf(alloc)?),
+            changes: BTreeMap::new(alloc),
+        })
+    }
+
+    // The pairs as those of a leaf of all keys.
+    fn to_leaf(&self, alloc: Alloc) -> Result<Leaf, Memory>
+        ensures { IfOk result (λ leaf. leaf.pairs ≡ present_pairs self.now) }
+    {
+        let low = Key::new(alloc, &[]).unwrap();
+        let pairs = self.to_pairs(alloc, &low)?;
+        Ok(Leaf::from_pairs(low, None, None, pairs))
+    }
+
+    // The pairs in a list of their own, all of which stand from the least key on.
+    fn to_pairs(&self, alloc: Alloc, least: &Key) -> Result<Pairs, Memory>
+        requires { least.now ≡ [] }
+        ensures sorted { IfOk result (λ pairs. T (is_sorted key_cmp pairs)) }
+        ensures all { IfOk result (λ pairs. pairs ≡ present_pairs self.now) }
+    {
+        let base = self.base.leaf().pairs().all();
+        let count = base.len().saturating_add(self.changes.len());
+        let mut pairs = Pairs::with_capacity(alloc, count, base.byte_count())?;
+        self.add_first(least, None, u64::MAX, &mut pairs)?;
+        if pairs.len() as u64 == u64::MAX {
+            return Err(Memory);
+        }
+        Ok(pairs)
     }
 
     // Lets a write have its effect.
@@ -173,6 +216,11 @@ impl<'a> Present<'a> {
         let pairs = self.base.leaf().between(low, high);
         add_falling(pairs, range(&self.changes, low, high), most, read)
     }
+}
+
+// How many changes over so many pairs are few.
+fn few_over(pairs: usize) -> usize {
+    FEW.saturating_add(pairs / FEW)
 }
 
 // The changes from `low` on and below `high`.

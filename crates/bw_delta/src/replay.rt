@@ -22,7 +22,9 @@ use std::marker::Model;
 /// The pairs of a page as of a stamp that rises. However many stamps they are read as of, each write has its effect once.
 ///
 /// The pairs of one part are read where they stand, and of the keys that writes changed the values now are kept in an
-/// ordered map. So a write costs searches and a copy of its key and value, and none of the pairs beside it.
+/// ordered map, until they are more than eight and an eighth of the pairs: then they are put among a copy of these. So a write
+/// costs searches, a copy of its key and value, and in the long run one of some eight pairs beside it, and a read of a range
+/// passes few changed keys.
 pub struct Replay<'a> {
     stamp: u64,
     present: Present<'a>,
@@ -108,8 +110,8 @@ impl<'a> Replay<'a> {
 
     /// The replay as of a stamp that isn't below its own: each write with a smaller one has its effect, in up to two
     /// searches of the page and two among the changed keys, with a copy of its key and of the value that it leaves where it
-    /// changes that. After `Memory` the replay is gone, and
-    /// its parts and writes are as they were.
+    /// changes that. Where many keys are changed then, the changes are made in a copy of the page's pairs, which costs some
+    /// eight of these for each change. After `Memory` the replay is gone, and its parts and writes are as they were.
     pub fn advance(self, stamp: u64) -> Result<Replay<'a>, Memory>
         requires { self.stamp ≤ stamp }
         ensures stamp { IfOk result (λ replay. replay.stamp ≡ stamp) }
@@ -127,7 +129,7 @@ impl<'a> Replay<'a> {
         let (present, more) = present.put_writes(alloc, &writes[passed..], stamp)?;
         Ok(Replay {
             stamp,
-            present,
+            present: present.settle(alloc)?,
             writes,
             passed: passed + more,
         })

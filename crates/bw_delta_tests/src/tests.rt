@@ -4,6 +4,7 @@ mod arenas;
 mod assertions;
 mod drops;
 mod making;
+mod many_changes;
 mod merges;
 mod readings;
 mod refused;

@@ -2,7 +2,7 @@ use Rattle.std.proofs.Common.{ap, ◌∙◌, arith}
 use Rattle.bw_model.specs.Contents.{pairs_of_range}
 use Rattle.bw_look.specs.View.{contents_at}
 use Rattle.std.specs.Prelude.{None}
-use Rattle.bw_batch.proofs.IndexContents.{all_found}
+use Rattle.bw_delta.proofs.Replays.{all_found}
 use Rattle.bw_batch.proofs.index.pairs_from.Goals as goal
 
 pub returns : goal.returns

@@ -1,0 +1,142 @@
+// More keys changed than a replay leaves beside the pairs of its page.
+use super::making::{
+    a_and_b, advanced, first, heap, insert, key, last, pairs_under, replay_of, write,
+};
+use crate::tests::assertions::assert_that;
+use bw_delta::{Action, Memory, Replay, Write};
+use bw_fixtures::was_refused;
+use bw_key::Key;
+use bw_memory::Alloc;
+use bw_model::Pairs;
+use bw_page::Leaf;
+use std::process::Abort;
+
+// What is inserted at stamps 0 to 23, each key with itself as value: not in the order of the keys.
+const INSERTED: &[&[u8]] = &[
+    b"c", b"o", b"e", b"q", b"g", b"s", b"i", b"u", b"k", b"w", b"m", b"y", b"d", b"p", b"f", b"r",
+    b"h", b"t", b"j", b"v", b"l", b"x", b"n", b"z",
+];
+
+// What is deleted at stamps 24 to 34, one of a leaf with a 1 and b 2 among them.
+const DELETED: &[&[u8]] = &[
+    b"c", b"b", b"d", b"f", b"h", b"j", b"l", b"n", b"p", b"r", b"t",
+];
+
+// What is left behind stamp 34.
+const LEFT: &[(&[u8], &[u8])] = &[
+    (b"a", b"1"),
+    (b"e", b"e"),
+    (b"g", b"g"),
+    (b"i", b"i"),
+    (b"k", b"k"),
+    (b"m", b"m"),
+    (b"o", b"o"),
+    (b"q", b"q"),
+    (b"s", b"s"),
+    (b"u", b"u"),
+    (b"v", b"v"),
+    (b"w", b"w"),
+    (b"x", b"x"),
+    (b"y", b"y"),
+    (b"z", b"z"),
+];
+
+// The write of a key with this stamp: an insert, or behind stamp 23 a delete.
+fn write_at<R: Abort>(rt: &R, alloc: Alloc, stamp: usize, bytes: &[u8]) -> Write {
+    if stamp < INSERTED.len() {
+        return insert(rt, alloc, stamp as u64, bytes, bytes);
+    }
+    write(rt, alloc, stamp as u64, bytes, Action::Delete)
+}
+
+// All writes.
+fn writes<R: Abort>(rt: &R, alloc: Alloc) -> Vec<Write, Alloc> {
+    let mut writes = Vec::new(alloc);
+    for (stamp, bytes) in INSERTED.iter().chain(DELETED).enumerate() {
+        let write = write_at(rt, alloc, stamp, bytes);
+        writes.push(write).expect(rt, "memory");
+    }
+    writes
+}
+
+// References to them.
+fn lent<'a, R: Abort>(rt: &R, alloc: Alloc, writes: &'a [Write]) -> Vec<&'a Write, Alloc> {
+    let mut lent = Vec::new(alloc);
+    for write in writes {
+        lent.push(write).expect(rt, "memory");
+    }
+    lent
+}
+
+// Takes a replay on to a stamp, and compares its pairs with those that are merged at once.
+fn compare_at<'a, R: Abort>(
+    rt: &R,
+    alloc: Alloc,
+    replay: Replay<'a>,
+    (leaf, least): (&Leaf, &Key),
+    writes: &[&Write],
+    stamp: u64,
+) -> Replay<'a> {
+    let replay = advanced(rt, replay, stamp).expect(rt, "memory");
+    let read = first(alloc, &replay, (least, None), 99).expect(rt, "memory");
+    let merged = pairs_under(rt, alloc, &[leaf], (least, None), writes, stamp);
+    assert_that(rt, read.all().is_same(&merged.expect(rt, "memory").all()));
+    replay
+}
+
+#[test]
+fn many_changes_are_read_as_of_each_stamp(rt: HostRuntime) {
+    let alloc = heap(&rt, rt.alloc());
+    let (leaf, least) = (a_and_b(&rt, alloc), key(&rt, alloc, b""));
+    let writes = writes(&rt, alloc);
+    let lent = lent(&rt, alloc, &writes);
+    let mut replay = replay_of(&rt, alloc, &[&leaf], None, &lent).expect(&rt, "memory");
+    for stamp in 0..36 {
+        replay = compare_at(&rt, alloc, replay, (&leaf, &least), &lent, stamp);
+    }
+}
+
+// The last pairs as of a stamp behind all writes, to which a replay goes at once.
+fn read_back<R: Abort>(
+    rt: &R,
+    alloc: Alloc,
+    leaf: &Leaf,
+    least: &Key,
+    writes: &[&Write],
+) -> Result<Pairs, Memory> {
+    let replay = replay_of(rt, alloc, &[leaf], None, writes)?;
+    let replay = advanced(rt, replay, 35)?;
+    last(alloc, &replay, (least, None), 99)
+}
+
+// Whether the pairs are those that are left, the greatest key first.
+fn are_left(pairs: &Pairs) -> bool {
+    if pairs.len() != LEFT.len() {
+        return false;
+    }
+    for (place, (key, value)) in LEFT.iter().rev().enumerate() {
+        if pairs.key_at(place) != *key || pairs.value_at(place) != *value {
+            return false;
+        }
+    }
+    true
+}
+
+#[test]
+fn each_growth_of_many_changes_is_refused(rt: HostRuntime) {
+    let alloc = heap(&rt, rt.alloc());
+    let (leaf, least) = (a_and_b(&rt, alloc), key(&rt, alloc, b""));
+    let writes = writes(&rt, alloc);
+    let lent = lent(&rt, alloc, &writes);
+    for growth in 1..200 {
+        alloc.refuse(growth);
+        let left = read_back(&rt, alloc, &leaf, &least, &lent);
+        if !was_refused(alloc, growth) {
+            assert_that(&rt, are_left(&left.expect(&rt, "memory")));
+            assert_that(&rt, growth > 5);
+            return;
+        }
+        assert_that(&rt, left.is_err());
+    }
+    panic!(rt; "no run met no refusal")
+}
