@@ -9,7 +9,8 @@ use Rattle.atomic_table.specs.Seated.{TableId}
 use Rattle.bw_core.specs.declared.BookView.{BookView}
 use Rattle.bw_core.specs.Keeping.{pairs_of}
 use Rattle.bw_core.specs.World.{total, one_if, owns, posts_in, late, wins_in, IsLast, times, posts_at, seen_at, end_at, Meets, IsEnd}
-use Rattle.bw_core.specs.Events.{post, book_after_swap, book_after_claim}
+use Rattle.bw_core.specs.Events.{post, book_after_swap, book_after_claim, left_book, right_book}
+use Rattle.bw_core.specs.Transitions.{first_book}
 use Rattle.bw_board.specs.declared.table.Origin.{Origin}
 use Rattle.bw_board.specs.declared.table.Sight.{Sight}
 use Rattle.bw_board.specs.Rule.{Moment}
@@ -63,6 +64,22 @@ pub record IsBoard (board : BoardView) (pages : ℕ) (key origin : Origin) : Typ
   pub no_slots : board.table.slots ≡ 0
   pub records_fit : board.floor + board.records ≤ 2 ^ 33
   pub low : EachIndex board.first (λ p. slice_index board.first p < board.floor)
+
+-- a board that was opened with these words and numbers, and its one seat
+pub record IsOpened (heads : List ℕ) (floor records piece : ℕ) (spares : List (Option ℕ)) (board : BoardView)
+    (seat : SeatView) : Type 0 where
+  pub same_heads : board.first ≡ heads
+  pub same_floor : board.floor ≡ floor
+  pub same_records : board.records ≡ records
+  pub same_piece : board.piece ≡ piece
+  pub same_spares : board.spares ≡ spares
+  -- it has every width, and owns nothing
+  pub seat_is : seat ≡ record { board = board; book = first_book heads }
+
+-- the two seats that a seat was split into
+pub record IsSplit (seat left right : SeatView) : Type 0 where
+  pub left_is : left ≡ record seat { book = left_book seat.book }
+  pub right_is : right ≡ record seat { book = right_book seat.book }
 
 -- a seat at this table, by what it knows
 abbrev pub seat_view : TableId → Sight → SeatView

@@ -2,11 +2,10 @@
 ghost use Rattle.std.specs.Prelude.{◌≡◌, ℕ, ◌+◌, ◌^◌, ◌<◌, ◌≤◌, [], ◌∷◌, ◌++◌, List, length, slice_index, slice_index_or, ◌⊎◌, ◌≢◌, Some, None};
 ghost use Rattle.std.specs.Prelude.{replicate, EachIndex, IsOk, IsNone, IfOk, IfErr, OnOk, OnErr, IfSome, IfNone, min, true};
 ghost use Rattle.bw_core.specs.World.{tries_in, IsEnd, seen_at, end_at, owns, posts_in, posts_at, times, top};
-ghost use Rattle.bw_core.specs.Events.{book_after_look, book_after_late_swap, left_book, right_book, book_after_join, book_without_pieces};
-ghost use Rattle.bw_core.specs.Transitions.{first_book};
+ghost use Rattle.bw_core.specs.Events.{book_after_look, book_after_late_swap, book_after_join, book_without_pieces};
 ghost use Rattle.bw_board.specs.declared.board.Replaced.TheVariants.{Won, Late};
-ghost use Rattle.bw_board.specs.Public.{BoardView, SeatView, board_view, seat_view, IsBoard, IsIdleSeat, Sees, Posts};
-ghost use Rattle.bw_board.specs.Public.{Replaces, seat_after_claim, AllClaimed, OwnsAlone, IsClosed, HasEach, IsSound};
+ghost use Rattle.bw_board.specs.Public.{BoardView, SeatView, board_view, seat_view, IsBoard, IsIdleSeat, IsOpened, IsSplit};
+ghost use Rattle.bw_board.specs.Public.{Sees, Posts, Replaces, seat_after_claim, AllClaimed, OwnsAlone, IsClosed, HasEach, IsSound};
 
 use crate::last_words::{Closed, swapped_pages, words_from};
 use crate::plays::{Both, Halve};
@@ -104,12 +103,7 @@ impl Board {
         requires spare_low { (p : ℕ) → (x : ℕ) → slice_index_or spares.now p None ≡ Some x → x < floor }
         requires spare_new { (p : ℕ) → (x : ℕ) → slice_index_or spares.now p None ≡ Some x →
             x ≢ slice_index heads.now p }
-        ensures first { IfOk result (λ t. t.0.first ≡ heads.now) }
-        ensures floor { IfOk result (λ t. t.0.floor ≡ floor) }
-        ensures records { IfOk result (λ t. t.0.records ≡ records) }
-        ensures piece { IfOk result (λ t. t.0.piece ≡ piece) }
-        ensures spares { IfOk result (λ t. t.0.spares ≡ spares.now) }
-        ensures seat { IfOk result (λ t. t.1 ≡ record { board = t.0; book = first_book heads.now }) }
+        ensures opened { IfOk result (λ t. IsOpened heads.now floor records piece spares.now t.0 t.1) }
     {
         let words = first_words(alloc, heads, records)?;
         let origin = Origin {
@@ -247,8 +241,7 @@ impl Board {
     pub fn split(&self, seat: Seat) -> Result<(Seat, Seat), Seat>
         requires board { seat.board ≡ self.now }
         ensures wide { 2 ≤ seat.book.width → IsOk result }
-        ensures left { IfOk result (λ t. t.0 ≡ record seat { book = left_book seat.book }) }
-        ensures right { IfOk result (λ t. t.1 ≡ record seat { book = right_book seat.book }) }
+        ensures split { IfOk result (λ t. IsSplit seat t.0 t.1) }
         ensures back { IfErr result (λ s. s ≡ seat) }
         ensures narrow { OnErr result (seat.book.width ≡ 1) }
     {

@@ -35,12 +35,12 @@ pub record World : Type 0 where
 abbrev pub one_if : Bool → ℕ
 one_if b = cond b 1 0
 
--- f of each member, added up
+-- f of each member, added up: std's `sum_by`, by recursion, so that it computes on `x ∷ xs`
 abbrev pub total : {X : Type 0} → (X → ℕ) → List X → ℕ
 total f [] = 0
 total f (x ∷ xs) = f x + total f xs
 
--- how often r stands in the list
+-- how often r stands in the list: std's `count_by`, in the same way
 abbrev pub times : ℕ → List ℕ → ℕ
 times r rs = total (λ x. one_if (x == r)) rs
 
