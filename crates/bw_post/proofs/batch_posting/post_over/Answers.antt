@@ -41,9 +41,9 @@ post_side_by_side-requires-clause-over g c κs within =
     let homes = c.args.homes.pages in
     let pages = c.args.pages.items in
     let told = told_batch c.staged.result tree c.unwrap-staged.result c.staged.ensures c.unwrap-staged.ensures in
-    let opened = c.in_ok-board.ensures in
-    let first = opened.first ∙ c.deref-2.ensures.value ∙ c.in_ok-heads.ensures ∙ ap (words_of tree.heads) c.deref.ensures.value in
-    is_board_of tree homes pages c.args.spares.now c.in_ok-board.board c.unwrap-staged.result told c.requires.pages c.requires.homes first opened.records opened.spares
+    let opened = c.in_ok-board.ensures.opened in
+    let first = opened.same_heads ∙ c.deref-2.ensures.value ∙ c.in_ok-heads.ensures ∙ ap (words_of tree.heads) c.deref.ensures.value in
+    is_board_of tree homes pages c.args.spares.now c.in_ok-board.board c.unwrap-staged.result told c.requires.pages c.requires.homes first opened.same_records opened.same_spares
 
 pub join_workers-requires-clause-over : goal.join_workers-requires-clause-over
 join_workers-requires-clause-over g c =
@@ -51,13 +51,13 @@ join_workers-requires-clause-over g c =
     let homes = c.args.homes.pages in
     let pages = c.args.pages.items in
     let told = told_batch c.staged.result tree c.unwrap-staged.result c.staged.ensures c.unwrap-staged.ensures in
-    let opened = c.in_ok-board.ensures in
-    let first = opened.first ∙ c.deref-2.ensures.value ∙ c.in_ok-heads.ensures ∙ ap (words_of tree.heads) c.deref.ensures.value in
-    is_board_of tree homes pages c.args.spares.now c.in_ok-board.board c.unwrap-staged.result told c.requires.pages c.requires.homes first opened.records opened.spares
+    let opened = c.in_ok-board.ensures.opened in
+    let first = opened.same_heads ∙ c.deref-2.ensures.value ∙ c.in_ok-heads.ensures ∙ ap (words_of tree.heads) c.deref.ensures.value in
+    is_board_of tree homes pages c.args.spares.now c.in_ok-board.board c.unwrap-staged.result told c.requires.pages c.requires.homes first opened.same_records opened.same_spares
 
 pub close-requires-clause-whole : goal.close-requires-clause-whole
 close-requires-clause-whole g c =
-    c.in_ok-seat.ensures.width ∙ ap (total width_of) (front_of c.in_ok-crew.crew.len c.post_side_by_side.new.workers _ (let len = same_length c.deref_mut.result.now c.post_side_by_side.new.workers c.post_side_by_side.ensures.width in omega (arith, len, c.deref_mut.ensures.len))) ∙ same_sum c.deref_mut.result.now c.post_side_by_side.new.workers c.post_side_by_side.ensures.width ∙ ap (total width_of) c.deref_mut.ensures.value ∙ c.in_ok-crew.ensures.width ∙ ap (λ (v : SeatView). v.book.width) c.in_ok-board.ensures.seat
+    c.in_ok-seat.ensures.width ∙ ap (total width_of) (front_of c.in_ok-crew.crew.len c.post_side_by_side.new.workers _ (let len = same_length c.deref_mut.result.now c.post_side_by_side.new.workers c.post_side_by_side.ensures.width in omega (arith, len, c.deref_mut.ensures.len))) ∙ same_sum c.deref_mut.result.now c.post_side_by_side.new.workers c.post_side_by_side.ensures.width ∙ ap (total width_of) c.deref_mut.ensures.value ∙ c.in_ok-crew.ensures.width ∙ ap (λ (v : SeatView). v.book.width) c.in_ok-board.ensures.opened.seat_is
 
 pub close-requires-clause-posted : goal.close-requires-clause-posted
 close-requires-clause-posted g c = λ r. omega (arith, c.in_ok-seat.ensures.finished.worked.posted r)
@@ -68,15 +68,15 @@ returns-clause-posted g c =
     let homes = c.args.homes.pages in
     let pages = c.args.pages.items in
     let told = told_batch c.staged.result tree c.unwrap-staged.result c.staged.ensures c.unwrap-staged.ensures in
-    let opened = c.in_ok-board.ensures in
-    let first = opened.first ∙ c.deref-2.ensures.value ∙ c.in_ok-heads.ensures ∙ ap (words_of tree.heads) c.deref.ensures.value in
+    let opened = c.in_ok-board.ensures.opened in
+    let first = opened.same_heads ∙ c.deref-2.ensures.value ∙ c.in_ok-heads.ensures ∙ ap (words_of tree.heads) c.deref.ensures.value in
     let seat = c.in_ok-seat.field-0.seat in
     let leaves = c.in_ok-seat.field-0.folded.items in
     let worked = c.in_ok-seat.ensures.finished.worked in
-    let over = subst (IsOver tree homes pages) (sym worked.board_is) (is_over tree homes pages c.args.spares.now c.in_ok-board.board c.unwrap-staged.result told c.requires.pages c.requires.homes first opened.records opened.spares) in
+    let over = subst (IsOver tree homes pages) (sym worked.board_is) (is_over tree homes pages c.args.spares.now c.in_ok-board.board c.unwrap-staged.result told c.requires.pages c.requires.homes first opened.same_records opened.same_spares) in
     let folded = subst (λ (b : BoardView). HasFolded tree homes b.spares leaves seat.book.swaps) (sym worked.board_is) worked.folded in
     posted_stage tree seat homes pages c.in_ok-closed.closed.heads c.in_ok-closed.closed.links c.in_ok-closed.closed.swapped leaves c.unwrap-staged.result c.requires.waiting told
-    (ap (λ (b : BoardView). b.floor) worked.board_is ∙ opened.floor) over worked.homes folded c.in_ok-closed.ensures.closed
+    (ap (λ (b : BoardView). b.floor) worked.board_is ∙ opened.same_floor) over worked.homes folded c.in_ok-closed.ensures.closed
 
 pub returns-clause-none : goal.returns-clause-none
 returns-clause-none g c = λ none.
@@ -84,12 +84,12 @@ returns-clause-none g c = λ none.
     let homes = c.args.homes.pages in
     let pages = c.args.pages.items in
     let told = told_batch c.staged.result tree c.unwrap-staged.result c.staged.ensures c.unwrap-staged.ensures in
-    let opened = c.in_ok-board.ensures in
-    let first = opened.first ∙ c.deref-2.ensures.value ∙ c.in_ok-heads.ensures ∙ ap (words_of tree.heads) c.deref.ensures.value in
+    let opened = c.in_ok-board.ensures.opened in
+    let first = opened.same_heads ∙ c.deref-2.ensures.value ∙ c.in_ok-heads.ensures ∙ ap (words_of tree.heads) c.deref.ensures.value in
     let seat = c.in_ok-seat.field-0.seat in
     let leaves = c.in_ok-seat.field-0.folded.items in
     let worked = c.in_ok-seat.ensures.finished.worked in
-    let over = subst (IsOver tree homes pages) (sym worked.board_is) (is_over tree homes pages c.args.spares.now c.in_ok-board.board c.unwrap-staged.result told c.requires.pages c.requires.homes first opened.records opened.spares) in
+    let over = subst (IsOver tree homes pages) (sym worked.board_is) (is_over tree homes pages c.args.spares.now c.in_ok-board.board c.unwrap-staged.result told c.requires.pages c.requires.homes first opened.same_records opened.same_spares) in
     let folded = subst (λ (b : BoardView). HasFolded tree homes b.spares leaves seat.book.swaps) (sym worked.board_is) worked.folded in
-    no_leaves tree told.stage seat homes pages c.in_ok-closed.closed.heads c.in_ok-closed.closed.links c.in_ok-closed.closed.swapped leaves over told.is (ap (λ (b : BoardView). b.floor) worked.board_is ∙ opened.floor ∙ told.floor) worked.homes folded c.in_ok-closed.ensures.closed
-    (no_spare seat.board.spares (ap (λ (b : BoardView). b.spares) worked.board_is ∙ opened.spares ∙ none))
+    no_leaves tree told.stage seat homes pages c.in_ok-closed.closed.heads c.in_ok-closed.closed.links c.in_ok-closed.closed.swapped leaves over told.is (ap (λ (b : BoardView). b.floor) worked.board_is ∙ opened.same_floor ∙ told.floor) worked.homes folded c.in_ok-closed.ensures.closed
+    (no_spare seat.board.spares (ap (λ (b : BoardView). b.spares) worked.board_is ∙ opened.same_spares ∙ none))

@@ -10,8 +10,8 @@ loop-workers-preserved c =
     let right = c.worker_at-in-Ok-2.ensures in
     record {
       some = some_more c.push-in-Ok.new.self.items c.push-in-Ok-2.new.self.items _ c.in_ok-push-in-Ok-2.ensures.items;
-      new = split_new c.args.board.now c.loop-workers.workers.items c.remove-seat.new.self.items c.remove-seat.result parts c.push-in-Ok.new.self.items c.push-in-Ok-2.new.self.items _ _ c.in_ok-push-in-Ok.ensures.items c.in_ok-push-in-Ok-2.ensures.items (left.seat ∙ c.in-Ok.ensures.left) (right.seat ∙ c.in-Ok.ensures.right) (left.lost, left.folded) (right.lost, right.folded) i.new;
-      width = split_width c.args.board.now c.loop-workers.workers.items c.remove-seat.new.self.items c.remove-seat.result parts c.push-in-Ok.new.self.items c.push-in-Ok-2.new.self.items _ _ c.in_ok-push-in-Ok.ensures.items c.in_ok-push-in-Ok-2.ensures.items (left.seat ∙ c.in-Ok.ensures.left) (right.seat ∙ c.in-Ok.ensures.right) ∙ i.width;
+      new = split_new c.args.board.now c.loop-workers.workers.items c.remove-seat.new.self.items c.remove-seat.result parts c.push-in-Ok.new.self.items c.push-in-Ok-2.new.self.items _ _ c.in_ok-push-in-Ok.ensures.items c.in_ok-push-in-Ok-2.ensures.items (left.seat ∙ c.in-Ok.ensures.split.left_is) (right.seat ∙ c.in-Ok.ensures.split.right_is) (left.lost, left.folded) (right.lost, right.folded) i.new;
+      width = split_width c.args.board.now c.loop-workers.workers.items c.remove-seat.new.self.items c.remove-seat.result parts c.push-in-Ok.new.self.items c.push-in-Ok-2.new.self.items _ _ c.in_ok-push-in-Ok.ensures.items c.in_ok-push-in-Ok-2.ensures.items (left.seat ∙ c.in-Ok.ensures.split.left_is) (right.seat ∙ c.in-Ok.ensures.split.right_is) ∙ i.width;
     }
 
 pub returns-in-Err-clause-width : goal.returns-in-Err-clause-width
