@@ -74,12 +74,12 @@ module _ (heads : List ℕ) (bases : Bases) (records : Records) (ends : AllEnd b
 
   is_record : record_at records_with new_word ≡ Some (d, e)
   is_record =
-      let test : ltb new_word 4294967296 ≡ false = grind (arith, nat_tests) in
-      ap (λ b. cond b None (slice_get records_with (new_word - 4294967296))) test
+      let test : ltb new_word floor_word ≡ false = grind (arith, nat_tests) in
+      ap (λ b. cond b None (slice_get records_with (new_word - floor_word))) test
       ∙ ap (slice_get records_with) place
       ∙ get_last records (d, e)
     where
-      place : new_word - 4294967296 ≡ length records
+      place : new_word - floor_word ≡ length records
       place = omega arith
 
   way : Leads (link_of records_with) new_word (new_word ∷ []) e

@@ -12,28 +12,28 @@ use Rattle.bw_level.specs.Walk.{Leads, walked, ended}
 use Rattle.bw_level.specs.Slots.{Slot, Body, Pairs, Children, Free, Gone, Live}
 use Rattle.bw_level.specs.Turns.{IsOther, slot_without_writes, body_without_writes}
 use Rattle.bw_level.specs.Changes.{Bases, body_written, change, based}
-use Rattle.bw_chain.specs.Chains.{Records, Ends, EndsAt, IsShaped, record_at, link_of, linked_word, delta_in, deltas_at, changed, slot_of_word}
+use Rattle.bw_chain.specs.Chains.{Records, Ends, EndsAt, IsShaped, floor_word, record_at, link_of, linked_word, delta_in, deltas_at, changed, slot_of_word}
 use Rattle.bw_level.proofs.WalkLemmas.{walked_is, ended_is, way_falls_within}
 
 pub link_is : (records : Records) (word : ℕ) (r : Delta × ℕ) → record_at records word ≡ Some r → link_of records word ≡ Some r.1
 link_is records word r at = ap linked_word at
 
 -- the link of a record is found among the links alone
-pub link_among : (records : Records) (word : ℕ) → 4294967296 ≤ word → slice_get (links_of records) (word - 4294967296) ≡ link_of records word
+pub link_among : (records : Records) (word : ℕ) → floor_word ≤ word → slice_get (links_of records) (word - floor_word) ≡ link_of records word
 link_among records word from =
-    let test : ltb word 4294967296 ≡ false = grind (arith, nat_tests) in
-    slice_get-map (λ (r : Delta × ℕ). r.1) records (word - 4294967296)
-    ∙ linked_as (slice_get records (word - 4294967296))
-    ∙ sym (ap (λ b. linked_word (cond b None (slice_get records (word - 4294967296)))) test)
+    let test : ltb word floor_word ≡ false = grind (arith, nat_tests) in
+    slice_get-map (λ (r : Delta × ℕ). r.1) records (word - floor_word)
+    ∙ linked_as (slice_get records (word - floor_word))
+    ∙ sym (ap (λ b. linked_word (cond b None (slice_get records (word - floor_word)))) test)
   where
     linked_as : (o : Option (Delta × ℕ)) → option_map (λ r. r.1) o ≡ linked_word o
     linked_as None = refl
     linked_as (Some r) = refl
 
-pub no_record : (records : Records) (word : ℕ) → word < 4294967296 → record_at records word ≡ None
+pub no_record : (records : Records) (word : ℕ) → word < floor_word → record_at records word ≡ None
 no_record records word below =
-    let test : ltb word 4294967296 ≡ true = grind (arith, nat_tests) in
-    ap (λ b. cond b None (slice_get records (word - 4294967296))) test
+    let test : ltb word floor_word ≡ true = grind (arith, nat_tests) in
+    ap (λ b. cond b None (slice_get records (word - floor_word))) test
 
 pub no_next : {q : ℕ} → None ≡ Some q → ⊥
 no_next e = cc
@@ -41,7 +41,7 @@ no_next e = cc
 pub same_next : {p q : ℕ} → Some p ≡ Some q → p ≡ q
 same_next e = cc
 
-pub no_link : (records : Records) (word : ℕ) → word < 4294967296 → None ≡ link_of records word
+pub no_link : (records : Records) (word : ℕ) → word < floor_word → None ≡ link_of records word
 no_link records word below = sym (ap linked_word (no_record records word below))
 
 -- a link stands in a record
@@ -99,7 +99,7 @@ base_there bases records q ws e way none =
     let ended_there : Leads (link_of records) q [] e = subst (λ (l : List ℕ). Leads (link_of records) q l e) (none_on records q ws e way none) way in
     slot_of_way bases records q [] e ended_there (omega arith) ∙ ap (λ m. based (slice_get bases m)) (sym ended_there.0)
 
-below_it : (bases : Bases) (records : Records) (q : ℕ) (d : Delta) (ws : List ℕ) (e : ℕ) → Leads (link_of records) q ws e → length ws ≤ length records → e < length bases → e < 4294967296 → IsShaped (based (slice_get bases e)) (d ∷ deltas_at records ws) → Below bases records d q
+below_it : (bases : Bases) (records : Records) (q : ℕ) (d : Delta) (ws : List ℕ) (e : ℕ) → Leads (link_of records) q ws e → length ws ≤ length records → e < length bases → e < floor_word → IsShaped (based (slice_get bases e)) (d ∷ deltas_at records ws) → Below bases records d q
 below_it bases records q (Put w) ws e way short within limit shaped = (ws, (e, record { way = way; short = short; within = within; limit = limit; shaped = shaped }))
 below_it bases records q (Split k to) ws e way short within limit shaped = base_there bases records q ws e way shaped
 below_it bases records q (Absorb k base high side) ws e way short within limit shaped = base_there bases records q ws e way shaped.0
@@ -173,7 +173,7 @@ write_over base (AddChild k child) ds shaped more = absurd (more shaped.0)
 write_over base (DropChild k) ds shaped more = absurd (more shaped)
 
 -- so a record that lies over another one is a write
-pub put_over : (bases : Bases) (records : Records) (word under_it : ℕ) → Ends bases records word → link_of records word ≡ Some under_it → 4294967296 ≤ under_it → (w : WriteView) × (record_at records word ≡ Some (Put w, under_it))
+pub put_over : (bases : Bases) (records : Records) (word under_it : ℕ) → Ends bases records word → link_of records word ≡ Some under_it → floor_word ≤ under_it → (w : WriteView) × (record_at records word ≡ Some (Put w, under_it))
 put_over bases records word under_it ends link from = by ends.0 ends.1.0 ends.1.1
   where
     by : (ws : List ℕ) (e : ℕ) → EndsAt bases records word ws e → (w : WriteView) × (record_at records word ≡ Some (Put w, under_it))
@@ -187,7 +187,7 @@ put_over bases records word under_it ends link from = by ends.0 ends.1.0 ends.1.
         (put.0, there.1 ∙ ap (λ n. Some (there.0.0, n)) there.2 ∙ ap (λ (d : Delta). Some (d, under_it)) put.1)
 
 -- and under it is the rest of the chain
-pub over_record : (bases : Bases) (records : Records) (word under_it : ℕ) → Ends bases records word → link_of records word ≡ Some under_it → 4294967296 ≤ under_it → UnderPut bases records word under_it
+pub over_record : (bases : Bases) (records : Records) (word under_it : ℕ) → Ends bases records word → link_of records word ≡ Some under_it → floor_word ≤ under_it → UnderPut bases records word under_it
 over_record bases records word under_it ends link from =
     let p = put_over bases records word under_it ends link from in
     under_put bases records word under_it (Put p.0) p.0 ends p.1 refl

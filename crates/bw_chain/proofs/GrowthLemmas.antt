@@ -5,14 +5,14 @@ use Rattle.bw_delta.specs.declared.deltas.Delta.{Delta}
 use Rattle.bw_level.specs.Slots.{Slot}
 use Rattle.bw_level.specs.Walk.{Leads}
 use Rattle.bw_level.specs.Changes.{Bases, based}
-use Rattle.bw_chain.specs.Chains.{Records, Ends, EndsAt, IsShaped, record_at, link_of, linked_word, delta_in, deltas_at, slot_of_word, changed}
+use Rattle.bw_chain.specs.Chains.{Records, Ends, EndsAt, IsShaped, record_at, link_of, linked_word, delta_in, deltas_at, slot_of_word, changed, floor_word}
 use Rattle.bw_chain.proofs.ChainLemmas.{linked, link_is, no_record, slot_of_way}
 
 -- each old record is still there
 abbrev pub Extends : Records → Records → Type 0
 Extends old new = (word : ℕ) (r : Delta × ℕ) → record_at old word ≡ Some r → record_at new word ≡ Some r
 
-pub leads_on : (old new : Records) → Extends old new → (p : ℕ) (ws : List ℕ) (e : ℕ) → e < 4294967296 → Leads (link_of old) p ws e → Leads (link_of new) p ws e
+pub leads_on : (old new : Records) → Extends old new → (p : ℕ) (ws : List ℕ) (e : ℕ) → e < floor_word → Leads (link_of old) p ws e → Leads (link_of new) p ws e
 leads_on old new kept p [] e below h = (h.0, ap linked_word (no_record new p (omega (arith, h.0, below))))
 leads_on old new kept p (w ∷ ws) e below h =
     let there = linked old p h.1.0 h.1.1 in
@@ -48,9 +48,9 @@ slice_append (x ∷ old) more zero r e = e
 slice_append (x ∷ old) more (suc i) r e = slice_append old more i r e
 
 pub append_extends : (old more : Records) → Extends old (old ++ more)
-append_extends old more word r = elim (nat_lt word 4294967296) as (λ b. cond b None (slice_get old (word - 4294967296)) ≡ Some r → cond b None (slice_get (old ++ more) (word - 4294967296)) ≡ Some r) [
+append_extends old more word r = elim (nat_lt word floor_word) as (λ b. cond b None (slice_get old (word - floor_word)) ≡ Some r → cond b None (slice_get (old ++ more) (word - floor_word)) ≡ Some r) [
   | true ↦ λ e. e
-  | false ↦ λ e. slice_append old more (word - 4294967296) r e
+  | false ↦ λ e. slice_append old more (word - floor_word) r e
 ]
 
 -- a list mapped in two ways that agree on it
