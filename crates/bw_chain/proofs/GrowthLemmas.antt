@@ -5,7 +5,7 @@ use Rattle.bw_delta.specs.declared.deltas.Delta.{Delta}
 use Rattle.bw_level.specs.Slots.{Slot}
 use Rattle.bw_level.specs.Walk.{Leads}
 use Rattle.bw_level.specs.Changes.{Bases, based}
-use Rattle.bw_chain.specs.Chains.{Records, Ends, EndsAt, IsShaped, record_at, link_of, linked_word, delta_in, deltas_at, slot_of_word, changed, floor_word}
+use Rattle.bw_chain.specs.Chains.{Records, Ends, EndsAt, IsShaped, record_at, link_of, linked_word, delta_in, deltas_at, floor_word, slot_of_word, changed}
 use Rattle.bw_chain.proofs.ChainLemmas.{linked, link_is, no_record, slot_of_way}
 
 -- each old record is still there

@@ -8,7 +8,7 @@ use Rattle.bw_delta.specs.Writes.{WriteView}
 use Rattle.bw_delta.specs.declared.deltas.Delta.{Delta}
 use Rattle.bw_delta.specs.declared.deltas.Delta.TheVariants.{Put}
 use Rattle.bw_level.specs.Changes.{Bases}
-use Rattle.bw_chain.specs.Chains.{Records, Ends, EndsAt, record_at}
+use Rattle.bw_chain.specs.Chains.{Records, Ends, EndsAt, floor_word, record_at}
 use Rattle.bw_look.specs.Trees.{IsTree, IsStaged, StageWords, stage_of, view_of}
 use Rattle.bw_look.specs.Words.{bases_before, words_before}
 use Rattle.bw_look.specs.declared.words_before.WordsBefore.{WordsBefore}
@@ -62,19 +62,19 @@ pub length_behind : (old : Records) (ws : List WriteView) (links : List ℕ) →
 length_behind old ws links same = length-append old (put_records ws links) ∙ ap (λ n. length old + n) (put_length ws links same)
 
 -- a word that leads to a base page names that page or a record
-ends_low : (bases : Bases) (records : Records) (word : ℕ) → Ends bases records word → word < 4294967296 + length records
+ends_low : (bases : Bases) (records : Records) (word : ℕ) → Ends bases records word → word < floor_word + length records
 ends_low bases records word ends = by ends.0 ends.1.0 ends.1.1
   where
-    named : (r : Delta × ℕ) → record_at records word ≡ Some r → word < 4294967296 + length records
-    named r at = elim (cases_lt word 4294967296) [
+    named : (r : Delta × ℕ) → record_at records word ≡ Some r → word < floor_word + length records
+    named r at = elim (cases_lt word floor_word) [
       | inl lt ↦ omega (arith, lt)
       | inr ge ↦
-          let test : nat_lt word 4294967296 ≡ false = grind (arith, nat_tests) in
-          let there = slice_get_within records (word - 4294967296) r (sym (ap (λ b. cond b None (slice_get records (word - 4294967296))) test) ∙ at) in
+          let test : nat_lt word floor_word ≡ false = grind (arith, nat_tests) in
+          let there = slice_get_within records (word - floor_word) r (sym (ap (λ b. cond b None (slice_get records (word - floor_word))) test) ∙ at) in
           omega (arith, there, ge)
     ]
 
-    by : (ws : List ℕ) (e : ℕ) → EndsAt bases records word ws e → word < 4294967296 + length records
+    by : (ws : List ℕ) (e : ℕ) → EndsAt bases records word ws e → word < floor_word + length records
     by [] e h = omega (arith, h.way.0, h.limit)
     by (w ∷ ws) e h = let r = linked records word h.way.1.0 h.way.1.1 in named r.0 r.1
 
@@ -118,13 +118,13 @@ module _ (heads : List ℕ) (bases : Bases) (records : Records) (root next : ℕ
   there (x ∷ xs) zero lt = refl
   there (x ∷ xs) (suc i) lt = there xs i (omega arith)
 
-  words_low : is_some s.before ≡ false → (p : ℕ) → p < length heads → slice_index heads p < 4294967296 + s.records
+  words_low : is_some s.before ≡ false → (p : ℕ) → p < length heads → slice_index heads p < floor_word + s.records
   words_low none p lt =
       let same = no_word s.before refl none in
       let at : slice_get (words_before s.before heads) p ≡ Some (slice_index heads p) = ap (λ (l : List ℕ). slice_get l p) same ∙ there heads p lt in
       omega (arith, ends_low (bases_before s.before bases) earlier (slice_index heads p) (st.before.ends p (slice_index heads p) at), count)
 
-  pub staged_is : (batch : Staged) → length records ≤ 2 ^ 32 → batch.base ≡ next → batch.floor ≡ 4294967296 + s.records → batch.records ≡ length records - s.records → IsStagedAs (view_of heads bases records root next (Some s)) batch
+  pub staged_is : (batch : Staged) → length records ≤ 2 ^ 32 → batch.base ≡ next → batch.floor ≡ floor_word + s.records → batch.records ≡ length records - s.records → IsStagedAs (view_of heads bases records root next (Some s)) batch
   staged_is batch few base floor records_are = record {
     stage = stage_of heads bases records root s;
     is = refl;
@@ -136,7 +136,7 @@ module _ (heads : List ℕ) (bases : Bases) (records : Records) (root next : ℕ
   }
 
 pub staged_as : (heads : List ℕ) (bases : Bases) (records : Records) (root next : ℕ) (staged : Option StageWords) (tree : TreeView) (s : StageWords) (batch : Staged) → IsTree heads bases records root next staged → view_of heads bases records root next staged ≡ tree → Some s ≡ staged →
-    batch.base ≡ next → batch.floor ≡ 4294967296 + s.records → batch.records ≡ length records - s.records → IsStagedAs tree batch
+    batch.base ≡ next → batch.floor ≡ floor_word + s.records → batch.records ≡ length records - s.records → IsStagedAs tree batch
 staged_as heads bases records root next staged tree s batch t is some base floor records_are =
     let t' = subst (IsTree heads bases records root next) (sym some) t in
     subst (λ (v : TreeView). IsStagedAs v batch) (ap (view_of heads bases records root next) some ∙ is) (staged_is heads bases records root next s t'.stage batch t'.now.few_records base floor records_are)
