@@ -8,5 +8,6 @@ mod kept;
 mod largest;
 mod leaves;
 mod making;
+mod places;
 mod refused;
 mod separators;

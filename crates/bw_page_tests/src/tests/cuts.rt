@@ -1,7 +1,7 @@
 // Pages that are cut and narrowed in their place, against the halves that are copies.
 use super::making::{
     TextPair, cut, cut_inner, from_start_and_c, has_children, heap, key, three_children,
-    upper_half, upper_half_inner,
+    upper_half, upper_half_inner, with_child,
 };
 use crate::tests::assertions::{assert_equal, assert_that};
 use bw_fixtures::{LONG, are, was_refused};
@@ -156,4 +156,65 @@ fn an_inner_page_is_narrowed_with_no_memory(rt: HostRuntime) {
         Some(b"c".as_slice()),
     );
     assert_equal(&rt, inner.side(), Some(PageId(7)));
+}
+
+// Above the other long text and below `c`, and above `c`.
+const LONGER: &[u8] = b"b text of more than 24 bytes";
+
+const LONGEST: &[u8] = b"d text of more than 24 bytes";
+
+// The page from the start on and below the last long text, with page 7 at its right: two children before one of a long
+// separator, and one behind it.
+fn four_children<R: Abort>(rt: &R, alloc: Alloc) -> Inner {
+    let three = three_children(rt, alloc);
+    let sep = key(rt, alloc, LONGER);
+    let mut inner = with_child(rt, &three, &sep, PageId(6)).expect(rt, "memory");
+    narrow_inner(rt, &mut inner, key(rt, alloc, LONGEST), PageId(7));
+    inner
+}
+
+// Compares a page of this level with its lower end and its children. It ends where the page of four does.
+fn is_inner<R: Abort>(rt: &R, inner: &Inner, low: &[u8], wanted: &[(&'static [u8], u32)]) {
+    assert_equal(rt, inner.level(), 1);
+    assert_equal(rt, inner.low().bytes(), low);
+    assert_equal(rt, inner.high().map(|end| end.bytes()), Some(LONGEST));
+    assert_equal(rt, inner.side(), Some(PageId(7)));
+    has_children(rt, inner, wanted);
+}
+
+// The children of the page of four.
+const FOUR: &[(&[u8], u32)] = &[(b"", 0), (LONG, 5), (LONGER, 6), (b"c", 1)];
+
+// Cuts the page of four children where this growth is refused, and compares it after that.
+fn four_refused<R: Abort>(rt: &R, alloc: Alloc, inner: &mut Inner, growth: u64) {
+    alloc.refuse(growth);
+    assert_that(rt, cut_inner(rt, inner, 2).is_err());
+    assert_equal(rt, alloc.left(), 0);
+    is_inner(rt, inner, b"", FOUR);
+}
+
+// Cuts it where this growth doesn't matter, and compares both parts. How many growths were left then until that one.
+fn four_cut<R: Abort>(rt: &R, alloc: Alloc, growth: u64) -> u64 {
+    let mut inner = four_children(rt, alloc);
+    alloc.refuse(growth);
+    let half = cut_inner(rt, &mut inner, 2).expect(rt, "memory");
+    let left = alloc.left();
+    alloc.refuse(0);
+    is_inner(rt, &inner, b"", &FOUR[..2]);
+    is_inner(rt, &half, LONGER, &FOUR[2..]);
+    left
+}
+
+// One growth for each bound of the half, two for its children, and two that give back room for separators and for ends.
+#[test]
+fn a_cut_between_long_bounds_takes_six_growths(rt: HostRuntime) {
+    let alloc = heap(&rt, rt.alloc());
+    let mut inner = four_children(&rt, alloc);
+    for growth in 1..=4 {
+        four_refused(&rt, alloc, &mut inner, growth);
+    }
+    // The one behind it was asked for.
+    assert_equal(&rt, four_cut(&rt, alloc, 5), u64::MAX);
+    assert_equal(&rt, four_cut(&rt, alloc, 6), 0);
+    assert_equal(&rt, four_cut(&rt, alloc, 7), 1);
 }

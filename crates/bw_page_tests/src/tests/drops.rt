@@ -1,8 +1,9 @@
 // Pages that are dropped give their memory back, with all that is in them.
 use super::making::{drop_child, has_children, small_heap, three_children};
-use crate::tests::assertions::{assert_equal, assert_that};
-use bw_fixtures::{LONG, key, one, pair};
+use crate::tests::assertions::assert_equal;
+use bw_fixtures::{LONG, key};
 use bw_memory::Alloc;
+use bw_model::Pairs;
 use bw_page::{Children, Inner, Leaf, PageId};
 use std::process::Abort;
 
@@ -11,13 +12,15 @@ const LONGER: &[u8] = b"b text of more than 24 bytes";
 
 // Makes a leaf whose bounds and pair take memory, and drops it.
 fn drop_leaf<R: Abort>(rt: &R, alloc: Alloc) {
-    let pairs = one(alloc, pair(alloc, LONG, LONG).expect(rt, "memory")).expect(rt, "memory");
+    let mut pairs = Pairs::with_capacity(alloc, 1, 56).expect(rt, "memory");
+    pairs.push(LONG, LONG).expect(rt, "memory");
     let (low, high) = (
         key(alloc, LONG).expect(rt, "memory"),
         key(alloc, LONGER).expect(rt, "memory"),
     );
     let leaf = Leaf::from_pairs(low, Some(high), Some(PageId(1)), pairs);
-    assert_that(rt, alloc.used() > 100);
+    // 28 bytes for each bound, and for the pair its bytes and eight more.
+    assert_equal(rt, alloc.used(), 28 + 28 + 56 + 8);
     drop(leaf);
 }
 
@@ -27,10 +30,10 @@ fn drop_inner<R: Abort>(rt: &R, alloc: Alloc) {
         key(alloc, LONG).expect(rt, "memory"),
         key(alloc, LONGER).expect(rt, "memory"),
     );
-    let mut children = Children::with_capacity(alloc, 1, LONG.len()).expect(rt, "memory");
+    let mut children = Children::with_capacity(alloc, 1, 28).expect(rt, "memory");
     children.push(&low, PageId(0)).expect(rt, "the child");
     let inner = Inner::from_children(1, low, Some(high), Some(PageId(9)), children);
-    assert_that(rt, alloc.used() > 80);
+    assert_equal(rt, alloc.used(), 28 + 28 + 28 + 8);
     drop(inner);
 }
 

@@ -1,6 +1,9 @@
 // What pages keep of a heap: no more than their pairs or children need.
-use super::making::{cut, cut_inner, from_start_and_c, joined, small_heap, upper_half};
-use crate::tests::assertions::{assert_equal, assert_that};
+use super::making::{
+    cut, cut_inner, from_start_and_c, has_children, joined, small_heap, upper_half,
+    upper_half_inner, with_two,
+};
+use crate::tests::assertions::assert_equal;
 use bw_fixtures::key;
 use bw_memory::Alloc;
 use bw_model::Pairs;
@@ -76,30 +79,64 @@ fn a_joined_leaf_keeps_what_its_pairs_need(rt: HostRuntime) {
     assert_equal(&rt, alloc.used(), 0);
 }
 
-// What a page of two children keeps.
-fn kept_whole<R: Abort>(rt: &R, alloc: Alloc) -> u64 {
+// A child takes the bytes of its separator and eight more, likewise: the first one, which has none, and `c`.
+const FIRST: u64 = 8;
+
+const C: u64 = 9;
+
+// Makes a page of two children, which is joined of two.
+fn keep_two_children<R: Abort>(rt: &R, alloc: Alloc) {
     let inner = from_start_and_c(rt, alloc);
+    assert_equal(rt, alloc.used(), FIRST + C);
     assert_equal(rt, inner.children().len(), 2);
-    alloc.used()
 }
 
-// Cuts such a page, and answers what both parts keep, and then the one that stays.
-fn kept_by_parts<R: Abort>(rt: &R, alloc: Alloc) -> (u64, u64) {
+// Cuts such a page, and lets a part go.
+fn keep_the_first_child<R: Abort>(rt: &R, alloc: Alloc) {
     let mut inner = from_start_and_c(rt, alloc);
     let half = cut_inner(rt, &mut inner, 1).expect(rt, "memory");
-    let both = alloc.used();
+    assert_equal(rt, alloc.used(), FIRST + C);
     drop(half);
-    (both, alloc.used())
+    assert_equal(rt, alloc.used(), FIRST);
+    assert_equal(rt, inner.children().len(), 1);
 }
 
-// A joined page has just the room that its children need, so the parts have as much as it had, and each a half of that.
+// Copies the upper half of such a page, which is let go then.
+fn keep_the_last_child<R: Abort>(rt: &R, alloc: Alloc) {
+    let inner = from_start_and_c(rt, alloc);
+    let half = upper_half_inner(rt, &inner, 1).expect(rt, "memory");
+    drop(inner);
+    assert_equal(rt, alloc.used(), C);
+    assert_equal(rt, half.children().len(), 1);
+}
+
 #[test]
-fn the_parts_of_an_inner_page_keep_what_their_children_need(rt: HostRuntime) {
+fn inner_pages_keep_what_their_children_need(rt: HostRuntime) {
     let alloc = small_heap(&rt, rt.alloc());
-    let whole = kept_whole(&rt, alloc);
-    let (both, one) = kept_by_parts(&rt, alloc);
-    assert_that(&rt, whole > 0);
-    assert_equal(&rt, both, whole);
-    assert_equal(&rt, one, whole / 2);
+    keep_two_children(&rt, alloc);
+    assert_equal(&rt, alloc.used(), 0);
+    keep_the_first_child(&rt, alloc);
+    assert_equal(&rt, alloc.used(), 0);
+    keep_the_last_child(&rt, alloc);
+    assert_equal(&rt, alloc.used(), 0);
+}
+
+// Puts two children into such a page, of which one stands in place of another, and lets that page go.
+fn keep_three_children<R: Abort>(rt: &R, alloc: Alloc) {
+    let inner = from_start_and_c(rt, alloc);
+    let (b, c) = (
+        key(alloc, b"b").expect(rt, "b"),
+        key(alloc, b"c").expect(rt, "c"),
+    );
+    let more = with_two(rt, alloc, &inner, (b, PageId(3)), (c, PageId(4)), 0).expect(rt, "memory");
+    drop(inner);
+    assert_equal(rt, alloc.used(), FIRST + 9 + C);
+    has_children(rt, &more, &[(b"", 0), (b"b", 3), (b"c", 4)]);
+}
+
+#[test]
+fn a_page_that_gets_children_keeps_what_they_need(rt: HostRuntime) {
+    let alloc = small_heap(&rt, rt.alloc());
+    keep_three_children(&rt, alloc);
     assert_equal(&rt, alloc.used(), 0);
 }

@@ -1,4 +1,7 @@
 // Heaps, keys and pages; and calls of pages, whose rules are seen to here.
+ghost use Rattle.std.specs.Prelude.{T};
+ghost use Rattle.bw_model.specs.Contents.{is_in_range};
+
 use crate::tests::assertions::assert_equal;
 use bw_fixtures::{LONG, one, pair};
 use bw_key::{Key, Memory};
@@ -108,6 +111,31 @@ pub fn with_child<R: Abort>(
         panic!(rt; "not the last page");
     };
     inner.with_child(sep, child)
+}
+
+// Sees that a separator is in the range of a page.
+fn is_inside<R: Abort>(rt: &R, inner: &Inner, sep: &Key)
+    ensures { T (is_in_range inner.now.low inner.now.high sep.now) }
+{
+    assert!(rt; *sep >= *inner.low());
+    assert!(rt; inner.past(sep).is_none());
+}
+
+/// A page with two more children, whose separators rise, where this growth is refused.
+pub fn with_two<R: Abort>(
+    rt: &R,
+    alloc: Alloc,
+    inner: &Inner,
+    first: (Key, PageId),
+    second: (Key, PageId),
+    growth: u64,
+) -> Result<Inner, Memory> {
+    is_inside(rt, inner, &first.0);
+    is_inside(rt, inner, &second.0);
+    assert!(rt; first.0 < second.0);
+    let entries = [first, second];
+    alloc.refuse(growth);
+    inner.with_children(&entries)
 }
 
 /// Takes a child, which isn't the first one, from a page.

@@ -2,12 +2,12 @@
 // grew entry by entry would ask for more.
 use super::making::{
     c_with, from_start, heap, joined, joined_inner, key, many_children, up_to_c, upper_half,
-    upper_half_inner, with_child,
+    upper_half_inner, with_child, with_two,
 };
 use crate::tests::assertions::assert_equal;
 use bw_fixtures::LONG;
 use bw_memory::Alloc;
-use bw_page::PageId;
+use bw_page::{Inner, PageId};
 use std::process::Abort;
 
 // Compares whether a call was refused, and how many growths it left until one would have been.
@@ -75,6 +75,57 @@ fn the_half_of_an_inner_page_takes_two_growths_and_one_for_a_long_low_key(rt: Ho
     for growth in 1..=4 {
         alloc.refuse(growth);
         let refused = upper_half_inner(&rt, &inner, 1).is_err();
+        is_refused(&rt, alloc, refused, growth <= 3);
+    }
+}
+
+// Puts a child at this separator and one at `m` into a page, where this growth is refused. Whether no page came of it.
+fn two_refused<R: Abort>(rt: &R, alloc: Alloc, inner: &Inner, sep: &[u8], growth: u64) -> bool {
+    let (first, second) = (key(rt, alloc, sep), key(rt, alloc, b"m"));
+    with_two(
+        rt,
+        alloc,
+        inner,
+        (first, PageId(5)),
+        (second, PageId(7)),
+        growth,
+    )
+    .is_err()
+}
+
+#[test]
+fn more_children_at_once_take_two_growths(rt: HostRuntime) {
+    let alloc = heap(&rt, rt.alloc());
+    let inner = many_children(&rt, alloc);
+    for growth in 1..=3 {
+        let refused = two_refused(&rt, alloc, &inner, LONGER, growth);
+        is_refused(&rt, alloc, refused, growth <= 2);
+    }
+}
+
+// Two more give back the room that the child would have taken which another stands for. Where one of them is refused, that
+// room stays.
+#[test]
+fn a_child_in_place_of_another_takes_two_growths_that_may_be_refused(rt: HostRuntime) {
+    let alloc = heap(&rt, rt.alloc());
+    let inner = many_children(&rt, alloc);
+    for growth in 1..=2 {
+        let refused = two_refused(&rt, alloc, &inner, b"d", growth);
+        is_refused(&rt, alloc, refused, true);
+    }
+    for (growth, left) in [(3, u64::MAX), (4, 0), (5, 1)] {
+        assert_equal(&rt, two_refused(&rt, alloc, &inner, b"d", growth), false);
+        assert_equal(&rt, alloc.left(), left);
+    }
+}
+
+// The page from the long separator on.
+#[test]
+fn more_children_take_a_growth_for_a_long_low_key(rt: HostRuntime) {
+    let alloc = heap(&rt, rt.alloc());
+    let inner = upper_half_inner(&rt, &many_children(&rt, alloc), 1).expect(&rt, "memory");
+    for growth in 1..=4 {
+        let refused = two_refused(&rt, alloc, &inner, LONGER, growth);
         is_refused(&rt, alloc, refused, growth <= 3);
     }
 }

@@ -84,10 +84,30 @@ fn loses<R: Abort>(rt: &R, alloc: Alloc, sep: &[u8], wanted: &[(&'static [u8], u
 #[test]
 fn each_child_but_the_first_is_taken_away(rt: HostRuntime) {
     let alloc = heap(&rt, rt.alloc());
-    loses(&rt, alloc, A, &[(b"", 0), (B, 3), (b"c", 1), (K, 4), (KL, 5)]);
-    loses(&rt, alloc, B, &[(b"", 0), (A, 2), (b"c", 1), (K, 4), (KL, 5)]);
-    loses(&rt, alloc, K, &[(b"", 0), (A, 2), (B, 3), (b"c", 1), (KL, 5)]);
-    loses(&rt, alloc, KL, &[(b"", 0), (A, 2), (B, 3), (b"c", 1), (K, 4)]);
+    loses(
+        &rt,
+        alloc,
+        A,
+        &[(b"", 0), (B, 3), (b"c", 1), (K, 4), (KL, 5)],
+    );
+    loses(
+        &rt,
+        alloc,
+        B,
+        &[(b"", 0), (A, 2), (b"c", 1), (K, 4), (KL, 5)],
+    );
+    loses(
+        &rt,
+        alloc,
+        K,
+        &[(b"", 0), (A, 2), (B, 3), (b"c", 1), (KL, 5)],
+    );
+    loses(
+        &rt,
+        alloc,
+        KL,
+        &[(b"", 0), (A, 2), (B, 3), (b"c", 1), (K, 4)],
+    );
     loses(&rt, alloc, b"b", ALL);
     loses(&rt, alloc, b"z", ALL);
 }
