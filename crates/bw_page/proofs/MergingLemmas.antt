@@ -1,6 +1,5 @@
 -- Entries put among others.
 use Rattle.std.proofs.Common.{◌≡◌, ℕ, zero, suc, ◌+◌, ◌-◌, ◌<◌, ◌≤◌, true, false, cond, T, List, [], ◌∷◌, ◌++◌, length, get_or, take, drop, slice_range, Option, refl, sym, ap, ◌∙◌, subst, append_assoc, add-one, arith, length-drop, Ordering}
-use Rattle.std.proofs.lemmas.List.{drop-drop}
 use Rattle.std.specs.List.{list_all}
 use Rattle.std.specs.Ordering.{is_lt, ordering_reverse}
 use Rattle.std.specs.FinMap.{is_sorted, put}

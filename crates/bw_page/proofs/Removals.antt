@@ -1,5 +1,5 @@
 -- One entry taken away from a sorted list.
-use Rattle.std.proofs.Common.{◌≡◌, ℕ, zero, suc, ◌+◌, ◌<◌, Bool, true, false, cond, not, T, List, [], ◌∷◌, length, get_or, filter, refl, sym, ap, ◌∙◌, arith, add-one}
+use Rattle.std.proofs.Common.{◌≡◌, ℕ, zero, suc, ◌+◌, ◌<◌, Bool, true, false, cond, not, T, List, [], ◌∷◌, length, get_or, filter, refl, sym, ap, ◌∙◌, arith}
 use Rattle.std.specs.List.{remove}
 use Rattle.std.specs.Ordering.{is_eq, is_lt}
 use Rattle.std.specs.FinMap.{is_sorted}
@@ -7,7 +7,7 @@ use Rattle.std.specs.FinMap.Entries.{below_all}
 use Rattle.bw_key.specs.Order.{KeyBytes, key_cmp, key_eq, key_ties}
 use Rattle.bw_model.specs.Sorted.{place_of}
 use Rattle.bw_page.proofs.Truths.{true_holds}
-use Rattle.bw_page.proofs.KeyLemmas.{below_self, below_trans, cmp_self}
+use Rattle.bw_page.proofs.KeyLemmas.{below_trans, cmp_self}
 use Rattle.bw_page.proofs.Search.{Misses, both, less_no_tie, not_tied, over, same_keys}
 
 -- keys of which one is below the other differ

@@ -1,4 +1,4 @@
-use Rattle.std.proofs.Common.{◌∙◌, ◌<◌, [], ap, arith, false, get_or, not, sym, true}
+use Rattle.std.proofs.Common.{◌∙◌, ◌<◌, [], ap, arith, false, get_or, sym, true}
 use Rattle.std.specs.List.{remove}
 use Rattle.bw_page.proofs.Removals.{without_missing, without_there}
 use Rattle.bw_page.proofs.Search.{read_at, reads_key}

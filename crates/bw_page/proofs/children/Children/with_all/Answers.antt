@@ -1,4 +1,4 @@
-use Rattle.std.proofs.Common.{◌+◌, ◌∙◌, ◌++◌, ◌∷◌, [], ap, arith, slice_range, subst, sym, take}
+use Rattle.std.proofs.Common.{◌∙◌, ◌++◌, ◌∷◌, [], ap, arith, slice_range, subst, sym, take}
 use Rattle.std.proofs.lemmas.List.{take_all, take_more}
 use Rattle.bw_page.specs.MergedEntries.{put_all}
 use Rattle.bw_page.proofs.MergingLemmas.{HasMerged, before_there, merging_more, merging_none, rest_is}
