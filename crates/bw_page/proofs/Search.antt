@@ -1,5 +1,5 @@
 -- A key's place in a sorted list of entries, and the look-up there.
-use Rattle.std.proofs.Common.{inl, inr, ◌≡◌, ℕ, zero, suc, ◌+◌, ◌<◌, ◌≤◌, Bool, true, false, cond, not, ◌&&◌, List, [], ◌∷◌, length, get_or, Some, None, T, refl, sym, ap, ◌∙◌, subst, arith, add-one}
+use Rattle.std.proofs.Common.{inl, inr, ◌≡◌, ℕ, zero, suc, ◌+◌, ◌<◌, ◌≤◌, Bool, true, false, cond, not, ◌&&◌, List, [], ◌∷◌, length, get_or, slice_range, Some, None, T, refl, sym, ap, ◌∙◌, subst, arith, add-one}
 use Rattle.std.proofs.lemmas.Bool.{cases_lt}
 use Rattle.std.proofs.lemmas.List.{get_or_default}
 use Rattle.std.specs.List.Sorted.{IsPartitionedBy, IsPartitionPoint}
@@ -9,6 +9,7 @@ use Rattle.std.specs.FinMap.Entries.{below_all}
 use Rattle.std.specs.declared.cmp.Ordering.TheVariants.{Less, Equal, Greater}
 use Rattle.bw_key.specs.Order.{KeyBytes, key_cmp, key_eq, key_ties}
 use Rattle.bw_model.specs.Sorted.{place_of}
+use Rattle.bw_packed.specs.Search.{EndsAt}
 use Rattle.bw_page.proofs.Truths.{true_holds}
 use Rattle.bw_page.proofs.KeyLemmas.{below_trans, below_self, neither_below, keys_tie, cmp_self}
 
@@ -182,6 +183,12 @@ find_missing_at {X} q es n at sorted other = sym (find_missing q es sorted (subs
 -- the entry that is read at a place, at any default
 pub read_at : {X : Type 0} (es : List (KeyBytes × X)) (n : ℕ) (d : KeyBytes × X) → n < length es → get_or es n d ≡ get_or es n (get_or es n d)
 read_at es n d lt = get_or_default es n d (get_or es n d) lt
+
+-- a count among entries of a range, by what the entries and the key were read from
+pub ends_in : {X : Type 0} (p : KeyBytes → KeyBytes × X → Bool) (es fs : List (KeyBytes × X)) (k q : KeyBytes) (i j n : ℕ) → es ≡ fs → k ≡ q →
+    EndsAt (p k) (slice_range es i j) n → EndsAt (p q) (slice_range fs i j) n
+ends_in p es fs k q i j n same is ends =
+    subst (λ l. EndsAt (p q) (slice_range l i j) n) same (subst (λ x. EndsAt (p x) (slice_range es i j) n) is ends)
 
 -- what a comparison of bytes says of the entry whose key they are
 pub reads_key : {X : Type 0} (q : KeyBytes) (x : KeyBytes × X) (k p : KeyBytes) (r b : Bool) → k ≡ x.0 → p ≡ q → r ≡ key_eq k p → r ≡ b → key_eq x.0 q ≡ b
