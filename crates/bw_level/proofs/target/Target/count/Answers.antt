@@ -1,4 +1,4 @@
-use Rattle.std.proofs.Common.{◌∙◌, ℕ, List, ap, arith, slice_range, subst}
+use Rattle.std.proofs.Common.{◌∙◌, ℕ, List, ap, slice_range, subst}
 use Rattle.bw_key.specs.Order.{KeyBytes}
 use Rattle.bw_page.proofs.MergingLemmas.{rest_is}
 use Rattle.bw_level.specs.Targets.{PartsChildren}
