@@ -77,7 +77,7 @@ pub record IsOpened (heads : List ℕ) (floor records piece : ℕ) (spares : Lis
   pub seat_is : seat ≡ record { board = board; book = first_book heads }
 
 -- the two seats that a seat was split into
-pub record IsSplit (seat left right : SeatView) : Type 0 where
+pub record AreHalves (seat left right : SeatView) : Type 0 where
   pub left_is : left ≡ record seat { book = left_book seat.book }
   pub right_is : right ≡ record seat { book = right_book seat.book }
 

@@ -4,7 +4,7 @@ ghost use Rattle.std.specs.Prelude.{replicate, EachIndex, IsOk, IsNone, IfOk, If
 ghost use Rattle.bw_core.specs.World.{tries_in, IsEnd, seen_at, end_at, owns, posts_in, posts_at, times, top};
 ghost use Rattle.bw_core.specs.Events.{book_after_look, book_after_late_swap, book_after_join, book_without_pieces};
 ghost use Rattle.bw_board.specs.declared.board.Replaced.TheVariants.{Won, Late};
-ghost use Rattle.bw_board.specs.Public.{BoardView, SeatView, board_view, seat_view, IsBoard, IsIdleSeat, IsOpened, IsSplit};
+ghost use Rattle.bw_board.specs.Public.{BoardView, SeatView, board_view, seat_view, IsBoard, IsIdleSeat, IsOpened, AreHalves};
 ghost use Rattle.bw_board.specs.Public.{Sees, Posts, Replaces, seat_after_claim, AllClaimed, OwnsAlone, IsClosed, HasEach, IsSound};
 
 use crate::last_words::{Closed, swapped_pages, words_from};
@@ -241,7 +241,7 @@ impl Board {
     pub fn split(&self, seat: Seat) -> Result<(Seat, Seat), Seat>
         requires board { seat.board ≡ self.now }
         ensures wide { 2 ≤ seat.book.width → IsOk result }
-        ensures split { IfOk result (λ t. IsSplit seat t.0 t.1) }
+        ensures split { IfOk result (λ t. AreHalves seat t.0 t.1) }
         ensures back { IfErr result (λ s. s ≡ seat) }
         ensures narrow { OnErr result (seat.book.width ≡ 1) }
     {
