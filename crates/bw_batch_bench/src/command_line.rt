@@ -11,7 +11,7 @@ static JOBS: [&str; 10] = [
 
 static BYS: [&str; 3] = ["workers", "batch", "keys"];
 
-static KINDS: [&str; 3] = ["gets", "upserts", "scans"];
+static KINDS: [&str; 4] = ["gets", "upserts", "scans", "new-keys"];
 
 // So many keys take some 4.5 GB of the index and the map together.
 const KEYS_MAX: u64 = 1 << 24;
@@ -43,7 +43,8 @@ const AFTER: &str = "The jobs:
 --batch, --batches and --seed by `run` and `picture`, and --by by `picture`, which doesn't read the option
 that --by names. An option that isn't read is refused.
 
-The kinds: gets; upserts, half of them gets; scans, of 32 pairs, half of them upserts.
+The kinds: gets; upserts, half of them gets; scans, of 32 pairs, half of them upserts; new-keys, upserts of
+keys that are new, one to nineteen such scans.
 
 16777216 keys take some 4.5 GB of memory, of which the map has most.
 

@@ -15,6 +15,14 @@ const SIZES: [u64; 4] = [1, 8, 64, 1024];
 
 const SMALL_ROUNDS: u64 = 1001;
 
+// All kinds. The last one has new keys, so that those behind it would run over more.
+const ALL: [Kind; 4] = [
+    Kind::Gets,
+    Kind::GetsAndUpserts,
+    Kind::ScansAndUpserts,
+    Kind::ScansAndNewKeys,
+];
+
 /// Runs batches of one kind, and prints what came of them.
 pub fn print_kind<R: Threads + Clock + Sync + Print>(
     rt: &R,
@@ -77,7 +85,7 @@ fn print_kinds<R: Threads + Clock + Sync + Print>(
     requires { 0 < load.keys }
 {
     let mut rivals = Rivals::filled(rt, one_heap(alloc), options_of(workers)?, load.keys)?;
-    for kind in [Kind::Gets, Kind::GetsAndUpserts, Kind::ScansAndUpserts] {
+    for kind in ALL {
         print_kind(rt, alloc, &mut rivals, load, kind, is_timed)?;
     }
     Ok(())

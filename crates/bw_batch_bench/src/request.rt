@@ -278,6 +278,7 @@ fn kind_named(word: Option<&str>) -> Kind {
     match word {
         Some("upserts") => Kind::GetsAndUpserts,
         Some("scans") => Kind::ScansAndUpserts,
+        Some("new-keys") => Kind::ScansAndNewKeys,
         _ => Kind::Gets,
     }
 }

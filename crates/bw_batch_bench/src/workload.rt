@@ -201,12 +201,16 @@ fn skewed(random: &mut Random, keys: u64) -> u64 {
     random.below(most)
 }
 
-/// What a batch is made of; of two kinds of operations in equal parts.
+/// What a batch is made of: reads alone, or reads and writes.
 #[derive(Clone, Copy, PartialEq, Eq)]
 pub enum Kind {
     Gets,
+    /// In equal parts.
     GetsAndUpserts,
+    /// In equal parts.
     ScansAndUpserts,
+    /// Nineteen scans to an upsert of a key that is new.
+    ScansAndNewKeys,
 }
 
 impl Kind {
@@ -216,6 +220,16 @@ impl Kind {
             Kind::Gets => "gets",
             Kind::GetsAndUpserts => "gets and upserts",
             Kind::ScansAndUpserts => "scans and upserts",
+            Kind::ScansAndNewKeys => "scans and new keys",
+        }
+    }
+
+    // Whether the next operation is a write.
+    fn draws_write(self, random: &mut Random) -> bool {
+        match self {
+            Kind::Gets => false,
+            Kind::GetsAndUpserts | Kind::ScansAndUpserts => random.below(2) == 0,
+            Kind::ScansAndNewKeys => random.below(20) == 0,
         }
     }
 }
@@ -227,18 +241,39 @@ pub fn drawn(alloc: Alloc, random: &mut Random, load: Load, kind: Kind) -> Resul
     let mut ops = Vec::new(alloc);
     for number in 0..load.operations {
         let drawn = load.draw.number(random, load.keys);
-        let is_write = kind != Kind::Gets && random.below(2) == 0;
-        put(&mut ops, op_at(alloc, drawn, kind, is_write, number)?)?;
+        let is_write = kind.draws_write(random);
+        put(
+            &mut ops,
+            op_at(alloc, random, drawn, kind, is_write, number)?,
+        )?;
     }
     Ok(ops)
 }
 
 // The operation at a key that stands in a batch of a kind.
-fn op_at(alloc: Alloc, number: u64, kind: Kind, is_write: bool, value: u64) -> Result<Op> {
-    if is_write {
-        return upsert(alloc, number, value);
+fn op_at(
+    alloc: Alloc,
+    random: &mut Random,
+    number: u64,
+    kind: Kind,
+    is_write: bool,
+    value: u64,
+) -> Result<Op> {
+    if !is_write {
+        return Ok(read(key(alloc, number)?, kind));
     }
-    Ok(read(key(alloc, number)?, kind))
+    if kind == Kind::ScansAndNewKeys {
+        return upsert_behind(alloc, number, random.below(1 << 31), value);
+    }
+    upsert(alloc, number, value)
+}
+
+// The operation that puts a value at a key of 16 bytes right behind that of a number.
+fn upsert_behind(alloc: Alloc, number: u64, drawn: u64, value: u64) -> Result<Op> {
+    let mut bytes = Vec::from_slice(alloc, &number.to_be_bytes())?;
+    bytes.extend_from_slice(&drawn.to_be_bytes())?;
+    let value = Value::new(alloc, &value.to_be_bytes())?;
+    Ok(Op::Upsert(Key::new(alloc, &bytes)?, value))
 }
 
 /// Puts an operation behind others.
@@ -251,7 +286,7 @@ pub fn put(ops: &mut Vec<Op, Alloc>, op: Op) -> Result<()> {
 fn read(key: Key, kind: Kind) -> Op {
     match kind {
         Kind::Gets | Kind::GetsAndUpserts => Op::Get(key),
-        Kind::ScansAndUpserts => Op::Scan {
+        Kind::ScansAndUpserts | Kind::ScansAndNewKeys => Op::Scan {
             from: key,
             to: None,
             most: SCANNED,
