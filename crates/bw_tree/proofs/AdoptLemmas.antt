@@ -35,7 +35,7 @@ use Rattle.bw_level.specs.Turns.{slot_without_writes}
 use Rattle.bw_level.specs.Levels.{AreLevels, IsHome, row, levels_under}
 use Rattle.bw_level.specs.Entries.{AreExact}
 use Rattle.bw_level.specs.Changes.{Bases}
-use Rattle.bw_chain.specs.Chains.{Records, Ends, slot_of_word, slots_of}
+use Rattle.bw_chain.specs.Chains.{Records, Ends, floor_word, slot_of_word, slots_of}
 use Rattle.bw_level.specs.Searches.{AllStand, IsInLevels}
 use Rattle.bw_look.specs.Trees.{ArePlaced, IsStanding}
 use Rattle.bw_chain.specs.Records.{put_records}
@@ -129,7 +129,7 @@ home_from slots levels key p s some has is inside = record {
 
 module _ (heads heads' : List ℕ) (bases : Bases) (first : Records) (root next bound : ℕ) (ws : List WriteView) (links : List ℕ) (linked : length links ≡ length ws) (pages : length heads' ≡ length heads)
     (rising : HasRisingStamps next ws) (below : AreBelow bound ws) (le : next ≤ bound) (t : IsStanding heads bases first root next)
-    (chains : (p : ℕ) → p < length heads → ChainOf (slots_of heads bases first) (levels_under (slots_of heads bases first) root) (4294967296 + length first) ws links (slice_index heads' p) (slice_index heads p) p) where
+    (chains : (p : ℕ) → p < length heads → ChainOf (slots_of heads bases first) (levels_under (slots_of heads bases first) root) (floor_word + length first) ws links (slice_index heads' p) (slice_index heads p) p) where
   abbrev old_slots : List Slot
   old_slots = slots_of heads bases first
 
@@ -212,7 +212,7 @@ module _ (heads heads' : List ℕ) (bases : Bases) (first : Records) (root next 
       once_more : (r : ℕ) (rs : List ℕ) → 0 < times r (r ∷ rs)
       once_more r rs = grind (arith, nat_tests)
 
-      by : (rs : List ℕ) → Meets (4294967296 + length first) links (slice_index heads' p) rs (slice_index heads p) → ((r : ℕ) (w : WriteView) → slice_get ws r ≡ Some w → 0 < times r rs → IsHome old_slots old_levels w.key p) → IsInLevels old_levels p
+      by : (rs : List ℕ) → Meets (floor_word + length first) links (slice_index heads' p) rs (slice_index heads p) → ((r : ℕ) (w : WriteView) → slice_get ws r ≡ Some w → 0 < times r rs → IsHome old_slots old_levels w.key p) → IsInLevels old_levels p
       by [] met only = t.placed p within (subst (λ w. 2 ^ 32 ≤ w) met high)
       by (r ∷ rs) met only =
           let at = read_both ws links r met.1 linked in

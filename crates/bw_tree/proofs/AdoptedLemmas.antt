@@ -14,7 +14,7 @@ use Rattle.bw_level.specs.Reading.{writes_over, row_pairs, row_writes}
 use Rattle.bw_level.specs.Turns.{slot_without_writes}
 use Rattle.bw_level.specs.Levels.{IsHome, row, levels_under}
 use Rattle.bw_level.specs.Changes.{Bases}
-use Rattle.bw_chain.specs.Chains.{Records, slot_of_word, slots_of}
+use Rattle.bw_chain.specs.Chains.{Records, floor_word, slot_of_word, slots_of}
 use Rattle.bw_look.specs.Trees.{IsStanding, IsTree, StageWords, stage_of, view_of}
 use Rattle.bw_look.specs.Words.{bases_before, words_before}
 use Rattle.bw_look.specs.declared.words_before.WordsBefore.{WordsBefore}
@@ -69,12 +69,12 @@ module _ (heads heads' : List ℕ) (bases : Bases) (records : Records) (root nex
         ∙ same_map (slot_of_word bases earlier) (slot_of_word bases (earlier ++ before)) heads
         (λ q word e. (still_ends bases earlier (earlier ++ before) word (append_extends earlier before) (omega (arith, posted_length bases earlier ws t.stage.links t.stage.linked)) (t.stage.before.ends q word e)).1)
 
-    chains : (q : ℕ) → q < length heads → ChainOf (slots_of heads bases earlier) (levels_under (slots_of heads bases earlier) root) (4294967296 + length earlier) ws links (slice_index heads' q) (slice_index heads q) q
+    chains : (q : ℕ) → q < length heads → ChainOf (slots_of heads bases earlier) (levels_under (slots_of heads bases earlier) root) (floor_word + length earlier) ws links (slice_index heads' q) (slice_index heads q) q
     chains q lt =
         let c = p.chains q lt in
         record {
           chain = c.chain;
-          way = subst (λ k. Meets (4294967296 + k) links (slice_index heads' q) c.chain (slice_index heads q)) (sym count) c.way;
+          way = subst (λ k. Meets (floor_word + k) links (slice_index heads' q) c.chain (slice_index heads q)) (sym count) c.way;
           once = c.once;
           here = λ r w at home. c.here r w (ap (λ (l : List WriteView). slice_get l r) writes_are ∙ at) (subst (λ (s : List Slot). IsHome s (levels_under s root) w.key q) (sym slots_same) home);
           only = λ r w at some. subst (λ (s : List Slot). IsHome s (levels_under s root) w.key q) slots_same (c.only r w (ap (λ (l : List WriteView). slice_get l r) writes_are ∙ at) some);

@@ -1,7 +1,7 @@
 -- The tree over leaves is lawful.
 use Rattle.std.specs.Prelude.{slice_get, slice_index}
 use Rattle.bw_level.specs.Changes.{based, Bases}
-use Rattle.bw_chain.specs.Chains.{slot_of_word, link_of, linked_word, AllEnd}
+use Rattle.bw_chain.specs.Chains.{floor_word, slot_of_word, link_of, linked_word, AllEnd}
 use Rattle.bw_page.specs.declared.pages.Page.{Page}
 use Rattle.std.proofs.Common.{inl, inr, ◌⊎◌, ◌≡◌, ℕ, zero, suc, ◌+◌, ◌-◌, ◌<◌, ◌≤◌, ◌^◌, true, false, cond, not, T, List, [], ◌∷◌, ◌++◌, length, map, Option, Some, None, Result, Ok, Err, IfOk, refl, sym, ap, ◌∙◌, subst, arith, nat_lt, length-append}
 use Rattle.std.specs.List.{Contains, AllByRecursion, IsDistinct}
@@ -46,7 +46,7 @@ not_gone : {s : PageState} {g : RemovedPage} → Live s ≡ Gone g → ⊥
 not_gone e = cc
 
 no_link : (w : ℕ) → link_of [] w ≡ None
-no_link w = elim (nat_lt w 4294967296) as (λ b. linked_word (cond b None None) ≡ None) [ true ↦ refl | false ↦ refl ]
+no_link w = elim (nat_lt w floor_word) as (λ b. linked_word (cond b None None) ≡ None) [ true ↦ refl | false ↦ refl ]
 
 over_ends : (bases : Bases) → length bases ≤ 2 ^ 32 → AllEnd bases [] (count_from 0 (length bases))
 over_ends bases few p word e =

@@ -11,7 +11,7 @@ use Rattle.bw_delta.specs.declared.deltas.Delta.TheVariants.{Put}
 use Rattle.bw_level.specs.Slots.{Slot}
 use Rattle.bw_level.specs.Walk.{Leads}
 use Rattle.bw_level.specs.Changes.{Bases, change, based}
-use Rattle.bw_chain.specs.Chains.{Records, Ends, EndsAt, IsShaped, record_at, link_of, delta_in, deltas_at, changed, slot_of_word}
+use Rattle.bw_chain.specs.Chains.{Records, Ends, EndsAt, IsShaped, floor_word, record_at, link_of, delta_in, deltas_at, changed, slot_of_word}
 use Rattle.bw_chain.specs.Records.{put_records}
 use Rattle.bw_chain.specs.Supports.{base_under}
 use Rattle.bw_chain.proofs.ChainLemmas.{link_is, slot_of_way}
@@ -36,15 +36,15 @@ put_over bases (w ∷ ws) slot = change bases (Put w) (put_over bases ws slot)
 
 -- a staged record stands at its word
 record_there : (old : Records) (ws : List WriteView) (links : List ℕ) (r : ℕ) → r < length links → length links ≡ length ws →
-    (w : WriteView) × (slice_get ws r ≡ Some w) × (record_at (old ++ put_records ws links) (4294967296 + length old + r) ≡ Some (Put w, slice_index links r))
+    (w : WriteView) × (slice_get ws r ≡ Some w) × (record_at (old ++ put_records ws links) (floor_word + length old + r) ≡ Some (Put w, slice_index links r))
 record_there old ws links r lt same =
     let both = read_both ws links r lt same in
-    let word = 4294967296 + length old + r in
-    let test : ltb word 4294967296 ≡ false = grind (arith, nat_tests) in
-    let place : word - 4294967296 ≡ length old + r = omega arith in (
+    let word = floor_word + length old + r in
+    let test : ltb word floor_word ≡ false = grind (arith, nat_tests) in
+    let place : word - floor_word ≡ length old + r = omega arith in (
       both.0,
       both.1,
-      ap (λ b. cond b None (slice_get (old ++ put_records ws links) (word - 4294967296))) test
+      ap (λ b. cond b None (slice_get (old ++ put_records ws links) (word - floor_word))) test
           ∙ ap (slice_get (old ++ put_records ws links)) place ∙ read_behind old (put_records ws links) r ∙ both.2,
     )
 
@@ -53,9 +53,9 @@ module _ (bases : Bases) (old : Records) (ws : List WriteView) (links : List ℕ
   posted = old ++ put_records ws links
 
   abbrev words : List ℕ → List ℕ
-  words = map (λ r. 4294967296 + length old + r)
+  words = map (λ r. floor_word + length old + r)
 
-  posted_way : (rs : List ℕ) (head before : ℕ) (xs : List ℕ) (e : ℕ) → Meets (4294967296 + length old) links head rs before → Leads (link_of posted) before xs e → Leads (link_of posted) head (words rs ++ xs) e
+  posted_way : (rs : List ℕ) (head before : ℕ) (xs : List ℕ) (e : ℕ) → Meets (floor_word + length old) links head rs before → Leads (link_of posted) before xs e → Leads (link_of posted) head (words rs ++ xs) e
   posted_way [] head before xs e met way = subst (λ p. Leads (link_of posted) p xs e) (sym met) way
   posted_way (r ∷ rs) head before xs e met way =
       let there = record_there old ws links r met.1 same in
@@ -66,7 +66,7 @@ module _ (bases : Bases) (old : Records) (ws : List WriteView) (links : List ℕ
   puts [] ds = ds
   puts (v ∷ vs) ds = Put v ∷ puts vs ds
 
-  posted_deltas : (rs : List ℕ) (head before : ℕ) (xs : List ℕ) → Meets (4294967296 + length old) links head rs before → deltas_at posted (words rs ++ xs) ≡ puts (named ws rs) (deltas_at posted xs)
+  posted_deltas : (rs : List ℕ) (head before : ℕ) (xs : List ℕ) → Meets (floor_word + length old) links head rs before → deltas_at posted (words rs ++ xs) ≡ puts (named ws rs) (deltas_at posted xs)
   posted_deltas [] head before xs met = refl
   posted_deltas (r ∷ rs) head before xs met =
       let there = record_there old ws links r met.1 same in
@@ -86,7 +86,7 @@ module _ (bases : Bases) (old : Records) (ws : List WriteView) (links : List ℕ
   posted_length = length_behind old ws links same
 
   -- The posted records come before the chain of old ones: the page has their writes over it, and rests on the same.
-  pub chain_posted : (rs : List ℕ) (head before : ℕ) → Meets (4294967296 + length old) links head rs before → ((r : ℕ) → times r rs ≤ 1) → Ends bases old before → Ends bases posted head × (slot_of_word bases posted head ≡ put_over bases (named ws rs) (slot_of_word bases old before)) × (base_under posted head ≡ base_under old before)
+  pub chain_posted : (rs : List ℕ) (head before : ℕ) → Meets (floor_word + length old) links head rs before → ((r : ℕ) → times r rs ≤ 1) → Ends bases old before → Ends bases posted head × (slot_of_word bases posted head ≡ put_over bases (named ws rs) (slot_of_word bases old before)) × (base_under posted head ≡ base_under old before)
   chain_posted rs head before met once ends = by ends.0 ends.1.0 ends.1.1
     where
       by : (xs : List ℕ) (e : ℕ) → EndsAt bases old before xs e → Ends bases posted head × (slot_of_word bases posted head ≡ put_over bases (named ws rs) (slot_of_word bases old before)) × (base_under posted head ≡ base_under old before)
@@ -94,7 +94,7 @@ module _ (bases : Bases) (old : Records) (ws : List WriteView) (links : List ℕ
           let kept = append_extends old (put_records ws links) in
           let way = posted_way rs head before xs e met (leads_on old posted kept before xs e h.limit h.way) in
           let listed : deltas_at posted (words rs ++ xs) ≡ puts (named ws rs) (deltas_at old xs) = posted_deltas rs head before xs met ∙ ap (puts (named ws rs)) (deltas_on old posted kept before xs e h.way) in
-          let short : length (words rs ++ xs) ≤ length posted = omega (arith, h.short, posted_length, same, length-append (words rs) xs, length-map rs (λ r. 4294967296 + length old + r), few (length links) rs (meets_low (4294967296 + length old) links head rs before met) once) in (
+          let short : length (words rs ++ xs) ≤ length posted = omega (arith, h.short, posted_length, same, length-append (words rs) xs, length-map rs (λ r. floor_word + length old + r), few (length links) rs (meets_low (floor_word + length old) links head rs before met) once) in (
             (words rs ++ xs, (e, record { way = way; short = short; within = h.within; limit = h.limit; shaped = subst (IsShaped (based (slice_get bases e))) (sym listed) (puts_shaped (based (slice_get bases e)) (named ws rs) (deltas_at old xs) h.shaped) })),
             slot_of_way bases posted head (words rs ++ xs) e way short ∙ ap (λ (l : List Delta). changed bases l (based (slice_get bases e))) listed
                 ∙ puts_changed (named ws rs) (deltas_at old xs) (based (slice_get bases e)) ∙ ap (put_over bases (named ws rs)) (sym (slot_of_way bases old before xs e h.way h.short)),
