@@ -29,7 +29,8 @@ const FEW: usize = 8;
 /// The pairs of a page: those of its base, which stay where they stand, and what writes made of some of them.
 ///
 /// A write that changes a value costs up to two searches among the changes and two on the base, and a copy of its key and
-/// of the value that it leaves; one that changes none, a search in each.
+/// of the value that it leaves; one that changes none, a search in each. Where there are many changes (`settle`), they are made
+/// in a copy of the base, which takes its place.
 #[derive(Drop)]
 pub(crate) struct Present<'a> {
     base: Base<'a>,
@@ -103,18 +104,21 @@ impl<'a> Present<'a> {
     }
 
     /// The same pairs, with the changes made where there are many of them. So a read of a range passes few changes, however many
-    /// keys were written, and a change costs a copy of some eight pairs in the long run. `Memory` is answered where the list of
-    /// the pairs finds none.
-    pub(crate) fn settle(self, alloc: Alloc) -> Result<Present<'a>, Memory>
-        ensures { IfOk result (λ present. present_pairs present ≡ present_pairs self.entry) }
+    /// keys were written, and a change costs a copy of some eight pairs in the long run. Where that copy finds no memory, the
+    /// changes stay.
+    pub(crate) fn settle(self, alloc: Alloc) -> Present<'a>
+        ensures { present_pairs result ≡ present_pairs self.entry }
     {
         if self.changes.len() <= few_over(self.base.leaf().pairs().len()) {
-            return Ok(self);
+            return self;
         }
-        Ok(Present {
-            base: Base::Made(self.to_leaf(alloc)?),
-            changes: BTreeMap::new(alloc),
-        })
+        match self.to_leaf(alloc) {
+            Ok(leaf) => Present {
+                base: Base::Made(leaf),
+                changes: BTreeMap::new(alloc),
+            },
+            Err(_) => self,
+        }
     }
 
     // The pairs as those of a leaf of all keys.
@@ -139,6 +143,7 @@ impl<'a> Present<'a> {
         if pairs.len() as u64 == u64::MAX {
             return Err(Memory);
         }
+        pairs.shrink_to_fit();
         Ok(pairs)
     }
 

@@ -2,7 +2,7 @@
 mod assertions;
 
 use crate::tests::assertions::{assert_equal, assert_that};
-use bw_key::{Key, KeyFault, Memory, compare_prefixed};
+use bw_key::{Key, KeyFault, Memory, compare_bytes, compare_prefixed};
 use bw_memory::{Alloc, Heap};
 use std::alloc::Global;
 use std::cmp::Ordering;
@@ -54,6 +54,7 @@ fn stand<R: Abort>(rt: &R, left: &Key, right: &Key, order: Ordering) {
     assert_that(rt, left.cmp(right) == order);
     let prefixed = compare_prefixed(left, left.prefix(), right, right.prefix());
     assert_that(rt, prefixed == order);
+    assert_that(rt, compare_bytes(left.bytes(), right.bytes()) == order);
     assert_that(rt, left.partial_cmp(right) == Some(order));
     assert_equal(rt, left == right, order == Ordering::Equal);
 }

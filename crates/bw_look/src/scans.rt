@@ -28,10 +28,11 @@ use gaps::Gap;
 /// Scans of a tree, one after another, each as of a stamp of its own.
 ///
 /// Each leaf that was read is kept, and a later scan goes on from the stamp of the one before it. Its pairs are read where
-/// they stand, and what its writes made of some of them is kept beside it. So with stamps that rise, each write of a leaf
-/// has its effect once for all scans, and its chain is walked a fixed number of times, however many scans read it. A scan of
-/// leaves that are kept costs a few searches for each of them, among those that are kept and among its pairs, one for each
-/// key in its range that was written, and a copy of what it answers. Leaves side by side without a pair are passed at once by
+/// they stand, and what its writes made of some of them is kept beside it, or among a copy of its pairs where it is much. So
+/// with stamps that rise, each write of a leaf has its effect once for all scans, and its chain is walked a fixed number of
+/// times, however many scans read it. A scan of leaves that are kept costs a few searches for each of them, among those that
+/// are kept and among its pairs, one for each key in its range whose change is kept beside the pairs, up to eight and an eighth
+/// of these, and a copy of what it answers. Leaves side by side without a pair are passed at once by
 /// later scans, until one of them is written to. At a stamp that falls the writes of a leaf have their effects again. What was
 /// kept stays in memory.
 pub struct Scans<'a> {

@@ -234,7 +234,8 @@ impl Inner {
     /// and are in the range of the page. This page stays as it is.
     ///
     /// Its own children are copied once, by runs, and each of the others costs a binary search among the children behind the
-    /// one before it: so a page that gets many children gets them at once.
+    /// one before it: so a page that gets many children gets them at once. Where one stands in place of another, the room that
+    /// this leaves is given back, by growths that may be refused: then it stays.
     pub fn with_children(&self, entries: &[(Key, PageId)]) -> Result<Inner, Memory>
         requires rising { T (is_sorted key_cmp entries.now) }
         requires inside { T (list_all (is_pair_in_range self.now.low self.now.high) entries.now) }

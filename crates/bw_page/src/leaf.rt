@@ -70,7 +70,7 @@ impl Leaf {
         }
     }
 
-    /// The leaf of these bounds and pairs. It takes no memory.
+    /// The leaf of these bounds and pairs. It takes no memory, and the list of pairs keeps the room that it has.
     pub fn from_pairs(low: Key, high: Option<Key>, side: Option<PageId>, pairs: Pairs) -> Leaf
         requires { IsPage low high side pairs }
         ensures low { result.low ≡ low }

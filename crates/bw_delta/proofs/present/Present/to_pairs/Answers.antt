@@ -11,7 +11,7 @@ use Rattle.bw_delta.proofs.present.Present.to_pairs.Goals as goal
 pub returns-clause-all : goal.returns-clause-all
 returns-clause-all c =
     let there = present_pairs c.args.self.now in
-    all_found 18446744073709551615 c.add_first.new.read there
+    c.shrink_to_fit.ensures ∙ all_found 18446744073709551615 c.add_first.new.read there
     (c.in_ok-add_first.ensures.added
     ∙ ap (λ (l : List Pair). l ++ take 18446744073709551615 (filter (is_pair_in_range c.args.least.now None) there)) c.in_ok-pairs.ensures
     ∙ ap (λ (k : KeyBytes). take 18446744073709551615 (filter (is_pair_in_range k None) there)) c.requires

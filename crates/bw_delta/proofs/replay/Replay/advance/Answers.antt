@@ -14,15 +14,15 @@ use Rattle.bw_delta.proofs.Batches.{from_lower}
 use Rattle.bw_delta.proofs.Readings.{left_rises}
 use Rattle.bw_delta.proofs.Replays.{drop_more, goes_on}
 use Rattle.bw_delta.proofs.replay.Replay.advance.Goals as goal
-use Rattle.bw_delta.proofs.replay.Replay.advance.Goals.{In_ok-settle}
+use Rattle.bw_delta.proofs.replay.Replay.advance.Goals.{After-settle}
 
 -- the writes that are left before
-rest : (c : In_ok-settle) → take (length c.deref.result.now - c.self.inside.passed) (drop c.self.inside.passed c.deref.result.now) ≡ drop c.self.inside.passed c.self.inside.writes.items
+rest : (c : After-settle) → take (length c.deref.result.now - c.self.inside.passed) (drop c.self.inside.passed c.deref.result.now) ≡ drop c.self.inside.passed c.self.inside.writes.items
 rest c =
     let size = length-drop c.self.inside.passed c.deref.result.now in
     take_all _ (drop c.self.inside.passed c.deref.result.now) (omega (arith, size)) ∙ ap (drop c.self.inside.passed) c.deref.ensures.value
 
-left : (c : In_ok-settle) → pointed_to (drop (c.self.inside.passed + c.in_ok-present.more) c.self.inside.writes.items) ≡ from_stamp c.args.stamp (pointed_to (drop c.self.inside.passed c.self.inside.writes.items))
+left : (c : After-settle) → pointed_to (drop (c.self.inside.passed + c.in_ok-present.more) c.self.inside.writes.items) ≡ from_stamp c.args.stamp (pointed_to (drop c.self.inside.passed c.self.inside.writes.items))
 left c =
     ap pointed_to (drop_more c.self.inside.passed c.in_ok-present.more c.self.inside.writes.items ∙ ap (drop c.in_ok-present.more) (sym (rest c)))
     ∙ c.in_ok-present.ensures.rest
@@ -48,7 +48,7 @@ pub returns-clause-replay : goal.returns-clause-replay
 returns-clause-replay c start high writes so =
     goes_on start high writes c.args.self _ c.requires
     (λ key.
-    ap (find key_cmp key) c.in_ok-settle.ensures
+    ap (find key_cmp key) c.settle.ensures
     ∙ c.in_ok-present.ensures.values key
     ∙ ap (λ (l : List (Bor WriteView)). history (find key_cmp key (present_pairs c.self.inside.present)) (action_at (writes_to key (pointed_to l))) c.args.stamp) (rest c)
     ∙ ap (λ (v : ReplayView). replayed_value v c.args.stamp key) c.self.view_is)
