@@ -75,27 +75,32 @@ fn compare_at<'a, R: Abort>(
     rt: &R,
     alloc: Alloc,
     replay: Replay<'a>,
-    (leaf, least): (&Leaf, &Key),
+    leaf: &Leaf,
     writes: &[&Write],
     stamp: u64,
 ) -> Replay<'a> {
+    let least = key(rt, alloc, b"");
     let replay = advanced(rt, replay, stamp).expect(rt, "memory");
-    let read = first(alloc, &replay, (least, None), 99).expect(rt, "memory");
-    let merged = pairs_under(rt, alloc, &[leaf], (least, None), writes, stamp);
+    let read = first(alloc, &replay, (&least, None), 99).expect(rt, "memory");
+    let merged = pairs_under(rt, alloc, &[leaf], (&least, None), writes, stamp);
     assert_that(rt, read.all().is_same(&merged.expect(rt, "memory").all()));
     replay
+}
+
+// Compares a replay of the writes as of each stamp.
+fn compare<'a, R: Abort>(rt: &R, alloc: Alloc, leaf: &'a Leaf, writes: &[&'a Write]) {
+    let mut replay = replay_of(rt, alloc, &[leaf], None, writes).expect(rt, "memory");
+    for stamp in 0..38 {
+        replay = compare_at(rt, alloc, replay, leaf, writes, stamp);
+    }
 }
 
 #[test]
 fn many_changes_are_read_as_of_each_stamp(rt: HostRuntime) {
     let alloc = heap(&rt, rt.alloc());
-    let (leaf, least) = (a_and_b(&rt, alloc), key(&rt, alloc, b""));
+    let leaf = a_and_b(&rt, alloc);
     let writes = writes(&rt, alloc);
-    let lent = lent(&rt, alloc, &writes);
-    let mut replay = replay_of(&rt, alloc, &[&leaf], None, &lent).expect(&rt, "memory");
-    for stamp in 0..38 {
-        replay = compare_at(&rt, alloc, replay, (&leaf, &least), &lent, stamp);
-    }
+    compare(&rt, alloc, &leaf, &lent(&rt, alloc, &writes));
 }
 
 // The last pairs as of a stamp behind all writes, to which a replay goes at once.
