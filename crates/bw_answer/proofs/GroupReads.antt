@@ -68,5 +68,5 @@ points_part ops ps n k points = record {
   sorted = part_sorted ps n k points.sorted;
   entries = part_holds (IsEntryOf ops) ps n k points.entries;
   rising = part_rises ps n k points.rising;
-  gets = all_part (IsPointOf ops) ps n k points.gets;
+  verbs = all_part (IsPointOf ops) ps n k points.verbs;
 }

@@ -25,13 +25,13 @@ of_entries P (e ∷ es) all = (all.0, of_entries P es all.1)
 
 -- the points of a batch, and its scans
 pub grouped_points : (batch : GroupingView) → AreGrouped batch → (ops : List Op) (points : List Point) → ops ≡ batch.ops → entries_of points ≡ batch.points → AllByRecursion (IsPointOf batch.ops) points → ArePointsOf ops points
-grouped_points batch grouped ops points ops_are points_are gets =
+grouped_points batch grouped ops points ops_are points_are verbs =
     let same = λ (key : KeyBytes). ap (entries_at key) points_are ∙ grouped.same key in
     subst (λ (l : List Op). ArePointsOf l points) (sym ops_are) (record {
       sorted = subst (IsSortedBy (λ d e. is_lt (key_cmp d.0 e.0))) (sym points_are) grouped.sorted;
       entries = batch_entries batch.ops (entries_of points) same;
       rising = λ key. subst (HasRisingPlaces 0) (sym (same key)) (rising_at key 0 (entries_from 0 batch.ops) (entries_rise 0 batch.ops));
-      gets = gets;
+      verbs = verbs;
     })
 
 pub grouped_scans : (batch : GroupingView) → AreGrouped batch → (ops : List Op) (scans : List ℕ) → ops ≡ batch.ops → scans ≡ batch.scans → AllByRecursion (IsScanOf ops) scans

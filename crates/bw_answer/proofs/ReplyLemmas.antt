@@ -1,5 +1,5 @@
 -- The reply to an operation on one key, by the writes as of its stamp, and lists of answers.
-use Rattle.std.proofs.Common.{◌≡◌, ℕ, zero, suc, ◌+◌, ◌-◌, ◌<◌, ◌≤◌, true, false, List, [], ◌∷◌, ◌++◌, length, take, drop, get_or, slice_get, Option, Some, None, refl, sym, ap, ◌∙◌, subst, arith}
+use Rattle.std.proofs.Common.{◌≡◌, ℕ, zero, suc, ◌+◌, ◌-◌, ◌<◌, ◌≤◌, List, [], ◌∷◌, ◌++◌, length, take, drop, get_or, slice_get, Option, Some, None, refl, sym, ap, ◌∙◌, subst, arith}
 use Rattle.std.specs.Option.{option_map}
 use Rattle.std.specs.FinMap.{get as get_at}
 use Rattle.bw_key.specs.Order.{KeyBytes}
@@ -7,6 +7,11 @@ use Rattle.std.proofs.lemmas.List.{append_assoc, append-nil, take_more, take_all
 use Rattle.bw_model.specs.Values.{ValueBytes}
 use Rattle.bw_model.specs.Contents.{Contents}
 use Rattle.bw_model.specs.Model.{found, reply_of, after, replies_of, contents_after}
+use Rattle.bw_model.specs.Actions.{answer}
+use Rattle.bw_model.specs.Verbs.{verb_of, IsReplyTo}
+use Rattle.bw_model.specs.declared.verbs.Verb.{Verb}
+use Rattle.bw_model.specs.declared.operations.Action.{Action}
+use Rattle.bw_model.specs.declared.operations.Action.TheVariants as action
 use Rattle.bw_model.specs.declared.operations.Op.{Op}
 use Rattle.bw_model.specs.declared.operations.Op.TheVariants.{Get, Insert, Upsert, Update, Delete, SwapIf, Scan, Rscan}
 use Rattle.bw_model.specs.declared.operations.Reply.{Reply}
@@ -17,7 +22,7 @@ use Rattle.bw_delta.specs.Rising.{HasRisingStamps}
 use Rattle.bw_delta.specs.Readings.{from_stamp}
 use Rattle.bw_delta.proofs.Readings.{all_left, resumed, left_later}
 use Rattle.bw_look.specs.View.{contents_at}
-use Rattle.bw_group.specs.Points.{Entry, entries_of, is_get, places_of, HasRisingPlaces}
+use Rattle.bw_group.specs.Points.{Entry, entries_of, places_of, HasRisingPlaces}
 use Rattle.bw_model.specs.Model.{key_of}
 use Rattle.bw_group.specs.declared.points.Point.{Point}
 use Rattle.bw_answer.specs.declared.batch_reader.Answer.{Answer}
@@ -26,11 +31,18 @@ use Rattle.bw_model.specs.Model.{IsReplyAt}
 use Rattle.bw_group.proofs.ListParts.{take_to}
 use Rattle.bw_answer.proofs.ListLemmas.{drop_next}
 
-no_get : false ≡ true → ⊥
-no_get e = cc
+no_verb : {v : Verb} → None ≡ Some v → ⊥
+no_verb e = cc
+
+same_verb : {v w : Verb} → Some v ≡ Some w → v ≡ w
+same_verb e = cc
 
 same_key : {k l : KeyBytes} → Some k ≡ Some l → k ≡ l
 same_key e = cc
+
+-- the answer of a write by the value at its key
+written : (write : Action) (m : Contents ValueBytes) (k key : KeyBytes) (value : Option ValueBytes) (reply : Reply) → k ≡ key → get_at m key ≡ value → reply ≡ answer write value → reply ≡ answer write (get_at m k)
+written write m k key value reply same read is = is ∙ ap (answer write) (sym read) ∙ ap (λ (x : KeyBytes). answer write (get_at m x)) (sym same)
 
 -- a reply of a batch
 pub reply_at : (ops : List Op) (m : Contents ValueBytes) (i : ℕ) → slice_get (replies_of ops m) i ≡ option_map (λ op. reply_of op (contents_after (take i ops) m)) (slice_get ops i)
@@ -69,16 +81,26 @@ answer_there batch q place op reply is answers =
         same e = cc
     found (r ∷ rs) (suc i) e = found rs i e
 
--- the reply to a get is the value at its key
-pub get_replied : (op : Op) (value : Option ValueBytes) (reply : Reply) → is_get op ≡ true → reply ≡ found value → IsReplyAt op value reply
-get_replied (Get k) value reply get is = λ m key has at. is ∙ ap found (sym at) ∙ ap (λ (x : KeyBytes). found (get_at m x)) (sym (same_key has))
-get_replied (Insert k v) value reply get is = absurd (no_get get)
-get_replied (Upsert k v) value reply get is = absurd (no_get get)
-get_replied (Update k v) value reply get is = absurd (no_get get)
-get_replied (Delete k) value reply get is = absurd (no_get get)
-get_replied (SwapIf k old new) value reply get is = absurd (no_get get)
-get_replied (Scan from to most) value reply get is = absurd (no_get get)
-get_replied (Rscan from to most) value reply get is = absurd (no_get get)
+-- the reply to an operation by its verb
+pub verb_replied : (op : Op) (verb : Verb) (value : Option ValueBytes) (reply : Reply) → verb_of op ≡ Some verb → IsReplyTo verb value reply → IsReplyAt op value reply
+verb_replied (Get k) verb value reply has is = λ m key at read.
+    let own : reply ≡ found value = subst (λ (v : Verb). IsReplyTo v value reply) (sym (same_verb has)) is in
+    own ∙ ap found (sym read) ∙ ap (λ (x : KeyBytes). found (get_at m x)) (sym (same_key at))
+verb_replied (Insert k v) verb value reply has is = λ m key at read.
+    let own : (w : ValueBytes) → reply ≡ answer (action.Insert w) value = subst (λ (u : Verb). IsReplyTo u value reply) (sym (same_verb has)) is in
+    written (action.Insert v) m k key value reply (same_key at) read (own v)
+verb_replied (Upsert k v) verb value reply has is = λ m key at read.
+    let own : (w : ValueBytes) → reply ≡ answer (action.Upsert w) value = subst (λ (u : Verb). IsReplyTo u value reply) (sym (same_verb has)) is in
+    written (action.Upsert v) m k key value reply (same_key at) read (own v)
+verb_replied (Update k v) verb value reply has is = λ m key at read.
+    let own : (w : ValueBytes) → reply ≡ answer (action.Update w) value = subst (λ (u : Verb). IsReplyTo u value reply) (sym (same_verb has)) is in
+    written (action.Update v) m k key value reply (same_key at) read (own v)
+verb_replied (Delete k) verb value reply has is = λ m key at read.
+    let own : reply ≡ answer action.Delete value = subst (λ (u : Verb). IsReplyTo u value reply) (sym (same_verb has)) is in
+    written action.Delete m k key value reply (same_key at) read own
+verb_replied (SwapIf k old new) verb value reply has is = absurd (no_verb has)
+verb_replied (Scan from to most) verb value reply has is = absurd (no_verb has)
+verb_replied (Rscan from to most) verb value reply has is = absurd (no_verb has)
 
 -- answers with those of further places behind them
 pub more_answers : (batch : ReaderView) (before answers answers' : List Answer) (places more : List ℕ) → answers ≡ before ++ answers_to batch places →

@@ -72,4 +72,4 @@ pub record ArePointsOf (ops : List Op) (points : List Point) : Type 0 where
   pub sorted : IsSortedBy (λ d e. is_lt (key_cmp d.0 e.0)) (entries_of points)
   pub entries : AllByRecursion (IsEntryOf ops) (entries_of points)
   pub rising : (key : KeyBytes) → HasRisingPlaces 0 (entries_at key (entries_of points))
-  pub gets : AllByRecursion (IsPointOf ops) points
+  pub verbs : AllByRecursion (IsPointOf ops) points

@@ -8,7 +8,7 @@ ghost use Rattle.bw_delta.specs.Rising.{HasRisingStamps};
 ghost use Rattle.bw_tree.specs.Levels.{IsHome, row};
 ghost use Rattle.bw_look.specs.View.{contents_at};
 ghost use Rattle.bw_group.specs.Points.{entries_of, HasRisingPlaces, IsEntryOf, IsPointOf, IsScanOf};
-ghost use Rattle.bw_model.specs.Model.{found, key_of, reply_of};
+ghost use Rattle.bw_model.specs.Model.{key_of, reply_of};
 ghost use Rattle.bw_answer.specs.Parts.{IsPartOf, places_in};
 ghost use Rattle.bw_answer.specs.Replies.{answers_to, point_places, ArePointsOf, IsReadBy, IsReplyThere};
 
@@ -18,7 +18,7 @@ use bw_delta::{Reading, Write, writes_by_key};
 use bw_group::{Homes, Point, group_end};
 use bw_key::Memory;
 use bw_memory::Alloc;
-use bw_model::{Op, Reply, Value};
+use bw_model::{Op, Reply};
 use bw_tree::{PageId, Scans, Tree};
 use rayon::prelude::*;
 use std::marker::Model;
@@ -26,6 +26,9 @@ use std::thread::Threads;
 
 // One thread answers the points on some leaves at a time, fewer than so many besides those on the last of them.
 const TURN: usize = 4096;
+
+// The leaves and keys of so many points at the least are read ahead: those of a few leaves, where each has some points.
+const AHEAD: usize = 16;
 
 /// Answers the operations of a batch by reading a tree in which its writes stand: as of the stamp of an operation the
 /// tree has the map that the operations before it leave.
@@ -140,8 +143,49 @@ impl<'a> BatchReader<'a> {
     {
         let mut start = 0;
         while start < points.len() {
+            let (end, near) = self.prefetch_runs(points, start);
+            self.answer_runs(alloc, near, &points[start..end], answers)?;
+            start = end;
+        }
+        Ok(())
+    }
+
+    // Reads the leaves and the keys of the next runs of points, of as many runs as have 16 points, before the first of them is
+    // answered: so their memory is waited for together. Where these runs end, and what was read made a guess of a place, which
+    // may be any number.
+    fn prefetch_runs(&self, points: &[Point<'_>], start: usize) -> (usize, usize)
+        requires points { ArePointsOf self.now.ops points.now }
+        requires start { start < length points.now }
+        ensures more { start < result.0 }
+        ensures bound { result.0 ≤ length points.now }
+    {
+        let mut end = start;
+        let mut near = 0usize;
+        while end < points.len() && end - start < AHEAD {
+            let (page, next) = self.homes.run_from(points, end);
+            near = near.wrapping_add(self.tree.prefetch(page));
+            near = near.wrapping_add(prefetch_keys(&points[end..next]));
+            end = next;
+        }
+        (end, near)
+    }
+
+    // Adds the answers to operations whose leaves and keys were read ahead. The first key of each leaf is looked for at this
+    // place first.
+    fn answer_runs(
+        &self,
+        alloc: Alloc,
+        near: usize,
+        points: &[Point<'_>],
+        answers: &mut Vec<Answer, Alloc>,
+    ) -> Result<(), Memory>
+        requires points { ArePointsOf self.now.ops points.now }
+        ensures { OnOk result (answers.new.items ≡ answers.old.items ++ answers_to self.now (point_places points.now)) }
+    {
+        let mut start = 0;
+        while start < points.len() {
             let (page, end) = self.homes.run_from(points, start);
-            self.answer_run(alloc, page, &points[start..end], answers)?;
+            self.answer_run(alloc, page, near, &points[start..end], answers)?;
             start = end;
         }
         Ok(())
@@ -152,6 +196,7 @@ impl<'a> BatchReader<'a> {
         &self,
         alloc: Alloc,
         page: PageId,
+        mut near: usize,
         points: &[Point<'_>],
         answers: &mut Vec<Answer, Alloc>,
     ) -> Result<(), Memory>
@@ -165,8 +210,6 @@ impl<'a> BatchReader<'a> {
         let leaf = self.tree.leaf(alloc, page)?;
         let writes = writes_by_key(alloc, &leaf.writes)?;
         let mut start = 0;
-        // The first key of a run stands anywhere on the leaf.
-        let mut near = leaf.base.pairs().len();
         let mut changed = 0;
         while start < points.len() {
             let end = group_end(points, start);
@@ -195,7 +238,7 @@ impl<'a> BatchReader<'a> {
         requires reads { let is_read = IsReadBy self.now.tree (option_copied start) (pointed_to writes.now) in
             AllByRecursion (λ e. is_read e.0) (entries_of points.now) }
         requires entries { AllByRecursion (IsEntryOf self.now.ops) (entries_of points.now) }
-        requires gets { AllByRecursion (IsPointOf self.now.ops) points.now }
+        requires verbs { AllByRecursion (IsPointOf self.now.ops) points.now }
         requires rising { HasRisingPlaces 0 (entries_of points.now) }
         ensures { OnOk result (answers.new.items ≡ answers.old.items ++ answers_to self.now (point_places points.now)) }
     {
@@ -209,8 +252,8 @@ impl<'a> BatchReader<'a> {
         Ok(())
     }
 
-    // The reply to an operation on one key, where the key has this value. A get's is the value: that operation isn't
-    // read.
+    // The reply to an operation on one key, where the key has this value. Most operations aren't read: their points have all
+    // that is asked for.
     fn reply_to(
         &self,
         alloc: Alloc,
@@ -218,13 +261,12 @@ impl<'a> BatchReader<'a> {
         value: Option<&[u8]>,
     ) -> Result<Reply, Memory>
         requires entry { IsEntryOf self.now.ops (point.now.key.now, point.now.place) }
-        requires get { IsPointOf self.now.ops point.now }
+        requires verb { IsPointOf self.now.ops point.now }
         ensures { IfOk result (IsReplyThere self.now.ops point.now.place (option_copied value.entry)) }
     {
-        if point.is_get() {
-            get_reply(alloc, value)
-        } else {
-            op_at(self.ops, point.place()).reply_at(alloc, value)
+        match point.verb() {
+            Some(verb) => verb.reply_at(alloc, value),
+            None => op_at(self.ops, point.place()).reply_at(alloc, value),
         }
     }
 
@@ -249,14 +291,13 @@ impl<'a> BatchReader<'a> {
     }
 }
 
-// The reply to a get.
-fn get_reply(alloc: Alloc, value: Option<&[u8]>) -> Result<Reply, Memory>
-    ensures { IfOk result (λ reply. reply ≡ found (option_copied value.entry)) }
-{
-    Ok(match value {
-        Some(value) => Reply::Found(Value::from_bytes(alloc, value)?),
-        None => Reply::Absent,
-    })
+// Reads the keys of points, up to 4,096 of them: a sum of their lengths. Operations lie in another order than their points.
+fn prefetch_keys(points: &[Point<'_>]) -> usize {
+    let mut sum = 0usize;
+    for point in points.iter().take(TURN) {
+        sum = sum.wrapping_add(point.key.bytes().len());
+    }
+    sum
 }
 
 // The reply to a scan as of a stamp.

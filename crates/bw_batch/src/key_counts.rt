@@ -56,9 +56,12 @@ fn len_behind(len: u64, op: &Op, reply: &Reply) -> u64
     requires { len + 1 < 2 ^ 64 }
     ensures { result ≡ len_behind len op.now reply.now }
 {
-    match (op, reply) {
-        (Op::Delete(_), Reply::Was(_)) => len.saturating_sub(1),
-        (_, Reply::Inserted | Reply::New) => len + 1,
+    match reply {
+        Reply::Inserted | Reply::New => len + 1,
+        Reply::Was(_) => match op {
+            Op::Delete(_) => len.saturating_sub(1),
+            _ => len,
+        },
         _ => len,
     }
 }

@@ -7,8 +7,7 @@ use bw_key::Memory;
 use bw_memory::Alloc;
 use std::marker::Model;
 
-/// The last head words, the link words of the records, and the pages whose first word was replaced. `Board::close` alone makes
-/// one.
+/// The last head words, the link words of the records, and the pages whose first word was replaced: what `Board::close` leaves.
 pub struct Closed {
     pub(crate) heads: Vec<u64, Alloc>,
     pub(crate) links: Vec<u64, Alloc>,
@@ -33,6 +32,20 @@ impl Model for Closed {
 }
 
 impl Closed {
+    /// What a board over no page and with no record leaves, without the board: whoever has nothing to post needs none. It takes
+    /// no memory.
+    pub fn empty(alloc: Alloc) -> Closed
+        ensures heads { result.heads ≡ [] }
+        ensures links { result.links ≡ [] }
+        ensures swapped { result.swapped ≡ [] }
+    {
+        Closed {
+            heads: Vec::new(alloc),
+            links: Vec::new(alloc),
+            swapped: Vec::new(alloc),
+        }
+    }
+
     /// The head word of each page.
     pub fn heads(&self) -> &[u64]
         ensures { result.now ≡ self.now.heads }

@@ -18,6 +18,7 @@ mod leaf_reads;
 mod levels;
 mod merge_records;
 mod neighbours;
+mod prefetches;
 mod records;
 mod splits;
 mod turn;

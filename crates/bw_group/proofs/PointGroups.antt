@@ -9,8 +9,10 @@ use Rattle.std.proofs.lemmas.List.Elements.{filter-append}
 use Rattle.std.proofs.lemmas.Option.{slice_get_within, slice_get-get_or}
 use Rattle.bw_key.specs.Order.{KeyBytes, key_cmp, key_eq, key_eq_equiv}
 use Rattle.bw_model.specs.declared.operations.Op.{Op}
-use Rattle.bw_group.specs.Points.{Entry, entry_at, scan_place, scans_from, entries_from, entries_of, entries_at, is_get, places_of, HasKey, HasRisingPlaces, IsEntryOf, IsPointOf, IsScanOf}
+use Rattle.bw_group.specs.Points.{Entry, entry_at, scan_place, scans_from, entries_from, entries_of, entries_at, places_of, HasKey, HasRisingPlaces, IsEntryOf, IsPointOf, IsScanOf}
 use Rattle.bw_model.specs.Model.{key_of}
+use Rattle.bw_model.specs.Verbs.{verb_of}
+use Rattle.bw_model.specs.declared.verbs.Verb.{Verb}
 use Rattle.bw_group.specs.declared.points.Point.{Point}
 use Rattle.bw_group.proofs.ListParts.{part_more, all_append, all_at, all_same, in_rest, seen_rest}
 
@@ -216,13 +218,13 @@ without_point old new before after key n is has so more =
     nothing_more [] = refl
     nothing_more (e ∷ es) = ap (λ l. e ∷ l) (nothing_more es)
 
--- a point that was told whether its operation is a get, and one more of them
-pub point_there : (ops : List Op) (i : ℕ) (op : Op) (p : Point) → i < length ops → op ≡ get_or ops i op → p.place ≡ i → p.is_get ≡ is_get op → IsPointOf ops p
+-- a point that was told the verb of its operation, and one more of them
+pub point_there : (ops : List Op) (i : ℕ) (op : Op) (p : Point) → i < length ops → op ≡ get_or ops i op → p.place ≡ i → p.verb ≡ verb_of op → IsPointOf ops p
 point_there ops i op p lt is at told =
-    ap (λ (n : ℕ). option_map is_get (slice_get ops n)) at
-    ∙ ap (option_map is_get) (slice_get-get_or ops i op lt)
-    ∙ ap (λ (o : Op). Some (is_get o)) (sym is)
-    ∙ ap (λ (b : Bool). Some b) (sym told)
+    ap (λ (n : ℕ). option_map verb_of (slice_get ops n)) at
+    ∙ ap (option_map verb_of) (slice_get-get_or ops i op lt)
+    ∙ ap (λ (o : Op). Some (verb_of o)) (sym is)
+    ∙ ap (λ (v : Option Verb). Some v) (sym told)
 
 pub points_more : (ops : List Op) (old new : List Point) (p : Point) → new ≡ old ++ p ∷ [] → IsPointOf ops p → AllByRecursion (IsPointOf ops) old → AllByRecursion (IsPointOf ops) new
 points_more ops old new p is here all = subst (AllByRecursion (IsPointOf ops)) (sym is) (all_append (IsPointOf ops) old (p ∷ []) all (here, tt))
@@ -302,7 +304,7 @@ entry_key ops e op entry is = one (sym (ap (option_map key_of) is) ∙ entry)
     one : Some (key_of op) ≡ Some (Some e.0) → key_of op ≡ Some e.0
     one e = cc
 
--- it, and whether it is a get
+-- it
 pub record HasOp (ops : List Op) (e : Entry) : Type 0 where
   pub op : Op
   pub is : slice_get ops e.1 ≡ Some op
@@ -318,10 +320,11 @@ entry_op ops e entry = go (slice_get ops e.1) refl
         none e = cc
     go (Some op) is = record { op = op; is = is; key = entry_key ops e op entry is }
 
-pub point_get : (ops : List Op) (p : Point) (op : Op) → IsPointOf ops p → slice_get ops p.place ≡ Some op → is_get op ≡ p.is_get
-point_get ops p op told is = one (sym (ap (option_map is_get) is) ∙ told)
+-- and its verb
+pub point_verb : (ops : List Op) (p : Point) (op : Op) → IsPointOf ops p → slice_get ops p.place ≡ Some op → verb_of op ≡ p.verb
+point_verb ops p op told is = one (sym (ap (option_map verb_of) is) ∙ told)
   where
-    one : Some (is_get op) ≡ Some p.is_get → is_get op ≡ p.is_get
+    one : Some (verb_of op) ≡ Some p.verb → verb_of op ≡ p.verb
     one e = cc
 
 -- the places of entries are those of operations

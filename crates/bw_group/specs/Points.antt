@@ -1,13 +1,13 @@
 -- The operations of a batch that read or write one key each, with their places in the batch.
-use Rattle.std.specs.Prelude.{◌≡◌, ℕ, ◌+◌, ◌-◌, ◌≤◌, Bool, true, false, List, [], ◌∷◌, ◌++◌, Option, Some, None, filter, map, slice_get, slice_index_or, take, drop}
+use Rattle.std.specs.Prelude.{◌≡◌, ℕ, ◌+◌, ◌-◌, ◌≤◌, true, List, [], ◌∷◌, ◌++◌, Option, Some, None, filter, map, slice_get, slice_index_or, take, drop}
 use Rattle.std.specs.List.{AllByRecursion}
 use Rattle.std.specs.Option.{option_map}
 use Rattle.std.specs.Ordering.{is_lt}
 use Rattle.std.specs.List.Sorted.{IsSortedBy}
 use Rattle.bw_key.specs.Order.{KeyBytes, key_cmp, key_eq}
 use Rattle.bw_model.specs.declared.operations.Op.{Op}
-use Rattle.bw_model.specs.declared.operations.Op.TheVariants.{Get, Insert, Upsert, Update, Delete, SwapIf, Scan, Rscan}
 use Rattle.bw_model.specs.Model.{key_of}
+use Rattle.bw_model.specs.Verbs.{verb_of}
 use Rattle.bw_group.specs.declared.points.Point.{Point}
 
 -- a key, and the place of an operation on it
@@ -74,20 +74,9 @@ HasRisingPlaces low (e ∷ es) = (low ≤ e.1) × HasRisingPlaces (e.1 + 1) es
 abbrev pub IsEntryOf : List Op → Entry → Type 0
 IsEntryOf ops e = option_map key_of (slice_get ops e.1) ≡ Some (Some e.0)
 
--- whether an operation is a get
-abbrev pub is_get : Op → Bool
-is_get (Get key) = true
-is_get (Insert key v) = false
-is_get (Upsert key v) = false
-is_get (Update key v) = false
-is_get (Delete key) = false
-is_get (SwapIf key old new) = false
-is_get (Scan from to most) = false
-is_get (Rscan from to most) = false
-
--- the point says whether the operation at its place is a get
+-- the point says the verb of the operation at its place
 abbrev pub IsPointOf : List Op → Point → Type 0
-IsPointOf ops p = option_map is_get (slice_get ops p.place) ≡ Some p.is_get
+IsPointOf ops p = option_map verb_of (slice_get ops p.place) ≡ Some p.verb
 
 -- the operation at this place has no key
 abbrev pub IsScanOf : List Op → ℕ → Type 0
@@ -111,4 +100,4 @@ pub record AreGrouped (batch : GroupingView) : Type 0 where
 -- a batch with its points and its scans
 pub record IsGrouping (ops : List Op) (points : List Point) (scans : List ℕ) : Type 0 where
   pub grouped : AreGrouped (grouping_view ops points scans)
-  pub gets : AllByRecursion (IsPointOf ops) points
+  pub verbs : AllByRecursion (IsPointOf ops) points

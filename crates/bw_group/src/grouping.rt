@@ -6,7 +6,7 @@ ghost use Rattle.std.specs.Ordering.{is_lt};
 ghost use Rattle.std.specs.Option.{option_copied};
 ghost use Rattle.bw_key.specs.Order.{key_cmp, key_eq};
 ghost use Rattle.bw_group.specs.Points.{AreGrouped, HasKey, HaveSameOfKeys, IsPointOf};
-ghost use Rattle.bw_group.specs.Points.{entries_from, entries_in, entries_of, is_get, key_at, scans_from};
+ghost use Rattle.bw_group.specs.Points.{entries_from, entries_in, entries_of, key_at, scans_from};
 ghost use Rattle.bw_group.specs.declared.points.Point.{Point};
 ghost use Rattle.bw_model.specs.Model.{key_of};
 
@@ -55,8 +55,7 @@ impl<'a> Grouping<'a> {
         requires { length ops.now ≤ 2 ^ 32 }
         ensures { IfOk result (λ grouping. grouping.ops ≡ ops.now) }
     {
-        let points = grouped_points(alloc, ops)?;
-        let scans = scans_of(alloc, ops)?;
+        let Lists { points, scans } = grouped_lists(alloc, ops)?;
         Ok(Grouping { ops, points, scans })
     }
 
@@ -68,11 +67,11 @@ impl<'a> Grouping<'a> {
     }
 
     /// The operations on one key each, in the order of their keys. Those on one key are in the order of the batch. Each
-    /// point tells whether its operation is a get.
+    /// point tells the verb of its operation.
     pub fn points(&self) -> &[Point<'a>]
         ensures points { entries_of result.now ≡ self.now.points }
         ensures grouped { AreGrouped self.now }
-        ensures gets { AllByRecursion (IsPointOf self.now.ops) result.now }
+        ensures verbs { AllByRecursion (IsPointOf self.now.ops) result.now }
     {
         &self.points
     }
@@ -85,54 +84,45 @@ impl<'a> Grouping<'a> {
     }
 }
 
-// The points of a batch, in the order of their keys. Those of one key are in the order of the batch.
-fn grouped_points<'a>(alloc: Alloc, ops: &'a [Op]) -> Result<Vec<Point<'a>, Alloc>, Memory>
+// What a batch has: its points, and the places of its scans.
+#[derive(Drop)]
+struct Lists<'a> {
+    points: Vec<Point<'a>, Alloc>,
+    scans: Vec<usize, Alloc>,
+}
+
+// What a batch has, its points in the order of their keys. Those of one key are in the order of the batch.
+fn grouped_lists<'a>(alloc: Alloc, ops: &'a [Op]) -> Result<Lists<'a>, Memory>
     requires { length ops.now ≤ 2 ^ 32 }
-    ensures sorted { IfOk result (λ points. IsSortedBy (λ d e. is_lt (key_cmp d.0 e.0)) (entries_of points.items)) }
-    ensures same { IfOk result (λ points. HaveSameOfKeys (entries_of points.items) (entries_from 0 ops.now)) }
-    ensures gets { IfOk result (λ points. AllByRecursion (IsPointOf ops.now) points.items) }
+    ensures sorted { IfOk result (λ lists.
+        IsSortedBy (λ d e. is_lt (key_cmp d.0 e.0)) (entries_of lists.points.items)) }
+    ensures same { IfOk result (λ lists. HaveSameOfKeys (entries_of lists.points.items) (entries_from 0 ops.now)) }
+    ensures verbs { IfOk result (λ lists. AllByRecursion (IsPointOf ops.now) lists.points.items) }
+    ensures scans { IfOk result (λ lists. lists.scans.items ≡ scans_from 0 ops.now) }
 {
-    let points = points_of(alloc, ops)?;
+    let Lists { points, scans } = lists_of(alloc, ops)?;
     let mut points = sorted_by_rank(alloc, points)?;
     points.sort_unstable_by(|a, b| a.by_key_and_place(b));
-    Ok(points)
+    Ok(Lists { points, scans })
 }
 
-// The points of a batch, in its order.
-fn points_of<'a>(alloc: Alloc, ops: &'a [Op]) -> Result<Vec<Point<'a>, Alloc>, Memory>
+// What a batch has, in its order. It passes the operations once: they are large, so a second look at each would wait for it
+// again.
+fn lists_of<'a>(alloc: Alloc, ops: &'a [Op]) -> Result<Lists<'a>, Memory>
     requires { length ops.now ≤ 2 ^ 32 }
-    ensures entries { IfOk result (λ points. entries_of points.items ≡ entries_from 0 ops.now) }
-    ensures gets { IfOk result (λ points. AllByRecursion (IsPointOf ops.now) points.items) }
+    ensures entries { IfOk result (λ lists. entries_of lists.points.items ≡ entries_from 0 ops.now) }
+    ensures verbs { IfOk result (λ lists. AllByRecursion (IsPointOf ops.now) lists.points.items) }
+    ensures scans { IfOk result (λ lists. lists.scans.items ≡ scans_from 0 ops.now) }
 {
     let mut points = Vec::with_capacity(alloc, ops.len())?;
-    for (place, op) in ops.iter().enumerate() {
-        match op.key() {
-            Some(key) => points.push(Point::new(key, place, is_get(op)))?,
-            None => {}
-        }
-    }
-    Ok(points)
-}
-
-// Whether an operation is a get.
-fn is_get(op: &Op) -> bool
-    ensures { result ≡ is_get op.now }
-{
-    matches!(op, Op::Get(_))
-}
-
-// The places of the operations on no key of their own, in the order of the batch.
-fn scans_of(alloc: Alloc, ops: &[Op]) -> Result<Vec<usize, Alloc>, Memory>
-    ensures { IfOk result (λ scans. scans.items ≡ scans_from 0 ops.now) }
-{
     let mut scans = Vec::new(alloc);
     for (place, op) in ops.iter().enumerate() {
         match op.key() {
-            Some(_) => {}
+            Some(key) => points.push(Point::new(key, place, op.verb()))?,
             None => scans.push(place)?,
         }
     }
-    Ok(scans)
+    Ok(Lists { points, scans })
 }
 
 /// Where the group of points that begins at `start` ends: at the first point behind it with another key. It costs a

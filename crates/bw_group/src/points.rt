@@ -7,6 +7,7 @@ ghost use Rattle.bw_key.specs.Prefixes.{key_prefix, IsBytes};
 ghost use Rattle.bw_model.specs.Contents.{is_below_end};
 
 use bw_key::{Key, compare_prefixed};
+use bw_model::Verb;
 use std::cmp::Ordering;
 
 // So many bytes of a key are in its prefix.
@@ -22,18 +23,18 @@ pub struct Point<'a> {
     pub(crate) prefix: u64,
     pub(crate) place: u32,
     pub(crate) len: u8,
-    pub(crate) is_get: bool,
+    pub(crate) verb: Option<Verb>,
     ghost alike: { prefix ≡ key_prefix key.now },
     ghost long: { len ≡ length key.now },
 }
 
 impl<'a> Point<'a> {
     /// The point of an operation on a key.
-    pub(crate) fn new(key: &'a Key, place: usize, is_get: bool) -> Point<'a>
+    pub(crate) fn new(key: &'a Key, place: usize, verb: Option<Verb>) -> Point<'a>
         requires { place < 2 ^ 32 }
         ensures key { result.key.now ≡ key.now }
         ensures place { result.place ≡ place }
-        ensures get { result.is_get ≡ is_get }
+        ensures verb { result.verb ≡ verb }
     {
         let (prefix, len) = (key.prefix(), key.bytes().len() as u8);
         Point {
@@ -41,7 +42,7 @@ impl<'a> Point<'a> {
             prefix,
             place: place as u32,
             len,
-            is_get,
+            verb,
         }
     }
 
@@ -52,11 +53,12 @@ impl<'a> Point<'a> {
         self.place as usize
     }
 
-    /// Whether the operation is a get, whose reply is the value at the key, or none.
-    pub fn is_get(&self) -> bool
-        ensures { result ≡ self.now.is_get }
+    /// What the operation does at the key, where that and the value there tell its reply, so that the operation needn't be
+    /// read for it.
+    pub fn verb(&self) -> Option<Verb>
+        ensures { result ≡ self.now.verb }
     {
-        self.is_get
+        self.verb
     }
 
     /// Whether the prefix has all bytes of the key.

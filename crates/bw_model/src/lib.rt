@@ -21,6 +21,7 @@ pub use outcomes::Refusal;
 pub use ranges::is_below;
 pub use reference::ReferenceMap;
 pub use values::{VALUE_INLINE, VALUE_MAX, Value, ValueFault};
+pub use verbs::Verb;
 
 /// Out of memory.
 pub use bw_key::Memory;

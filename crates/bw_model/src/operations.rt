@@ -1,14 +1,13 @@
 // The operations of a batch, and the replies to them.
-ghost use Rattle.std.specs.Prelude.{◌≡◌, IfOk, Option, is_some, true};
+ghost use Rattle.std.specs.Prelude.{◌≡◌, IfOk, is_some, true};
 ghost use Rattle.std.specs.Option.{option_copied};
 ghost use Rattle.bw_model.specs.Actions.{effect, answer};
 ghost use Rattle.bw_model.specs.Model.{key_of, IsReplyAt};
-ghost use Rattle.bw_model.specs.Values.{ValueBytes};
-ghost use Rattle.bw_model.specs.Verbs.{IsReplyTo};
+ghost use Rattle.bw_model.specs.Verbs.{verb_of};
 
 use crate::boxed_values::BoxedValue;
 use crate::values::Value;
-use crate::verbs::Verb;
+use crate::verbs::{Verb, swap_reply};
 use bw_key::{Key, Memory};
 use bw_memory::Alloc;
 use bw_packed::Pairs;
@@ -103,20 +102,17 @@ impl Op {
         }
     }
 
-    // What it does, without the key and the value that it puts.
-    fn verb(&self) -> Verb<'_>
-        requires { is_some (key_of self.now) ≡ true }
-        ensures { (before : Option ValueBytes) (reply : Reply) → IsReplyTo result before reply →
-            IsReplyAt self.now before reply }
+    /// What it does at its key, where that and the value there tell its reply: a swap and a scan have no such verb.
+    pub fn verb(&self) -> Option<Verb>
+        ensures { result ≡ verb_of self.now }
     {
         match self {
-            Op::Get(_) => Verb::Get,
-            Op::Insert(_, _) => Verb::Insert,
-            Op::Upsert(_, _) => Verb::Upsert,
-            Op::Update(_, _) => Verb::Update,
-            Op::Delete(_) => Verb::Delete,
-            Op::SwapIf(_, old, _) => Verb::SwapIf(old.bytes()),
-            Op::Scan { .. } | Op::Rscan { .. } => unreachable!(),
+            Op::Get(_) => Some(Verb::Get),
+            Op::Insert(_, _) => Some(Verb::Insert),
+            Op::Upsert(_, _) => Some(Verb::Upsert),
+            Op::Update(_, _) => Some(Verb::Update),
+            Op::Delete(_) => Some(Verb::Delete),
+            Op::SwapIf(_, _, _) | Op::Scan { .. } | Op::Rscan { .. } => None,
         }
     }
 
@@ -126,7 +122,15 @@ impl Op {
         requires { is_some (key_of self.now) ≡ true }
         ensures { IfOk result (IsReplyAt self.now (option_copied before.entry)) }
     {
-        self.verb().reply(alloc, before)
+        match self {
+            Op::Get(_) => Verb::Get.reply_at(alloc, before),
+            Op::Insert(_, _) => Verb::Insert.reply_at(alloc, before),
+            Op::Upsert(_, _) => Verb::Upsert.reply_at(alloc, before),
+            Op::Update(_, _) => Verb::Update.reply_at(alloc, before),
+            Op::Delete(_) => Verb::Delete.reply_at(alloc, before),
+            Op::SwapIf(_, old, _) => swap_reply(alloc, before, old.bytes()),
+            Op::Scan { .. } | Op::Rscan { .. } => unreachable!(),
+        }
     }
 }
 
@@ -157,25 +161,17 @@ impl Action {
         }
     }
 
-    // What it does, without the value that it puts.
-    fn verb(&self) -> Verb<'_>
-        ensures { (before : Option ValueBytes) (reply : Reply) → IsReplyTo result before reply →
-            reply ≡ answer self.now before }
-    {
-        match self {
-            Action::Insert(_) => Verb::Insert,
-            Action::Upsert(_) => Verb::Upsert,
-            Action::Update(_) => Verb::Update,
-            Action::Delete => Verb::Delete,
-            Action::SwapIf(old, _) => Verb::SwapIf(old.bytes()),
-        }
-    }
-
     /// The reply to this write at a key that had the value `before`. `Memory` is answered where a copy of that
     /// value finds none in `alloc`.
     pub fn answer(&self, alloc: Alloc, before: Option<&[u8]>) -> Result<Reply, Memory>
         ensures { IfOk result (λ reply. reply ≡ answer self.now (option_copied before.entry)) }
     {
-        self.verb().reply(alloc, before)
+        match self {
+            Action::Insert(_) => Verb::Insert.reply_at(alloc, before),
+            Action::Upsert(_) => Verb::Upsert.reply_at(alloc, before),
+            Action::Update(_) => Verb::Update.reply_at(alloc, before),
+            Action::Delete => Verb::Delete.reply_at(alloc, before),
+            Action::SwapIf(old, _) => swap_reply(alloc, before, old.bytes()),
+        }
     }
 }

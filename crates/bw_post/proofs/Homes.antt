@@ -235,15 +235,6 @@ pub posted_stage : (tree : TreeView) (v : SeatView) (homes pages hs ls sw : List
 posted_stage tree v homes pages hs ls sw leaves batch waiting told floor over at_home folded closed =
     posted_beside tree told.stage v homes pages hs ls sw leaves over told.is (floor ∙ told.floor) at_home folded closed (unadopted tree told.stage told.is waiting)
 
--- so many records are posted to the pages of the homes, or none to no page
-pub record AreWritten (records : ℕ) (homes pages : List ℕ) : Type 0 where
-  pub some : 0 < records → pages ≡ homes
-  pub none : records ≡ 0 → pages ≡ []
-
-pub written_pages : (tree : TreeView) (records : ℕ) (homes pages : List ℕ) → AreWritten records homes pages → ArePages tree homes → ArePages tree pages
-written_pages tree zero homes pages written are = subst (ArePages tree) (sym (written.none refl)) (record { once = λ p. omega arith; there = tt })
-written_pages tree (suc n) homes pages written are = subst (ArePages tree) (sym (written.some (omega arith))) are
-
 module _ (tree : TreeView) (homes pages : List ℕ) (given : List (Option ℕ)) (opened : BoardView) (batch : Staged) (told : IsStagedAs tree batch) (are : ArePostedPages tree homes pages given) (at_homes : ArePages tree homes)
     (first : opened.first ≡ words_of tree.heads pages) (records : opened.records ≡ batch.records) (spares : ◌≡◌ {A = List (Option ℕ)} opened.spares given) where
   staged_are : opened.records ≡ length (staged_writes tree.staged)

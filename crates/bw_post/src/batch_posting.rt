@@ -40,7 +40,8 @@ pub struct Posting {
 ///
 /// The batch is staged and not adopted. It costs a search for each leaf that has a key of the batch, an exchange for each
 /// record and for each that is lost, and some copies of the words of these leaves: nothing that grows with the index but the
-/// depth of a search. After `Memory` the tree is as before, with the batch still staged.
+/// depth of a search. A batch without writes costs the searches alone, and opens no board. After `Memory` the tree is as
+/// before, with the batch still staged.
 pub fn post_all<R: Threads + Sync, G: Gate>(
     rt: &R,
     alloc: Alloc,
@@ -56,7 +57,7 @@ pub fn post_all<R: Threads + Sync, G: Gate>(
     ensures posted { IfOk result (λ posting. IsPostedStageOn tree.now tree.now.staged posting.pages.items
         posting.closed.heads posting.closed.links) }
 
-    // The board was over the pages of the batch, or over none where it only reads.
+    // The board was over the pages of the batch. There was none where it only reads.
     ensures pages { 0 < length (staged_writes tree.now.staged) →
         IfOk result (λ posting. posting.pages.items ≡ posting.homes.pages) }
     ensures no_pages { length (staged_writes tree.now.staged) ≡ 0 →
@@ -66,8 +67,11 @@ pub fn post_all<R: Threads + Sync, G: Gate>(
 {
     let staged = tree.staged().unwrap();
     let homes = find_homes(rt, alloc, tree, batch, workers)?;
-    let pages = written_pages(alloc, &homes, staged.records)?;
-    post_over(rt, alloc, tree, homes, pages, &[], piece, workers, gate)
+    if staged.records == 0 {
+        return Ok(nothing_posted(alloc, homes));
+    }
+    let written = Vec::from_slice(alloc, homes.pages())?;
+    post_over(rt, alloc, tree, homes, written, &[], piece, workers, gate)
 }
 
 /// The same, over a board of all pages of the batch, where leaves of these pages whose chains have at least half as many writes
@@ -166,15 +170,22 @@ fn ripe_spares(
     Ok(spares)
 }
 
-// The pages to which so many records are posted: a batch of reads posts to none.
-fn written_pages(alloc: Alloc, homes: &Homes, records: u64) -> Result<Vec<PageId, Alloc>, Memory>
-    ensures some { 0 < records → IfOk result (λ pages. pages.items ≡ homes.now.pages) }
-    ensures none { records ≡ 0 → IfOk result (λ pages. pages.items ≡ []) }
+// What posting leaves where there is no record: no board is opened for it.
+fn nothing_posted(alloc: Alloc, homes: Homes) -> Posting
+    ensures homes { result.homes ≡ homes }
+    ensures pages { result.pages.items ≡ [] }
+    ensures heads { result.closed.heads ≡ [] }
+    ensures links { result.closed.links ≡ [] }
+    ensures lost { result.lost ≡ 0 }
+    ensures folded { result.folded.items ≡ [] }
 {
-    if records == 0 {
-        return Ok(Vec::new(alloc));
+    Posting {
+        homes,
+        pages: Vec::new(alloc),
+        closed: Closed::empty(alloc),
+        lost: 0,
+        folded: Vec::new(alloc),
     }
-    Ok(Vec::from_slice(alloc, homes.pages())?)
 }
 
 // The mapping words of pages.

@@ -46,6 +46,19 @@ impl<'a> Look<'a> {
         self.chains.leaf(alloc, self.heads[page.0 as usize])
     }
 
+    /// Reads what a search of a leaf is about to read: up to 16 of the newest records of its chain, and each fourth key of its
+    /// base page. Whoever does so for some leaves before it searches the first of them waits for their memory once, and not
+    /// for one leaf after another. It takes no memory.
+    ///
+    /// What is answered is made of what was read, and says nothing. The compiler drops reads of which nothing is used, so
+    /// callers use it as a guess that may be any number.
+    pub fn prefetch(&self, page: PageId) -> usize {
+        match self.heads.get(page.0 as usize) {
+            Some(head) => self.chains.prefetch(page, *head),
+            None => 0,
+        }
+    }
+
     /// Where a leaf's range ends: a walk along its chain.
     pub fn end(&self, page: PageId) -> Option<&'a Key>
         requires { Contains (row self.now.levels 0) page }

@@ -5,7 +5,7 @@ ghost use Rattle.bw_model.specs.Model.{key_of};
 use super::making::Maker;
 use crate::tests::assertions::{assert_equal, assert_that};
 use bw_fixtures::{TextOp, TextReply, is_reply};
-use bw_model::{Action, Op};
+use bw_model::{Action, Op, Verb};
 use std::process::Abort;
 
 // What an operation does with the value at its key, if it writes.
@@ -115,6 +115,21 @@ fn has_reply<R: Abort>(rt: &R, make: &Maker<R>, op: &Op, value: Option<&[u8]>, r
 {
     let answer = op.reply_at(make.alloc, value).expect(rt, "memory");
     assert_that(rt, is_reply(&answer, reply));
+    if let Some(verb) = op.verb() {
+        has_verb_reply(rt, make, verb, value, reply);
+    }
+}
+
+// The same for the verb alone.
+fn has_verb_reply<R: Abort>(
+    rt: &R,
+    make: &Maker<R>,
+    verb: Verb,
+    value: Option<&[u8]>,
+    reply: TextReply,
+) {
+    let answer = verb.reply_at(make.alloc, value).expect(rt, "memory");
+    assert_that(rt, is_reply(&answer, reply));
 }
 
 // Compares what an operation on `k` answers where that has a 1, and where it has no value.
@@ -164,5 +179,16 @@ fn each_operation_answers_by_the_value_at_its_key(rt: HostRuntime) {
 #[test]
 fn a_scan_has_no_key(rt: HostRuntime) {
     let make = Maker::new(&rt, rt.alloc());
-    assert_that(&rt, make.op(TextOp::Scan("k", None, 1)).key().is_none());
+    let scan = make.op(TextOp::Scan("k", None, 1));
+    assert_that(&rt, scan.key().is_none());
+    assert_that(&rt, scan.verb().is_none());
+}
+
+#[test]
+fn a_get_has_a_verb_and_a_swap_has_none(rt: HostRuntime) {
+    let make = Maker::new(&rt, rt.alloc());
+    let get = make.op(TextOp::Get("k"));
+    assert_equal(&rt, get.verb(), Some(Verb::Get));
+    let swap = make.op(TextOp::SwapIf("k", "1", "2"));
+    assert_that(&rt, swap.verb().is_none());
 }

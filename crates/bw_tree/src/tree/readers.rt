@@ -194,6 +194,16 @@ impl Tree {
         self.look().leaf(alloc, page)
     }
 
+    /// Reads what a search of a leaf is about to read: up to 16 of the newest records of its chain, and each fourth key of its
+    /// base page. Whoever does so for some leaves before it searches the first of them waits for their memory once, and not
+    /// for one leaf after another. It takes no memory.
+    ///
+    /// What is answered is made of what was read, and says nothing. The compiler drops reads of which nothing is used, so
+    /// callers use it as a guess that may be any number.
+    pub fn prefetch(&self, page: PageId) -> usize {
+        self.look().prefetch(page)
+    }
+
     /// Where a leaf's range ends: a walk along its chain.
     pub fn end(&self, page: PageId) -> Option<&Key>
         requires { Contains (row self.now.levels 0) page }

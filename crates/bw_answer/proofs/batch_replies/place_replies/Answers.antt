@@ -9,7 +9,7 @@ use Rattle.bw_answer.proofs.Replied.{batch_within, grouped_points, grouped_scans
 use Rattle.bw_answer.proofs.batch_replies.place_replies.Goals as goal
 
 pub answer_parts-requires-clause-points : goal.answer_parts-requires-clause-points
-answer_parts-requires-clause-points g c κs within = grouped_points c.args.batch.now c.points-points.ensures.grouped _ _ c.requires.ops c.points-points.ensures.points c.points-points.ensures.gets
+answer_parts-requires-clause-points g c κs within = grouped_points c.args.batch.now c.points-points.ensures.grouped _ _ c.requires.ops c.points-points.ensures.points c.points-points.ensures.verbs
 
 pub answer_parts-requires-clause-scans : goal.answer_parts-requires-clause-scans
 answer_parts-requires-clause-scans g c κs within = grouped_scans c.args.batch.now c.points-points.ensures.grouped _ _ c.requires.ops c.scans-scans.ensures
@@ -30,7 +30,7 @@ returns-then-count-gt1 g c =
     c.args.reader.now c.requires.ops c.in_ok-parts.ensures.points c.in_ok-parts.ensures.scans c.args.replies.now c.requires.size
 
 pub place_points-requires-clause-points : goal.place_points-requires-clause-points
-place_points-requires-clause-points g c = grouped_points c.args.batch.now c.points-points.ensures.grouped _ _ c.requires.ops c.points-points.ensures.points c.points-points.ensures.gets
+place_points-requires-clause-points g c = grouped_points c.args.batch.now c.points-points.ensures.grouped _ _ c.requires.ops c.points-points.ensures.points c.points-points.ensures.verbs
 
 pub place_points-requires-clause-there : goal.place_points-requires-clause-there
 place_points-requires-clause-there g c =

@@ -29,8 +29,8 @@ overflow_add-self-inside c =
 pub reply_to-requires-clause-entry : goal.reply_to-requires-clause-entry
 reply_to-requires-clause-entry c = entry_holds (IsEntryOf c.args.self.now.ops) c.args.points.now c.loop-point.point-index c.point-item.result c.loop-point-test.true c.point-item.is c.requires.entries
 
-pub reply_to-requires-clause-get : goal.reply_to-requires-clause-get
-reply_to-requires-clause-get c = all_at (IsPointOf c.args.self.now.ops) c.args.points.now c.loop-point.point-index c.point-item.result c.loop-point-test.true c.point-item.is c.requires.gets
+pub reply_to-requires-clause-verb : goal.reply_to-requires-clause-verb
+reply_to-requires-clause-verb c = all_at (IsPointOf c.args.self.now.ops) c.args.points.now c.loop-point.point-index c.point-item.result c.loop-point-test.true c.point-item.is c.requires.verbs
 
 pub loop-point-preserved : goal.loop-point-preserved
 loop-point-preserved c =

@@ -41,8 +41,8 @@ answer_group-requires-clause-reads c =
 pub answer_group-requires-clause-entries : goal.answer_group-requires-clause-entries
 answer_group-requires-clause-entries c = part_holds (IsEntryOf c.args.self.now.ops) c.args.points.now c.loop-start.start (c.group_end-end.result - c.loop-start.start) c.requires.points.entries
 
-pub answer_group-requires-clause-gets : goal.answer_group-requires-clause-gets
-answer_group-requires-clause-gets c = all_part (IsPointOf c.args.self.now.ops) c.args.points.now c.loop-start.start (c.group_end-end.result - c.loop-start.start) c.requires.points.gets
+pub answer_group-requires-clause-verbs : goal.answer_group-requires-clause-verbs
+answer_group-requires-clause-verbs c = all_part (IsPointOf c.args.self.now.ops) c.args.points.now c.loop-start.start (c.group_end-end.result - c.loop-start.start) c.requires.points.verbs
 
 pub answer_group-requires-clause-rising : goal.answer_group-requires-clause-rising
 answer_group-requires-clause-rising c =

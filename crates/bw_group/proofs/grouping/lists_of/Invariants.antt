@@ -1,10 +1,11 @@
 use Rattle.std.proofs.Common.{◌≡◌, take}
 use Rattle.std.specs.List.{AllByRecursion}
-use Rattle.bw_group.specs.Points.{IsPointOf, entries_from, entries_of}
-use Rattle.bw_group.proofs.grouping.points_of.Given as goal
+use Rattle.bw_group.specs.Points.{IsPointOf, entries_from, entries_of, scans_from}
+use Rattle.bw_group.proofs.grouping.lists_of.Given as goal
 
 abbrev pub invariant-loop-place : goal.invariant-loop-place
 invariant-loop-place l = record {
   entries : entries_of l.points.items ≡ entries_from 0 (take l.place l.ops);
-  gets : AllByRecursion (IsPointOf l.ops) l.points.items;
+  verbs : AllByRecursion (IsPointOf l.ops) l.points.items;
+  scans : l.scans.items ≡ scans_from 0 (take l.place l.ops);
 }

@@ -1,0 +1,51 @@
+use Rattle.std.proofs.Common.{ℕ, sym, ap, subst, ◌∙◌, ◌+◌, ◌++◌, take, Some}
+use Rattle.std.specs.List.{AllByRecursion}
+use Rattle.std.proofs.lemmas.List.{take_all}
+use Rattle.std.specs.Option.{option_copied}
+use Rattle.bw_group.specs.Points.{IsPointOf, entries_from, entry_at, scans_from}
+use Rattle.bw_key.specs.Order.{KeyBytes}
+use Rattle.bw_model.specs.Model.{key_of}
+use Rattle.bw_group.proofs.PointGroups.{entries_more, point_there, points_more, scans_more, with_point, with_scan, without_point, without_scan}
+use Rattle.bw_group.proofs.grouping.lists_of.Goals as goal
+use Rattle.bw_group.proofs.grouping.lists_of.Goals.{in-Some+in_ok-push-in-Some, in-None+in_ok-push-in-None}
+
+pub loop-place-preserved : goal.loop-place-preserved
+loop-place-preserved c =
+    let ops = c.args.ops.now in
+    let at = c.loop-place.place in
+    let op = c.index-ops-place.result in
+    let key = key_of op in
+    let points = c.loop-place.points.items in
+    let points' = c.match-key.points.items in
+    let scans = c.loop-place.scans.items in
+    let scans' = c.match-key.scans.items in
+    let entries_before = entries_from 0 (take at ops) in
+    let entries_after = entries_from 0 (take (at + 1) ops) in
+    let more = entries_more ops at op c.loop-place-test.true c.index-ops-place.is in
+    let before = scans_from 0 (take at ops) in
+    let after = scans_from 0 (take (at + 1) ops) in
+    let scans_are = scans_more ops at op c.loop-place-test.true c.index-ops-place.is in
+    elim c.match-key.branch [
+      | in-Some+in_ok-push-in-Some w ↦
+          let added = ap (λ v. v.items) w.points-is ∙ w.in_ok-push-in-Some.ensures.items in
+          record {
+            entries = with_point points points' entries_before entries_after key w.new.result added (sym c.key.ensures ∙ ap option_copied w.in-Some.is ∙ ap (λ (k : KeyBytes). Some k) (sym w.new.ensures.key))
+                c.loop-place.invariant.entries (more ∙ ap (λ (n : ℕ). entries_before ++ entry_at n key) (sym w.new.ensures.place));
+            verbs = points_more ops points points' w.new.result added
+                (point_there ops at op w.new.result c.loop-place-test.true c.index-ops-place.is w.new.ensures.place (w.new.ensures.verb ∙ w.verb.ensures)) c.loop-place.invariant.verbs;
+            scans = without_scan scans scans' before after key at w.in-Some.key.now (ap (λ v. v.items) w.scans-is) (sym c.key.ensures ∙ ap option_copied w.in-Some.is) c.loop-place.invariant.scans scans_are;
+          }
+      | in-None+in_ok-push-in-None w ↦
+          let same = ap (λ v. v.items) w.points-is in
+          record {
+            entries = without_point points points' entries_before entries_after key at same (sym c.key.ensures ∙ ap option_copied w.in-None.is) c.loop-place.invariant.entries more;
+            verbs = subst (AllByRecursion (IsPointOf ops)) (sym same) c.loop-place.invariant.verbs;
+            scans = with_scan scans scans' before after key at (ap (λ v. v.items) w.scans-is ∙ w.in_ok-push-in-None.ensures.items) (sym c.key.ensures ∙ ap option_copied w.in-None.is) c.loop-place.invariant.scans scans_are;
+          }
+    ]
+
+pub returns-clause-entries : goal.returns-clause-entries
+returns-clause-entries c = c.loop-place.invariant.entries ∙ ap (entries_from 0) (take_all c.loop-place.place c.args.ops.now c.loop-place-test.false)
+
+pub returns-clause-scans : goal.returns-clause-scans
+returns-clause-scans c = c.loop-place.invariant.scans ∙ ap (scans_from 0) (take_all c.loop-place.place c.args.ops.now c.loop-place-test.false)
