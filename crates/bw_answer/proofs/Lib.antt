@@ -1,6 +1,7 @@
 mod ListLemmas
 mod WriteGroups
 pub mod ReplyLemmas
+mod ScanLemmas
 mod PartPlaces
 mod Gathered
 mod Placed

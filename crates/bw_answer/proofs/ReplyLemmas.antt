@@ -192,11 +192,3 @@ part_answered batch ps n m before answers answers' le bound so more =
 
 pub all_answered : (batch : ReaderView) (ps : List Point) (n : ℕ) (before answers : List Answer) → length ps ≤ n → AreAnsweredTo batch ps n before answers → answers ≡ before ++ answers_to batch (places_of (entries_of ps))
 all_answered batch ps n before answers le so = so.done ∙ ap (λ (l : List Point). before ++ answers_to batch (places_of (entries_of l))) (take_all n ps le)
-
--- one scan more
-pub scan_more : (batch : ReaderView) → IsReadInTurn batch → (scans : List ℕ) (n place : ℕ) (op : Op) (before answers answers' : List Answer) (reply : Reply) → n < length scans → place ≡ get_or scans n place → slice_get batch.ops place ≡ Some op →
-    reply ≡ reply_of op (contents_at batch.tree (batch.base + place)) → answers ≡ before ++ answers_to batch (take n scans) → answers' ≡ answers ++ record { place = place; reply = reply } ∷ [] →
-    answers' ≡ before ++ answers_to batch (take (n + 1) scans)
-scan_more batch q scans n place op before answers answers' reply lt at is answers_it so added =
-    more_answers batch before answers answers' (take n scans) (place ∷ []) so (added ∙ ap (λ a. answers ++ a ∷ []) (answer_there batch q place op reply is answers_it))
-    ∙ ap (λ l. before ++ answers_to batch l) (sym (take_more scans n place lt ∙ ap (λ p. take n scans ++ p ∷ []) (sym at)))

@@ -7,7 +7,7 @@ use Rattle.std.specs.FinMap.{get}
 use Rattle.bw_key.specs.Order.{KeyBytes, key_cmp}
 use Rattle.bw_model.specs.Contents.{Contents}
 use Rattle.bw_model.specs.Values.{ValueBytes}
-use Rattle.bw_model.specs.Model.{IsReplyAt, contents_after, replies_of}
+use Rattle.bw_model.specs.Model.{IsReplyAt, contents_after, replies_of, reply_of}
 use Rattle.bw_model.specs.declared.operations.Op.{Op}
 use Rattle.bw_model.specs.declared.operations.Reply.{Reply}
 use Rattle.bw_model.specs.declared.operations.Reply.TheVariants.{Absent}
@@ -18,6 +18,7 @@ use Rattle.bw_group.specs.Homes.{AreHomes, HomesView}
 use Rattle.bw_group.specs.Points.{entries_at, entries_of, places_of, HasRisingPlaces, IsEntryOf, IsPointOf}
 use Rattle.bw_group.specs.declared.points.Point.{Point}
 use Rattle.bw_answer.specs.declared.batch_reader.Answer.{Answer}
+use Rattle.bw_answer.specs.declared.shared_leaves.BatchScan.{BatchScan}
 
 -- As of each stamp the tree has the map that the operations before it left.
 abbrev pub HasContentsInTurn : TreeView → ℕ → List Op → Type 0
@@ -50,6 +51,12 @@ answer_to batch place = record { place = place; reply = slice_index_or (replies_
 -- these places in order, each with the reply that the batch wants there
 abbrev pub answers_to : ReaderView → List ℕ → List Answer
 answers_to batch = map (answer_to batch)
+
+-- the answer to a scan that is under way
+abbrev pub answer_of : BatchScan → Answer
+answer_of scan =
+    let contents = contents_at scan.cursor.tree scan.cursor.stamp in
+    record { place = scan.place; reply = reply_of scan.cursor.op contents }
 
 -- the replies with each answer at its place
 abbrev pub with_answers : List Reply → List Answer → List Reply

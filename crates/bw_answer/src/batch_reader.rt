@@ -1,25 +1,24 @@
 // What answers the operations of a batch whose writes stand in a tree.
-ghost use Rattle.std.specs.Prelude.{◌≡◌, ◌<◌, ◌≤◌, ◌+◌, ◌⊎◌, ◌++◌, Some, None, IfOk, OnOk};
-ghost use Rattle.std.specs.Prelude.{flat_map, is_some, length, slice_get, true};
+ghost use Rattle.std.specs.Prelude.{◌≡◌, ◌<◌, ◌≤◌, ◌+◌, ◌⊎◌, ◌++◌, Some, IfOk, OnOk, flat_map, length, map};
+ghost use Rattle.std.specs.Prelude.{slice_get};
 ghost use Rattle.std.specs.List.{AllByRecursion, Contains};
 ghost use Rattle.std.specs.Option.{option_copied};
 ghost use Rattle.bw_delta.specs.History.{pointed_to};
 ghost use Rattle.bw_delta.specs.Rising.{HasRisingStamps};
 ghost use Rattle.bw_tree.specs.Levels.{IsHome, row};
-ghost use Rattle.bw_look.specs.View.{contents_at};
 ghost use Rattle.bw_group.specs.Points.{entries_of, HasRisingPlaces, IsEntryOf, IsPointOf, IsScanOf};
-ghost use Rattle.bw_model.specs.Model.{key_of, reply_of};
 ghost use Rattle.bw_answer.specs.Parts.{IsPartOf, places_in};
-ghost use Rattle.bw_answer.specs.Replies.{answers_to, point_places, ArePointsOf, IsReadBy, IsReplyThere};
+ghost use Rattle.bw_answer.specs.Replies.{answer_of, answers_to, point_places, ArePointsOf, IsReadBy, IsReplyThere};
 
 use crate::parts::Part;
+use crate::shared_leaves::{BatchScan, finish_scans, share_leaves};
 use crate::write_groups::group_of;
 use bw_delta::{Reading, Write, writes_by_key};
 use bw_group::{Homes, Point, group_end};
 use bw_key::Memory;
 use bw_memory::Alloc;
 use bw_model::{Op, Reply};
-use bw_tree::{PageId, Scans, Tree};
+use bw_tree::{Look, PageId, ScanCursor, Scans, Tree};
 use rayon::prelude::*;
 use std::marker::Model;
 use std::thread::Threads;
@@ -142,9 +141,16 @@ impl<'a> BatchReader<'a> {
         ensures { OnOk result (answers.new.items ≡ answers.old.items ++ answers_to self.now (point_places points.now)) }
     {
         let mut start = 0;
+        let mut read = 0;
+        let mut near = 0;
         while start < points.len() {
-            let (end, near) = self.prefetch_runs(points, start);
-            self.answer_runs(alloc, near, &points[start..end], answers)?;
+            if start >= read {
+                let (end, guess) = self.prefetch_runs(points, start);
+                read = end;
+                near = guess;
+            }
+            let (page, end) = self.homes.run_from(points, start);
+            self.answer_run(alloc, page, near, &points[start..end], answers)?;
             start = end;
         }
         Ok(())
@@ -154,10 +160,7 @@ impl<'a> BatchReader<'a> {
     // answered: so their memory is waited for together. Where these runs end, and what was read made a guess of a place, which
     // may be any number.
     fn prefetch_runs(&self, points: &[Point<'_>], start: usize) -> (usize, usize)
-        requires points { ArePointsOf self.now.ops points.now }
-        requires start { start < length points.now }
-        ensures more { start < result.0 }
-        ensures bound { result.0 ≤ length points.now }
+        requires { ArePointsOf self.now.ops points.now }
     {
         let mut end = start;
         let mut near = 0usize;
@@ -168,27 +171,6 @@ impl<'a> BatchReader<'a> {
             end = next;
         }
         (end, near)
-    }
-
-    // Adds the answers to operations whose leaves and keys were read ahead. The first key of each leaf is looked for at this
-    // place first.
-    fn answer_runs(
-        &self,
-        alloc: Alloc,
-        near: usize,
-        points: &[Point<'_>],
-        answers: &mut Vec<Answer, Alloc>,
-    ) -> Result<(), Memory>
-        requires points { ArePointsOf self.now.ops points.now }
-        ensures { OnOk result (answers.new.items ≡ answers.old.items ++ answers_to self.now (point_places points.now)) }
-    {
-        let mut start = 0;
-        while start < points.len() {
-            let (page, end) = self.homes.run_from(points, start);
-            self.answer_run(alloc, page, near, &points[start..end], answers)?;
-            start = end;
-        }
-        Ok(())
     }
 
     // Adds the answers to operations on the keys of one leaf.
@@ -270,48 +252,53 @@ impl<'a> BatchReader<'a> {
         }
     }
 
-    /// Adds the answers to scans. They are in the order of the batch, so the stamps of the reads rise.
+    /// Adds the answers to scans. They are in the order of the batch, so the stamps of the reads of a leaf rise.
     pub(crate) fn answer_scans(
         &self,
         alloc: Alloc,
-        scans: &[usize],
+        places: &[usize],
         answers: &mut Vec<Answer, Alloc>,
     ) -> Result<(), Memory>
-        requires { AllByRecursion (IsScanOf self.now.ops) scans.now }
-        ensures { OnOk result (answers.new.items ≡ answers.old.items ++ answers_to self.now scans.now) }
+        requires { AllByRecursion (IsScanOf self.now.ops) places.now }
+        ensures { OnOk result (answers.new.items ≡ answers.old.items ++ answers_to self.now places.now) }
     {
-        let mut reading = Scans::new(alloc, self.tree.look());
-        for scan in scans {
-            let place = *scan;
+        let tree = self.tree.look();
+        let mut scans = self.scans_at(alloc, &tree, places)?;
+        share_leaves(alloc, tree.again(), &mut scans)?;
+        finish_scans(scans, &mut Scans::new(alloc, tree.again()), answers)
+    }
+
+    // The scans at these places, which have read nothing.
+    fn scans_at<'b>(
+        &'b self,
+        alloc: Alloc,
+        tree: &'b Look<'b>,
+        places: &[usize],
+    ) -> Result<Vec<BatchScan<'b>, Alloc>, Memory>
+        requires tree { tree.now ≡ self.now.tree }
+        requires scans { AllByRecursion (IsScanOf self.now.ops) places.now }
+        ensures trees { IfOk result (λ scans.
+            AllByRecursion (λ scan. scan.cursor.tree ≡ self.now.tree) scans.items) }
+        ensures answers { IfOk result (λ scans. map answer_of scans.items ≡ answers_to self.now places.now) }
+    {
+        let mut scans = Vec::with_capacity(alloc, places.len())?;
+        for place in places {
+            let place = *place;
             let stamp = self.base + place as u64;
-            let reply = scan_reply(&mut reading, op_at(self.ops, place), stamp)?;
-            answers.push(Answer { place, reply })?;
+            let cursor = ScanCursor::new(alloc, tree, op_at(self.ops, place), stamp);
+            scans.push(BatchScan { place, cursor })?;
         }
-        Ok(())
+        Ok(scans)
     }
 }
 
-// Reads the keys of points, up to 4,096 of them: a sum of their lengths. Operations lie in another order than their points.
+// Reads the heads of the keys of points, up to 4,096 of them: a sum of their lengths. Operations lie in another order than their points.
 fn prefetch_keys(points: &[Point<'_>]) -> usize {
     let mut sum = 0usize;
     for point in points.iter().take(TURN) {
         sum = sum.wrapping_add(point.key.bytes().len());
     }
     sum
-}
-
-// The reply to a scan as of a stamp.
-fn scan_reply(scans: &mut Scans<'_>, op: &Op, stamp: u64) -> Result<Reply, Memory>
-    requires { key_of op.now ≡ None }
-    ensures tree { scans.new.tree ≡ scans.old.tree }
-    ensures reply { IfOk result (λ reply. reply ≡ reply_of op.now (contents_at scans.old.tree stamp)) }
-{
-    let pairs = match op {
-        Op::Scan { from, to, most } => scans.scan(from, to.as_ref(), *most, stamp)?,
-        Op::Rscan { from, to, most } => scans.scan_back(from, to.as_ref(), *most, stamp)?,
-        _ => unreachable!(),
-    };
-    Ok(Reply::Pairs(pairs))
 }
 
 // The operation at a place of a batch.

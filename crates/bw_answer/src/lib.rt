@@ -8,6 +8,7 @@
 mod batch_reader;
 mod batch_replies;
 mod parts;
+mod shared_leaves;
 mod write_groups;
 
 pub use batch_replies::{replies, replies_in_parts};

@@ -38,6 +38,15 @@ pub(crate) fn add_rising(
     Ok(())
 }
 
+/// Makes room for the first pairs of a run, no more than `most` of them.
+pub(crate) fn make_room(run: &Run<'_>, most: u64, read: &mut Pairs) -> Result<(), Memory>
+    ensures { read.new ≡ read.old }
+{
+    let count = most.min(run.len() as u64);
+    let (front, _rest) = run.split_at(count as usize);
+    read.reserve(front.len(), front.byte_count())
+}
+
 /// Adds the last of these pairs, the greatest key first.
 pub(crate) fn add_falling(
     pairs: Run<'_>,

@@ -5,6 +5,7 @@ pub mod GapLemmas
 pub mod ScanLemmas
 pub mod LeafScanLemmas
 pub mod ReplayLemmas
+pub mod CursorLemmas
 pub mod WordLemmas
 pub mod PutLemmas
 pub mod StagedLemmas

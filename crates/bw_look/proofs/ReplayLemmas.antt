@@ -22,6 +22,7 @@ use Rattle.bw_delta.proofs.Replays.{pairs_now}
 use Rattle.bw_level.specs.Slots.{Slot, slot_at, has_key}
 use Rattle.bw_level.specs.Levels.{AreLevels, IsHome, row}
 use Rattle.bw_level.specs.Reading.{base_of, value_in, writes_over, row_writes}
+use Rattle.bw_look.specs.Cursors.{HasRead}
 use Rattle.bw_look.specs.Gaps.{HasNone}
 use Rattle.bw_look.specs.Replaying.{AreEach, IsKept}
 use Rattle.bw_level.specs.Scans.{IsLeafReplay, ArePairsOn, Reaches, high_of}
@@ -32,7 +33,7 @@ use Rattle.bw_level.proofs.EndLemmas.{upto_end}
 use Rattle.bw_look.proofs.BackLemmas.{ScanningBack, PassedBack, begins_back, no_more_before, passed_back, ends_back, enough_back, goes_back}
 use Rattle.bw_look.proofs.GapLemmas.{none_before, none_between, not_later}
 use Rattle.bw_look.proofs.RangeLemmas.{all_of_those}
-use Rattle.bw_look.proofs.ScanLemmas.{Scanning, HasPassed, leaf_in_row, leaf_pairs, leaves_behind, begins_scan, fewer_behind, no_more_behind, passes, ends_scan, enough_read}
+use Rattle.bw_look.proofs.ScanLemmas.{HasPassed, leaf_in_row, leaf_pairs, leaves_behind, begins_scan, fewer_behind, no_more_behind, passes, ends_scan, enough_read}
 use Rattle.bw_level.proofs.RowLemmas.{InRow}
 
 -- no first pairs of no pairs
@@ -90,12 +91,6 @@ module _ (tree : TreeView) (lawful : AreLevels tree.slots tree.root tree.levels)
   pairs_on_leaf p replay from to end has ends sorted so =
       leaf_pairs tree.slots tree.root tree.levels lawful distinct replay.stamp p from to _ has (pairs_of_replay (slot_at tree.slots p) replay from to end ends sorted so)
 
--- what was read of a range when a scan comes to a key: the first pairs of those below it
-pub record HasRead (all : List (KeyBytes × ValueBytes)) (most : ℕ) (read : List (KeyBytes × ValueBytes)) (from at : KeyBytes) : Type 0 where
-  pub whole : List (KeyBytes × ValueBytes)
-  pub scanning : Scanning all whole from at
-  pub front : read ≡ take most whole
-
 -- when it goes on from a key to a later one
 pub record ReadNext (tree : TreeView) (all : List (KeyBytes × ValueBytes)) (most : ℕ) (read : List (KeyBytes × ValueBytes)) (from at next : KeyBytes) : Type 0 where
   pub has_read : HasRead all most read from next
@@ -105,15 +100,16 @@ pub record ReadNext (tree : TreeView) (all : List (KeyBytes × ValueBytes)) (mos
 abbrev pub leaf_of : TreeView → ℕ → KeyBytes → Option KeyBytes → ℕ → List (KeyBytes × ValueBytes)
 leaf_of tree stamp from to p = where_key key_cmp (has_key (slot_at tree.slots p)) (pairs_of_range (contents_at tree stamp) from to)
 
+-- a scan begins where nothing was read
+pub begins : (tree : TreeView) (stamp most : ℕ) (from : KeyBytes) (to : Option KeyBytes) (read : List (KeyBytes × ValueBytes)) → read ≡ [] → HasRead (pairs_of_range (contents_at tree stamp) from to) most read from from
+begins tree stamp most from to read none = record { whole = []; scanning = begins_scan (contents_at tree stamp) from to; front = none ∙ sym (none_taken most) }
+
 module _ (tree : TreeView) (lawful : AreLevels tree.slots tree.root tree.levels) (distinct : HasDistinctStamps (row_writes tree.slots (row tree.levels 0))) (stamp most : ℕ) (from : KeyBytes) (to : Option KeyBytes) where
   abbrev all_pairs : List (KeyBytes × ValueBytes)
   all_pairs = pairs_of_range (contents_at tree stamp) from to
 
   range_sorted : T (is_sorted key_cmp all_pairs)
   range_sorted = sorted_in_range from to (entries (contents_at tree stamp)) (entries_sorted (contents_at tree stamp))
-
-  pub begins : (read : List (KeyBytes × ValueBytes)) → read ≡ [] → HasRead all_pairs most read from from
-  begins read none = record { whole = []; scanning = begins_scan (contents_at tree stamp) from to; front = none ∙ sym (none_taken most) }
 
   module _ (at : KeyBytes) (p : ℕ) (home : IsHome tree.slots tree.levels at p) (read new : List (KeyBytes × ValueBytes)) (h : HasRead all_pairs most read from at) (more : new ≡ read ++ take (most - length read) (leaf_of tree stamp at to p)) where
     abbrev passed_pairs : List (KeyBytes × ValueBytes)

@@ -24,6 +24,7 @@ use Rattle.bw_level.proofs.RowLemmas.{InRow, in_row}
 use Rattle.bw_level.proofs.LeafRowLemmas.{page_outside, wide_of}
 use Rattle.bw_level.proofs.HomeLemmas.{home_value}
 use Rattle.bw_level.proofs.EndLemmas.{upto_end}
+use Rattle.bw_look.specs.Cursors.{Scanning}
 use Rattle.bw_look.proofs.BackLemmas.{below_low, both_tests, fewer, no_more}
 use Rattle.bw_look.proofs.GapLemmas.{not_true}
 use Rattle.bw_look.proofs.RangeLemmas.{one_then_other, all_of_those, none_of_those, first_of_front}
@@ -59,11 +60,6 @@ pub page_distinct : (slots : List Slot) (ps : List ℕ) (p : ℕ) → Contains p
 page_distinct slots [] p has h = absurd (omega (arith, has.1))
 page_distinct slots (x ∷ xs) p (zero, lt, at) h = subst (λ q. HasDistinctStamps (writes_over (slot_at slots q))) at (distinct_front (writes_over (slot_at slots x)) (row_writes slots xs) h)
 page_distinct slots (x ∷ xs) p (suc k, lt, at) h = page_distinct slots xs p (k, omega (arith, lt), at) (distinct_back (writes_over (slot_at slots x)) (row_writes slots xs) h)
-
--- what has been read of a range when a scan comes to a key: the pairs below it
-pub record Scanning (all found : List (KeyBytes × ValueBytes)) (from at : KeyBytes) : Type 0 where
-  pub begins : is_lt (key_cmp at from) ≡ false
-  pub so_far : found ≡ where_key key_cmp (λ k. is_lt (key_cmp k at)) all
 
 -- when it has passed a leaf: the pairs below the leaf's end
 pub record HasPassed (slots : List Slot) (all found : List (KeyBytes × ValueBytes)) (p : ℕ) : Type 0 where

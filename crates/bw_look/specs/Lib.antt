@@ -5,6 +5,7 @@ pub mod Words
 pub mod StagedBatches
 pub mod Gaps
 pub mod Replaying
+pub mod Cursors
 pub mod Routing
 pub mod PageStates
 pub mod Shapes

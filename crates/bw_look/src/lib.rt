@@ -4,6 +4,7 @@
 //! A `Look` is a tree that is lent to be read. What changes a tree is in the crate above.
 #![tactic(auto)]
 
+mod cursors;
 mod folded;
 mod laws;
 mod look;
@@ -12,6 +13,7 @@ mod scans;
 mod staging;
 mod words_before;
 
+pub use cursors::{LeafCursor, ScanCursor};
 pub use folded::Folded;
 pub use laws::no_delta_names_unreached;
 pub use look::{Look, PageShape, Unnamed};

@@ -4,12 +4,13 @@ ghost use Rattle.std.specs.List.{Contains};
 ghost use Rattle.std.specs.Option.{option_copied};
 ghost use Rattle.std.specs.FinMap.{is_sorted};
 ghost use Rattle.bw_key.specs.Order.{key_cmp};
-ghost use Rattle.bw_model.specs.Contents.{is_below_end, is_pair_in_range};
+ghost use Rattle.bw_model.specs.Contents.{is_below_end, is_pair_in_range, pairs_of_range};
 ghost use Rattle.bw_level.specs.Slots.{Slot, slot_at};
 ghost use Rattle.bw_level.specs.Before.{IsBefore, low_of};
 ghost use Rattle.bw_level.specs.Levels.{IsHome, row};
 ghost use Rattle.bw_look.specs.Replaying.{EndsBefore, HasNoPairs, IsKept, IsReadLeaf, filled, in_order, pairs_on, wanted_on};
-ghost use Rattle.bw_look.specs.View.{first_pairs, last_pairs};
+ghost use Rattle.bw_look.specs.Cursors.{HasRead};
+ghost use Rattle.bw_look.specs.View.{contents_at, first_pairs, last_pairs};
 
 use crate::look::Look;
 use bw_delta::Replay;
@@ -72,7 +73,7 @@ pub(crate) struct ReadLeaf<'a> {
 
 impl<'a> ReadLeaf<'a> {
     // The leaf with its pairs as of a stamp that isn't below theirs.
-    fn as_of(self, stamp: u64) -> Result<ReadLeaf<'a>, Memory>
+    pub(crate) fn as_of(self, stamp: u64) -> Result<ReadLeaf<'a>, Memory>
         requires { self.replay.stamp ≤ stamp }
         ensures stamp { IfOk result (λ leaf. leaf.replay.stamp ≡ stamp) }
         ensures leaf { IfOk result (λ leaf. (slot : Slot) → IsReadLeaf slot self.entry → IsReadLeaf slot leaf) }
@@ -85,7 +86,7 @@ impl<'a> ReadLeaf<'a> {
 
 /// The order in which a scan reads.
 #[derive(Clone, Copy)]
-enum Order {
+pub(crate) enum Order {
     Rising,
     Falling,
 }
@@ -150,12 +151,33 @@ impl<'a> Scans<'a> {
         ensures pairs { IfOk result (λ pairs. pairs
             ≡ first_pairs self.old.tree from.now (option_copied to.entry) most stamp) }
     {
-        let mut read = Pairs::new(self.alloc);
+        let read = Pairs::new(self.alloc);
         if asks_for_none(from, to, most) {
             return Ok(read);
         }
+        self.scan_on(from, from, to, most, stamp, read)
+    }
+
+    /// The first pairs of a range of keys as of a stamp, of which those below a key were read. `Memory` is answered as by
+    /// `scan`.
+    pub(crate) fn scan_on(
+        &mut self,
+        from: &Key,
+        start: &Key,
+        to: Option<&Key>,
+        most: u64,
+        stamp: u64,
+        read: Pairs,
+    ) -> Result<Pairs, Memory>
+        requires { let all = pairs_of_range (contents_at self.old.tree stamp) from.now (option_copied to) in
+            HasRead all most read from.now start.now }
+        ensures tree { self.new.tree ≡ self.old.tree }
+        ensures pairs { IfOk result (λ pairs. pairs
+            ≡ first_pairs self.old.tree from.now (option_copied to.entry) most stamp) }
+    {
         self.tree.know_levels();
-        let mut at = from;
+        let mut read = read;
+        let mut at = start;
         let mut before = None;
         loop {
             let page = self.route(at);
@@ -394,7 +416,7 @@ impl<'a> Scans<'a> {
 }
 
 // Adds the pairs of a leaf from a key on and below another, in this order, no more than `most` of them.
-fn add_pairs(
+pub(crate) fn add_pairs(
     replay: &Replay<'_>,
     order: Order,
     low: &Key,
@@ -413,7 +435,7 @@ fn add_pairs(
 }
 
 // Whether no pair is asked for: none at all, or those of a range that doesn't begin below its end.
-fn asks_for_none(from: &Key, to: Option<&Key>, most: u64) -> bool
+pub(crate) fn asks_for_none(from: &Key, to: Option<&Key>, most: u64) -> bool
     ensures none { result ≡ true → HasNoPairs from.now (option_copied to.entry) most }
     ensures begins { result ≡ false → T (is_below_end (option_copied to.entry) from.now) }
 {

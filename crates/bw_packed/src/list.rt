@@ -174,6 +174,15 @@ impl<E: Copy> Packed<E> {
         Ok(())
     }
 
+    /// Makes room for so many more entries, of so many bytes together. `Memory` is answered where a growth is refused.
+    pub fn reserve(&mut self, entries: usize, bytes: usize) -> Result<(), Memory>
+        ensures { self.new ≡ self.old }
+    {
+        self.entries.reserve(entries)?;
+        self.bytes.reserve(bytes)?;
+        Ok(())
+    }
+
     /// Leaves the first entries, so many of them. It takes no memory, and gives none back.
     pub fn truncate(&mut self, len: usize)
         ensures { self.new ≡ take len self.old }

@@ -189,6 +189,14 @@ impl Pairs {
         self.entries.extend(&pairs.entries, range)
     }
 
+    /// Makes room for so many more pairs, whose keys and values have so many bytes together: one growth of each of two blocks
+    /// at most, where `push` and `extend` would grow them again and again. `Memory` is answered where a growth is refused.
+    pub fn reserve(&mut self, pairs: usize, bytes: usize) -> Result<(), Memory>
+        ensures { self.new ≡ self.old }
+    {
+        self.entries.reserve(pairs, bytes)
+    }
+
     /// Leaves the first pairs, so many of them. It takes no memory, and gives none back.
     pub fn truncate(&mut self, len: usize)
         ensures { self.new ≡ take len self.old }

@@ -2,6 +2,7 @@
 // refused in turn.
 mod assertions;
 mod consolidation;
+mod cursors;
 mod drops;
 mod levels;
 mod making;

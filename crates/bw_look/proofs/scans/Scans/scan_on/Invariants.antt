@@ -2,9 +2,9 @@ use Rattle.std.proofs.Common.{◌≡◌}
 use Rattle.std.specs.Option.{option_copied}
 use Rattle.bw_model.specs.Contents.{pairs_of_range}
 use Rattle.bw_look.specs.View.{contents_at}
-use Rattle.bw_look.proofs.ReplayLemmas.{HasRead}
+use Rattle.bw_look.specs.Cursors.{HasRead}
 use Rattle.bw_look.proofs.ScanLemmas.{leaves_behind}
-use Rattle.bw_look.proofs.scans.Scans.scan.Given as goal
+use Rattle.bw_look.proofs.scans.Scans.scan_on.Given as goal
 
 abbrev pub invariant-loop-read : goal.invariant-loop-read
 invariant-loop-read l = record {
