@@ -141,12 +141,12 @@ impl<'a> BatchReader<'a> {
         ensures { OnOk result (answers.new.items ≡ answers.old.items ++ answers_to self.now (point_places points.now)) }
     {
         let mut start = 0;
-        let mut read = 0;
+        let mut read_ahead = 0;
         let mut near = 0;
         while start < points.len() {
-            if start >= read {
+            if start >= read_ahead {
                 let (end, guess) = self.prefetch_runs(points, start);
-                read = end;
+                read_ahead = end;
                 near = guess;
             }
             let (page, end) = self.homes.run_from(points, start);
@@ -292,7 +292,8 @@ impl<'a> BatchReader<'a> {
     }
 }
 
-// Reads the heads of the keys of points, up to 4,096 of them: a sum of their lengths. Operations lie in another order than their points.
+// Reads where the keys of points begin, up to 4,096 of them: a sum of their lengths. Operations lie in another order than their
+// points.
 fn prefetch_keys(points: &[Point<'_>]) -> usize {
     let mut sum = 0usize;
     for point in points.iter().take(TURN) {

@@ -11,9 +11,6 @@ use bw_tree::{LeafCursor, Look, ScanCursor, Scans};
 use std::cmp::Ordering;
 use std::mem;
 
-// For each scan so many leaves at the most are shared. Where scans lead through more, they seldom meet.
-const LEAVES_OF_A_SCAN: usize = 64;
-
 /// A scan of a batch that is under way, and its place there.
 #[derive(Drop)]
 pub(crate) struct BatchScan<'a> {
@@ -51,11 +48,11 @@ impl<'a> Start<'a> {
 
 /// Reads leaf after leaf, in the order of their keys, for all scans forth that begin on a leaf or go on from the one before.
 /// Those of a leaf read it in the order of their stamps, if they are listed so. A scan that finds no pair where it goes on is
-/// left there, as are all where leaves are too many.
+/// left there.
 ///
-/// So the chain of a leaf is walked once for all of them, and each of its writes has its effect once. It costs a sort of the
-/// scans by their first keys and, for each leaf, a search for it and a sort of the numbers of those that read it. `Memory` is
-/// answered where a list, a map or a copy finds none.
+/// So the chain of a leaf is walked as often as for one of them, and each of its writes has its effect once for all. It costs a
+/// sort of the scans by their first keys and, for each leaf, a search for it and, where scans begin there, a sort of the
+/// numbers of those that read it. `Memory` is answered where a list, a map or a copy finds none.
 pub(crate) fn share_leaves<'a>(
     alloc: Alloc,
     tree: Look<'a>,
@@ -68,14 +65,18 @@ pub(crate) fn share_leaves<'a>(
     let mut leaf = LeafCursor::new(alloc, tree);
     let mut readers = Vec::new(alloc);
     let mut going_on = Vec::new(alloc);
-    for _leaf in 0..scans.len().saturating_mul(LEAVES_OF_A_SCAN) {
+    // Each turn begins a scan or goes on behind a leaf, so the leaves end, and not this count.
+    for _leaf in 0..usize::MAX {
         let Some(key) = next_key(scans, &going_on, &starts) else {
             return Ok(());
         };
         let end = leaf.seek(key)?;
         mem::swap(&mut readers, &mut going_on);
+        let count = readers.len();
         take_starts(&mut starts, end, &mut readers)?;
-        readers.sort_unstable();
+        if readers.len() > count {
+            readers.sort_unstable();
+        }
         going_on.clear();
         read_leaf(scans, &readers, &mut leaf, &mut going_on)?;
     }
@@ -151,7 +152,7 @@ fn read_leaf<'a>(
     ensures tree { leaf.new.tree ≡ leaf.old.tree }
 {
     for number in readers {
-        if read_as(scans, *number, leaf)? {
+        if read_one(scans, *number, leaf)? {
             going_on.push(*number)?;
         }
     }
@@ -159,7 +160,7 @@ fn read_leaf<'a>(
 }
 
 // Lets one of the scans read it. Whether it goes on behind it.
-fn read_as<'a>(
+fn read_one<'a>(
     scans: &mut [BatchScan<'a>],
     number: usize,
     leaf: &mut LeafCursor<'a>,

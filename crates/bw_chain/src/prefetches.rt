@@ -10,11 +10,11 @@ const RECORDS: usize = 16;
 // So many short pairs have their keys in one line of memory.
 const PAIRS_OF_A_LINE: usize = 4;
 
-// So many keys of a large page are read ahead, and under twice as many.
+// Of a large page at least so many keys are read ahead.
 const KEYS: usize = 32;
 
 impl Chains {
-    /// Reads what a search of a leaf is about to read: up to 16 of the newest records of its chain, and up to 64 keys of its
+    /// Reads what a search of a leaf is about to read: up to 16 of the newest records of its chain, and up to 40 keys of its
     /// base page. Whoever does so for some leaves before it searches the first of them waits for their memory once, and not
     /// for one leaf after another. It takes no memory.
     ///
@@ -51,7 +51,7 @@ fn stamp_of(delta: &Delta) -> usize {
     }
 }
 
-// Reads each fourth key of a page, or of a large one fewer, up to 64 in all.
+// Reads each fourth key of a page, or fewer of a large one, up to 40 in all.
 fn prefetch_pairs(leaf: &Leaf) -> usize {
     let pairs = leaf.pairs();
     let step = (pairs.len() / KEYS).max(PAIRS_OF_A_LINE);

@@ -13,7 +13,7 @@ ghost use Rattle.bw_delta.specs.Readings.{from_stamp};
 ghost use Rattle.bw_delta.specs.Rising.{HasRisingStamps};
 
 use crate::consolidation::joined;
-use crate::range_reads::{add_falling, add_rising, make_room};
+use crate::range_reads::{add_falling, add_rising};
 use crate::reading::copied;
 use crate::writes::Write;
 use bw_key::{Key, Memory};
@@ -201,8 +201,6 @@ impl<'a> Present<'a> {
             (present_pairs self.now))) }
     {
         let pairs = self.base.leaf().between(low, high);
-        let kept = pairs.len().saturating_sub(self.changes.len());
-        make_room(&pairs, most.min(kept as u64), read)?;
         add_rising(pairs, range(&self.changes, low, high), most, read)
     }
 

@@ -38,15 +38,6 @@ pub(crate) fn add_rising(
     Ok(())
 }
 
-/// Makes room for the first pairs of a run, no more than `most` of them.
-pub(crate) fn make_room(run: &Run<'_>, most: u64, read: &mut Pairs) -> Result<(), Memory>
-    ensures { read.new ≡ read.old }
-{
-    let count = most.min(run.len() as u64);
-    let (front, _rest) = run.split_at(count as usize);
-    read.reserve(front.len(), front.byte_count())
-}
-
 /// Adds the last of these pairs, the greatest key first.
 pub(crate) fn add_falling(
     pairs: Run<'_>,
@@ -86,7 +77,8 @@ fn add_front(run: &Run<'_>, most: u64, read: &mut Pairs) -> Result<u64, Memory>
     Ok(most - count)
 }
 
-// Adds the last pairs of a run, the last one first, no more than `most` of them. It answers how many more may be added.
+// Adds the last pairs of a run, the last one first, no more than `most` of them, with room made for all of them at once. It
+// answers how many more may be added.
 fn add_back(run: &Run<'_>, most: u64, read: &mut Pairs) -> Result<u64, Memory>
     ensures kept { take (length read.old) read.new ≡ read.old }
     ensures added { OnOk result (read.new ≡ read.old ++ take most (reverse run.now)) }
@@ -94,6 +86,8 @@ fn add_back(run: &Run<'_>, most: u64, read: &mut Pairs) -> Result<u64, Memory>
 {
     let len = run.len();
     let count = most.min(len as u64) as usize;
+    let (_rest, back) = run.split_at(len - count);
+    read.reserve(count, back.byte_count())?;
     for place in 0..count {
         push_at(read, run, len - 1 - place)?;
     }

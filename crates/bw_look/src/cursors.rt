@@ -18,10 +18,10 @@ use std::mem;
 
 /// The leaf of a tree that was read last.
 ///
-/// Scans that read a leaf one after another, each as of a stamp that isn't below that of the one before, share one walk along
-/// its chain, and each of its writes has its effect once for all of them. Another leaf, or the same as of an earlier stamp, is
-/// read anew. So whoever has many scans lets them read leaf by leaf, those of a leaf in the order of their stamps, as in a
-/// cooperative scan (VLDB 2007).
+/// Scans that read a leaf one after another, each as of a stamp that isn't below that of the one before, walk along its chain
+/// as often as one of them alone, and each of its writes has its effect once for them. Another leaf, or the same as of an
+/// earlier stamp, is read anew. So whoever has many scans lets them read leaf by leaf, those of a leaf in the order of their
+/// stamps, as in a cooperative scan (VLDB 2007).
 pub struct LeafCursor<'a> {
     tree: Look<'a>,
     alloc: Alloc,
@@ -62,8 +62,8 @@ impl<'a> LeafCursor<'a> {
         }
     }
 
-    /// Goes to the leaf of a key, which scans as of any stamp can read then, and tells where the leaf ends. It costs a search
-    /// and a walk along the leaf's chain. `Memory` is answered where a list finds none.
+    /// Goes to the leaf of a key, which scans as of any stamp can read then, and tells where the leaf ends. It costs a search,
+    /// and as many steps as the leaf's chain has records. `Memory` is answered where a list finds none.
     pub fn seek(&mut self, key: &Key) -> Result<Option<&'a Key>, Memory>
         ensures { self.new.tree ≡ self.old.tree }
     {
@@ -223,8 +223,8 @@ impl<'a> ScanCursor<'a> {
 
     /// Reads the pairs on the leaf where the scan goes on, and tells whether it goes on behind that leaf; it says no where it
     /// has found no pair there, unless it began there. So but for the first call and the last one, each call finds a pair if
-    /// the one before said yes. A call costs a copy of what the scan finds, and where the leaf is read anew, a search and a
-    /// walk along its chain.
+    /// the one before said yes. A call costs a copy of what the scan finds, and where the leaf is read anew, a search and as
+    /// many steps as its chain has records.
     ///
     /// `Memory` is answered where a list or a map finds none; then the scan begins anew.
     pub fn read_leaf(&mut self, leaf: &mut LeafCursor<'a>) -> Result<bool, Memory>

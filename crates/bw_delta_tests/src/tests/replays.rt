@@ -137,27 +137,6 @@ fn a_change_takes_no_memory_for_the_pairs_beside_it(rt: HostRuntime) {
     advances_in(&rt, alloc, &leaf, &[&insert], (1, 1));
 }
 
-// Reads all pairs of a replay in two growths, though changes lie among them.
-fn reads_in_two<R: Abort>(rt: &R, alloc: Alloc, replay: &Replay, wanted: &[TextPair]) {
-    let from = key(rt, alloc, b"");
-    let mut read = Pairs::new(alloc);
-    alloc.refuse(3);
-    replay
-        .add_first(&from, None, 9, &mut read)
-        .expect(rt, "memory");
-    assert_equal(rt, alloc.left(), 1);
-    assert_that(rt, are(&read, wanted));
-}
-
-#[test]
-fn a_read_among_changes_makes_its_room_at_once(rt: HostRuntime) {
-    let alloc = heap(&rt, rt.alloc());
-    let leaf = a_and_b(&rt, alloc);
-    let update = update(&rt, alloc, 1, b"3");
-    let replay = replay_at(&rt, alloc, &[&leaf], None, &[&update], 9);
-    reads_in_two(&rt, alloc, &replay, &[(b"a", b"3"), (b"b", b"2")]);
-}
-
 // How many bytes more are in use once a replay of a leaf was taken on to 9.
 fn used_by<R: Abort>(rt: &R, alloc: Alloc, leaf: &Leaf, writes: &[&Write]) -> u64 {
     let replay = replay_of(rt, alloc, &[leaf], None, writes).expect(rt, "memory");

@@ -74,34 +74,31 @@ fn a_list_with_room_takes_two_growths(rt: HostRuntime) {
     fills_its_room(&rt, counted(&rt, rt.alloc()), &other);
 }
 
-// Makes room in a full list for all of another one, in two growths.
-fn makes_room<R: Abort>(rt: &R, alloc: Alloc, other: &Packed<Child>) {
-    if other.len() != 2 {
-        return;
-    }
+// Makes room in a full list for 20 entries of 40 bytes, in two growths, and adds these.
+fn makes_room<R: Abort>(rt: &R, alloc: Alloc) {
     let mut list = full_list(rt, alloc);
     alloc.refuse(3);
-    list.reserve(2, 4).expect(rt, "memory");
-    list.extend(other, 0..1).expect(rt, "memory");
-    list.extend(other, 1..2).expect(rt, "memory");
+    list.reserve(20, 800).expect(rt, "memory");
+    for _ in 0..20 {
+        list.push(&[120; 40], Child(7)).expect(rt, "memory");
+    }
     assert_equal(rt, alloc.left(), 1);
     alloc.refuse(0);
-    assert_that(rt, has(&list, &[b"ab", b"c", b"def"], 0));
+    assert_equal(rt, list.len(), 21);
 }
 
 // Makes none where this growth is refused. The list stays as it is.
 fn makes_no_room<R: Abort>(rt: &R, alloc: Alloc, growth: u64) {
     let mut list = full_list(rt, alloc);
     alloc.refuse(growth);
-    assert_that(rt, list.reserve(2, 4).is_err());
+    assert_that(rt, list.reserve(20, 800).is_err());
     assert_that(rt, has(&list, &[b"ab"], 0));
 }
 
 #[test]
 fn room_for_more_takes_two_growths(rt: HostRuntime) {
-    let other = list_of(&rt, heap(&rt, rt.alloc()), &[b"c", b"def"]);
     let alloc = counted(&rt, rt.alloc());
-    makes_room(&rt, alloc, &other);
+    makes_room(&rt, alloc);
     makes_no_room(&rt, alloc, 1);
     makes_no_room(&rt, alloc, 2);
 }

@@ -194,7 +194,7 @@ impl Tree {
         self.look().leaf(alloc, page)
     }
 
-    /// Reads what a search of a leaf is about to read: up to 16 of the newest records of its chain, and up to 64 keys of its
+    /// Reads what a search of a leaf is about to read: up to 16 of the newest records of its chain, and up to 40 keys of its
     /// base page. Whoever does so for some leaves before it searches the first of them waits for their memory once, and not
     /// for one leaf after another. It takes no memory.
     ///

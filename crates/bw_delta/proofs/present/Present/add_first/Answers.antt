@@ -5,7 +5,7 @@ use Rattle.std.specs.Option.{option_copied}
 use Rattle.bw_key.specs.Order.{key_cmp}
 use Rattle.bw_model.specs.Contents.{is_pair_in_range}
 use Rattle.bw_model.specs.Values.{Pair}
-use Rattle.bw_delta.specs.Present.{base_pairs, changed_pairs, Change}
+use Rattle.bw_delta.specs.Present.{base_pairs, Change}
 use Rattle.bw_delta.proofs.Changes.{read_changed, sorted_changed}
 use Rattle.bw_delta.proofs.PairMaps.{sorted_in_range}
 use Rattle.bw_delta.proofs.present.Present.add_first.Goals as goal
@@ -25,11 +25,6 @@ returns-clause-sorted c =
     sorted_changed c.args.self.now.changes.entries (base_pairs c.args.self.now.base)
     (subst (λ (l : List Pair). T (is_sorted key_cmp l)) c.leaf.ensures c.between-pairs.ensures.rules.sorted)
 
-pub returns-in_err-make_room-clause-sorted : goal.returns-in_err-make_room-clause-sorted
-returns-in_err-make_room-clause-sorted c =
-    sorted_changed c.args.self.now.changes.entries (base_pairs c.args.self.now.base)
-    (subst (λ (l : List Pair). T (is_sorted key_cmp l)) c.leaf.ensures c.between-pairs.ensures.rules.sorted)
-
 pub returns-clause-added : goal.returns-clause-added
 returns-clause-added c =
     let sorted = subst (λ (l : List Pair). T (is_sorted key_cmp l)) c.leaf.ensures c.between-pairs.ensures.rules.sorted in
@@ -37,7 +32,6 @@ returns-clause-added c =
     on_ok_weaker c.add_rising.result
     (λ is.
     is
-    ∙ ap (λ (l : List Pair). l ++ take c.args.most (changed_pairs c.range.result c.between-pairs.result)) c.make_room.ensures
     ∙ ap (λ (l : List Pair). c.args.read.now ++ take c.args.most l)
     (read_changed c.args.low.now (option_copied c.args.high) c.args.self.now.changes.entries c.range.result (base_pairs c.args.self.now.base) c.between-pairs.result sorted
     c.range.ensures.between (c.between-pairs.ensures.value ∙ ap (filter in_range) c.leaf.ensures)))
