@@ -14,3 +14,4 @@ mod sights;
 mod states;
 mod sweeping;
 mod tidying;
+mod written_leaves;
