@@ -18,7 +18,7 @@ use bw_group::{Homes, Point, group_end};
 use bw_key::Memory;
 use bw_memory::Alloc;
 use bw_model::{Op, Reply};
-use bw_tree::{Look, PageId, ScanCursor, Scans, Tree};
+use bw_tree::{Look, PageId, ScanCursor, Tree};
 use rayon::prelude::*;
 use std::marker::Model;
 use std::thread::Threads;
@@ -265,7 +265,7 @@ impl<'a> BatchReader<'a> {
         let tree = self.tree.look();
         let mut scans = self.scans_at(alloc, &tree, places)?;
         share_leaves(alloc, tree.again(), &mut scans)?;
-        finish_scans(scans, &mut Scans::new(alloc, tree.again()), answers)
+        finish_scans(alloc, tree.again(), scans, answers)
     }
 
     // The scans at these places, which have read nothing.

@@ -66,7 +66,7 @@ pub(crate) fn share_leaves<'a>(
     let mut readers = Vec::new(alloc);
     let mut going_on = Vec::new(alloc);
     // Each turn begins a scan or goes on behind a leaf, so the leaves end, and not this count.
-    for _leaf in 0..usize::MAX {
+    for _turn in 0..usize::MAX {
         let Some(key) = next_key(scans, &going_on, &starts) else {
             return Ok(());
         };
@@ -85,16 +85,18 @@ pub(crate) fn share_leaves<'a>(
 
 /// Adds the answers to scans, for which what they haven't read yet is read now.
 pub(crate) fn finish_scans<'a>(
+    alloc: Alloc,
+    tree: Look<'a>,
     scans: Vec<BatchScan<'a>, Alloc>,
-    reading: &mut Scans<'a>,
     answers: &mut Vec<Answer, Alloc>,
 ) -> Result<(), Memory>
-    requires { AllByRecursion (λ scan. scan.cursor.tree ≡ reading.old.tree) scans.items }
+    requires { AllByRecursion (λ scan. scan.cursor.tree ≡ tree) scans.items }
     ensures { OnOk result (answers.new.items ≡ answers.old.items ++ map answer_of scans.entry.items) }
 {
+    let mut reading = Scans::new(alloc, tree);
     for scan in scans {
         let BatchScan { place, cursor } = scan;
-        let reply = cursor.finish(reading)?;
+        let reply = cursor.finish(&mut reading)?;
         answers.push(Answer { place, reply })?;
     }
     Ok(())

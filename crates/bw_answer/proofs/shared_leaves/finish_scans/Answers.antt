@@ -8,14 +8,14 @@ use Rattle.bw_answer.proofs.shared_leaves.finish_scans.Goals as goal
 pub finish-requires : goal.finish-requires
 finish-requires c =
     let i = c.loop-scan.invariant in
-    let rest = subst (AllByRecursion (λ scan. scan.cursor.tree ≡ c.args.reading.now.tree)) c.in-Some.ensures.steps.0 i.trees in
+    let rest = subst (AllByRecursion (λ scan. scan.cursor.tree ≡ c.args.tree)) c.in-Some.ensures.steps.0 i.trees in
     i.same ∙ sym rest.0
 
 pub loop-scan-preserved : goal.loop-scan-preserved
 loop-scan-preserved c =
     let i = c.loop-scan.invariant in
     let next = c.in-Some.ensures.steps.0 in
-    let rest = subst (AllByRecursion (λ scan. scan.cursor.tree ≡ c.args.reading.now.tree)) next i.trees in
+    let rest = subst (AllByRecursion (λ scan. scan.cursor.tree ≡ c.args.tree)) next i.trees in
     record {
       same = c.in_ok-reply.ensures.tree ∙ i.same;
       trees = rest.1;
