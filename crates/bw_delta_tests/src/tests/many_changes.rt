@@ -162,11 +162,13 @@ fn each_growth_of_many_changes_is_refused(rt: HostRuntime) {
     panic!(rt; "no run met no refusal")
 }
 
-// Reads back what is left, all of which stands in a list of its own, in two growths.
-fn is_read_in_two<R: Abort>(rt: &R, alloc: Alloc, replay: &Replay) {
+// Reads back what is left behind all writes, which stands in a list of its own then, in two growths.
+fn is_read_in_two<R: Abort>(rt: &R, alloc: Alloc, leaf: &Leaf, writes: &[&Write]) {
     let least = key(rt, alloc, b"");
+    let replay = replay_of(rt, alloc, &[leaf], None, writes).expect(rt, "memory");
+    let replay = advanced(rt, replay, 37).expect(rt, "memory");
     alloc.refuse(3);
-    let left = last(alloc, replay, (&least, None), 99).expect(rt, "memory");
+    let left = last(alloc, &replay, (&least, None), 99).expect(rt, "memory");
     assert_equal(rt, alloc.left(), 1);
     assert_that(rt, are_left(&left));
 }
@@ -176,9 +178,7 @@ fn a_read_back_makes_its_room_at_once(rt: HostRuntime) {
     let alloc = heap(&rt, rt.alloc());
     let leaf = a_and_b(&rt, alloc);
     let writes = writes(&rt, alloc);
-    let lent = lent(&rt, alloc, &writes);
-    let replay = replay_of(&rt, alloc, &[&leaf], None, &lent).expect(&rt, "memory");
-    is_read_in_two(&rt, alloc, &advanced(&rt, replay, 37).expect(&rt, "memory"));
+    is_read_in_two(&rt, alloc, &leaf, &lent(&rt, alloc, &writes));
 }
 
 // How many bytes more are in use once a replay over a leaf with a 1 and b 2 passed so many writes, first this many of them.
