@@ -1,6 +1,5 @@
-use Rattle.std.proofs.Common.{◌≡◌, ◌∷◌, ◌++◌, length, map, rules, refl, sym, ap, subst, ◌∙◌}
+use Rattle.std.proofs.Common.{◌≡◌, ◌++◌, map, sym, subst, ◌∙◌}
 use Rattle.std.specs.List.{AllByRecursion}
-use Rattle.bw_look.specs.View.{TreeView}
 use Rattle.bw_answer.specs.Replies.{answer_of}
 use Rattle.bw_answer.proofs.ScanLemmas.{next_answered}
 use Rattle.bw_answer.proofs.shared_leaves.finish_scans.Goals as goal
