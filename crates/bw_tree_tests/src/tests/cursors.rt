@@ -78,29 +78,6 @@ fn a_scan_reads_leaf_by_leaf(rt: HostRuntime) {
     read_all(&rt, alloc, &tree.look());
 }
 
-// Reads two scans in turn, of which one has enough on the second leaf and the other is left there.
-fn read_in_turn<R: Abort>(rt: &R, alloc: Alloc, tree: &Look<'_>) {
-    let two = scan_of(rt, alloc, false, (b"b", None, 2));
-    let all = scan_of(rt, alloc, false, (b"", Some(b"f"), 9));
-    let mut first = ScanCursor::new(alloc, tree, &two, 7);
-    let mut second = ScanCursor::new(alloc, tree, &all, 0);
-    let mut leaf = LeafCursor::new(alloc, tree.again());
-    assert_that(rt, first.read_leaf(&mut leaf).expect(rt, "memory"));
-    assert_that(rt, second.read_leaf(&mut leaf).expect(rt, "memory"));
-    assert_that(rt, !first.read_leaf(&mut leaf).expect(rt, "memory"));
-    assert_that(rt, second.read_leaf(&mut leaf).expect(rt, "memory"));
-    finishes(rt, alloc, tree, first, &[(b"b", b"2"), (b"c", b"3")]);
-    let wanted: &[TextPair] = &[(b"a", b"1"), (b"b", b"2"), (b"c", b"3"), (b"e", b"5")];
-    finishes(rt, alloc, tree, second, wanted);
-}
-
-#[test]
-fn scans_read_a_leaf_in_turn(rt: HostRuntime) {
-    let alloc = heap(&rt, rt.alloc());
-    let tree = three_leaves(&rt, alloc);
-    read_in_turn(&rt, alloc, &tree.look());
-}
-
 // Compares a scan that reads no leaf by itself.
 fn reads_no_leaf<R: Abort>(
     rt: &R,
