@@ -26,9 +26,10 @@ use std::thread::Threads;
 ///
 /// `homes` are the pages of the batch's keys, so that no leaf is searched for again but by scans. In a part the writes
 /// over each leaf that has a key of it are sorted by key, and each key's are then passed once, beside the operations on
-/// the key. So the cost doesn't depend on how many of them are on one key. The scans forth of a part read leaf by
-/// leaf, those of a leaf one after another, and its writes have their effects once for all of these; what they leave, and scans
-/// back, is read one scan after another (`Scans`). A leaf that lies in several parts has its writes sorted in each. `Memory` is answered where a list, a map or a reply finds none, in any part.
+/// the key. So the cost doesn't depend on how many of them are on one key. The scans forth of a part read leaf by leaf,
+/// those of a leaf one after another, and its writes have their effects once for all of these; what they leave, and
+/// scans back, is read one scan after another (`Scans`). A leaf that lies in several parts has its writes sorted in
+/// each. `Memory` is answered where a list, a map or a reply finds none, in any part.
 pub fn replies<R: Threads + Sync>(
     rt: &R,
     alloc: Alloc,

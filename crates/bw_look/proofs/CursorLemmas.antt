@@ -52,11 +52,7 @@ module _ (tree : TreeView) (stamp : ℕ) where
       by (SwapIf key old new) at first = tt
       by (Rscan from to most) at first = tt
 
-  -- so is one that begins anew
-  pub anew : (op : Op) (from : KeyBytes) (to : Option KeyBytes) (most : ℕ) (read : List Pair) → op ≡ Scan from to most → read ≡ [] → IsUnderWay (record { tree = tree; op = op; stamp = stamp }) (Some from) read
-  anew op from to most read is none = subst (λ o. IsUnderWay (record { tree = tree; op = o; stamp = stamp }) (Some from) read) (sym is) (begun (Scan from to most) (Some from) read refl refl none)
-
-  -- and one that has read a leaf
+  -- so is one that has read a leaf
   pub went_on : (op : Op) (from : KeyBytes) (to : Option KeyBytes) (most : ℕ) (at : KeyBytes) (next : Option KeyBytes) (read new : List Pair) → op ≡ Scan from to most → IsUnderWay (record { tree = tree; op = op; stamp = stamp }) (Some at) read →
       (IsReadUpto tree stamp most from to read (Some at) → IsReadUpto tree stamp most from to new next) → IsUnderWay (record { tree = tree; op = op; stamp = stamp }) next new
   went_on op from to most at next read new is before step = record {

@@ -1,5 +1,5 @@
 // Scans that read one leaf at a time.
-ghost use Rattle.std.specs.Prelude.{◌≡◌, ◌≤◌, None, Some, IfOk, IfSome};
+ghost use Rattle.std.specs.Prelude.{◌≡◌, ◌≤◌, None, Some, IfOk, IfSome, OnErr};
 ghost use Rattle.std.specs.Option.{option_copied};
 ghost use Rattle.bw_key.specs.Order.{KeyBytes};
 ghost use Rattle.bw_model.specs.Model.{key_of, reply_of};
@@ -14,7 +14,6 @@ use bw_memory::Alloc;
 use bw_model::{Op, Pairs, Reply, is_below};
 use bw_page::PageId;
 use std::marker::Model;
-use std::mem;
 
 /// The leaf of a tree that was read last.
 ///
@@ -26,6 +25,8 @@ pub struct LeafCursor<'a> {
     tree: Look<'a>,
     alloc: Alloc,
     leaf: Option<(PageId, ReadLeaf<'a>)>,
+    // what a scan reads of a leaf before it gets it, in the room that earlier ones took
+    pairs: Pairs,
 }
 
 // Not derived: whoever drops one calls this, and its proof is spared the parts.
@@ -35,6 +36,7 @@ impl Drop for LeafCursor<'_> {
             tree: _tree,
             alloc: _alloc,
             leaf: _leaf,
+            pairs: _pairs,
         } = self;
     }
 }
@@ -59,6 +61,7 @@ impl<'a> LeafCursor<'a> {
             tree,
             alloc,
             leaf: None,
+            pairs: Pairs::new(alloc),
         }
     }
 
@@ -84,6 +87,7 @@ impl<'a> LeafCursor<'a> {
         read: &mut Pairs,
     ) -> Result<Option<&'a Key>, Memory>
         ensures tree { self.new.tree ≡ self.old.tree }
+        ensures same { OnErr result (read.new ≡ read.old) }
         ensures read { IfOk result (λ next. (from : KeyBytes) →
             IsReadUpto self.old.tree stamp most from (option_copied to.entry) read.old (Some at.now) →
             IsReadUpto self.old.tree stamp most from (option_copied to.entry) read.new (option_copied next)) }
@@ -106,6 +110,7 @@ impl<'a> LeafCursor<'a> {
         read: &mut Pairs,
     ) -> Result<Option<&'a Key>, Memory>
         ensures tree { self.new.tree ≡ self.old.tree }
+        ensures same { OnErr result (read.new ≡ read.old) }
         ensures read { let to = option_copied to.entry in
             IfOk result (IsLeafRead self.old.tree stamp most at.now to read.old read.new) }
     {
@@ -113,7 +118,9 @@ impl<'a> LeafCursor<'a> {
         let left = most.saturating_sub(read.len() as u64);
         let (page, leaf) = self.take(at, stamp)?;
         let high = lower_end(leaf.end, to);
-        add_pairs(&leaf.replay, Order::Rising, at, high, left, read)?;
+        self.pairs.truncate(0);
+        add_pairs(&leaf.replay, Order::Rising, at, high, left, &mut self.pairs)?;
+        read.extend(&self.pairs.all())?;
         let end = if reaches(leaf.end, to) {
             None
         } else {
@@ -226,7 +233,7 @@ impl<'a> ScanCursor<'a> {
     /// the one before said yes. A call costs a copy of what the scan finds, and where the leaf is read anew, a search and as
     /// many steps as its chain has records.
     ///
-    /// `Memory` is answered where a list or a map finds none; then the scan begins anew.
+    /// `Memory` is answered where a list or a map finds none; then the scan has read as much as before.
     pub fn read_leaf(&mut self, leaf: &mut LeafCursor<'a>) -> Result<bool, Memory>
         requires { leaf.old.tree ≡ self.old.tree }
         ensures same { self.new ≡ self.old }
@@ -238,13 +245,9 @@ impl<'a> ScanCursor<'a> {
         let Some(at) = self.at else {
             return Ok(false);
         };
-        let none = Pairs::new(self.read.allocator());
-        let mut read = mem::replace(&mut self.read, none);
-        self.at = Some(from);
-        let count = read.len();
-        let next = leaf.read(at, to.as_ref(), *most, self.stamp, &mut read)?;
-        let has_more = read.len() > count || *at == *from;
-        self.read = read;
+        let count = self.read.len();
+        let next = leaf.read(at, to.as_ref(), *most, self.stamp, &mut self.read)?;
+        let has_more = self.read.len() > count || *at == *from;
         self.at = next;
         Ok(has_more && next.is_some())
     }

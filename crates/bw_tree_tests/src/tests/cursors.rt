@@ -24,12 +24,28 @@ fn scan_of<R: Abort>(rt: &R, alloc: Alloc, back: bool, range: Range) -> Op
     }
 }
 
-// Whether a scan goes on at this key.
-fn is_at(scan: &ScanCursor<'_>, bytes: &[u8]) -> bool {
-    match scan.at() {
-        Some(key) => key.bytes() == bytes,
-        None => false,
+// Whether a key has these bytes, or both are missing.
+fn has_bytes(key: Option<&Key>, wanted: Option<&[u8]>) -> bool {
+    match key {
+        Some(key) => Some(key.bytes()) == wanted,
+        None => wanted.is_none(),
     }
+}
+
+// Has a scan read a leaf, and looks where it goes on.
+fn reads<'a, R: Abort>(
+    rt: &R,
+    scan: &mut ScanCursor<'a>,
+    leaf: &mut LeafCursor<'a>,
+    next: Option<&[u8]>,
+)
+    requires { leaf.old.tree ≡ scan.old.tree }
+    ensures same { scan.new ≡ scan.old }
+    ensures tree { leaf.new.tree ≡ leaf.old.tree }
+{
+    let has_more = scan.read_leaf(leaf).expect(rt, "memory");
+    assert_equal(rt, has_more, next.is_some());
+    assert_that(rt, has_bytes(scan.at(), next));
 }
 
 // Compares the pairs that a scan has once the leaves are read that it hasn't read.
@@ -54,14 +70,11 @@ fn read_all<R: Abort>(rt: &R, alloc: Alloc, tree: &Look<'_>) {
     let op = scan_of(rt, alloc, false, (b"b", None, 9));
     let mut scan = ScanCursor::new(alloc, tree, &op, 0);
     let mut leaf = LeafCursor::new(alloc, tree.again());
-    assert_that(rt, is_at(&scan, b"b"));
-    assert_that(rt, scan.read_leaf(&mut leaf).expect(rt, "memory"));
-    assert_that(rt, is_at(&scan, b"c"));
-    assert_that(rt, scan.read_leaf(&mut leaf).expect(rt, "memory"));
-    assert_that(rt, is_at(&scan, b"e"));
-    assert_that(rt, !scan.read_leaf(&mut leaf).expect(rt, "memory"));
-    assert_that(rt, scan.at().is_none());
-    assert_that(rt, !scan.read_leaf(&mut leaf).expect(rt, "memory"));
+    assert_that(rt, has_bytes(scan.at(), Some(b"b")));
+    reads(rt, &mut scan, &mut leaf, Some(b"c"));
+    reads(rt, &mut scan, &mut leaf, Some(b"e"));
+    reads(rt, &mut scan, &mut leaf, None);
+    reads(rt, &mut scan, &mut leaf, None);
     finishes(
         rt,
         alloc,
@@ -90,7 +103,7 @@ fn reads_no_leaf<R: Abort>(
     let mut scan = ScanCursor::new(alloc, tree, &op, 0);
     let mut leaf = LeafCursor::new(alloc, tree.again());
     assert_that(rt, scan.at().is_none());
-    assert_that(rt, !scan.read_leaf(&mut leaf).expect(rt, "memory"));
+    reads(rt, &mut scan, &mut leaf, None);
     finishes(rt, alloc, tree, scan, wanted);
 }
 
@@ -115,8 +128,7 @@ fn goes_on_behind<R: Abort>(rt: &R, alloc: Alloc, tree: &Look<'_>) {
     let op = scan_of(rt, alloc, false, (b"d", None, 9));
     let mut scan = ScanCursor::new(alloc, tree, &op, 0);
     let mut leaf = LeafCursor::new(alloc, tree.again());
-    assert_that(rt, scan.read_leaf(&mut leaf).expect(rt, "memory"));
-    assert_that(rt, is_at(&scan, b"e"));
+    reads(rt, &mut scan, &mut leaf, Some(b"e"));
     finishes(rt, alloc, tree, scan, &[(b"e", b"5")]);
 }
 
@@ -129,10 +141,7 @@ fn a_scan_goes_on_behind_the_leaf_where_it_begins(rt: HostRuntime) {
 
 // Whether the leaf of a key ends at another.
 fn ends_at<R: Abort>(rt: &R, leaf: &mut LeafCursor<'_>, key: &Key, end: Option<&[u8]>) -> bool {
-    match leaf.seek(key).expect(rt, "memory") {
-        Some(found) => Some(found.bytes()) == end,
-        None => end.is_none(),
-    }
+    has_bytes(leaf.seek(key).expect(rt, "memory"), end)
 }
 
 #[test]
@@ -171,7 +180,7 @@ fn read_refused<R: Abort>(rt: &R, alloc: Alloc, tree: &Look<'_>, growth: u64) ->
 }
 
 #[test]
-fn a_scan_begins_anew_where_a_growth_is_refused(rt: HostRuntime) {
+fn a_scan_goes_on_where_a_growth_was_refused(rt: HostRuntime) {
     let alloc = heap(&rt, rt.alloc());
     let tree = three_leaves(&rt, alloc);
     for growth in 1..100 {

@@ -32,12 +32,15 @@ returns-clause-read c =
       | then-reaches w ↦ subst (EndsBefore slot to) (sym w.end-is) (subst (λ o. Reaches o to) of.read.end (c.reaches.ensures.reached w.if-reaches.true))
       | else-reaches w ↦ subst (EndsBefore slot to) (sym w.end-is) (ends_before slot to leaf.end of.read.end (c.reaches.ensures.missed w.if-reaches.false))
     ] in
-    subst (λ (v : ScansView). IsLeafRead v.tree c.args.stamp c.args.most at to read c.add_pairs.new.read c.if-reaches.end) c.self.view_is
+    subst (λ (v : ScansView). IsLeafRead v.tree c.args.stamp c.args.most at to read c.extend.new.self c.if-reaches.end) c.self.view_is
     (record {
       page = page;
       home = of.home;
       pairs =
-          c.in_ok-add_pairs.ensures.added
+          c.in_ok-extend.ensures.ok
+          ∙ ap (λ (l : List Pair). read ++ l)
+          (c.all.ensures ∙ c.in_ok-add_pairs.ensures.added
+          ∙ ap (λ (l : List Pair). l ++ take c.saturating_sub-left.result (filter (is_pair_in_range at (option_copied high.result)) leaf.replay.pairs)) c.truncate.ensures)
           ∙ ap (λ n. read ++ take n (filter (is_pair_in_range at (option_copied high.result)) leaf.replay.pairs)) (omega (arith, c.saturating_sub-left.ensures, c.len.ensures))
           ∙ ap (λ (l : List Pair). read ++ take left l) (here ∙ ap (λ n. pairs_on tree n at to page) c.in_ok-page.ensures.stamp);
       ends = ends;

@@ -1,17 +1,10 @@
-use Rattle.std.proofs.Common.{List, Option, Some, ap, sym, subst, ◌∙◌}
+use Rattle.std.proofs.Common.{Option, Some, ap, sym, subst}
 use Rattle.std.specs.Option.{option_copied}
 use Rattle.bw_key.specs.Order.{KeyBytes}
-use Rattle.bw_model.specs.Values.{Pair}
 use Rattle.bw_look.specs.Cursors.{CursorView, IsReadUpto, IsUnderWay}
 use Rattle.bw_look.specs.View.{TreeView}
-use Rattle.bw_look.proofs.CursorLemmas.{anew, went_on}
+use Rattle.bw_look.proofs.CursorLemmas.{went_on}
 use Rattle.bw_look.proofs.cursors.ScanCursor.read_leaf.Goals as goal
-
-pub invariant_of-self : goal.invariant_of-self
-invariant_of-self c =
-    let inside = c.self.inside in
-    let scan = c.in-Scan in
-    anew inside.tree.now inside.stamp inside.op.now scan.from scan.to scan.most c.replace-read.new.dest scan.is (c.replace-read.ensures.after ∙ c.new-none.ensures)
 
 pub invariant_of-self-2 : goal.invariant_of-self-2
 invariant_of-self-2 c =
@@ -23,6 +16,5 @@ invariant_of-self-2 c =
     let before = subst (λ o. IsUnderWay (record { tree = inside.tree.now; op = inside.op.now; stamp = inside.stamp }) (option_copied o) inside.read) c.in-Some.is c.self.invariant in
     went_on inside.tree.now inside.stamp inside.op.now scan.from scan.to scan.most at next inside.read new scan.is before
     (subst (λ (t : TreeView). IsReadUpto t inside.stamp scan.most scan.from scan.to inside.read (Some at) → IsReadUpto t inside.stamp scan.most scan.from scan.to new next) (c.requires ∙ sym (ap (λ (v : CursorView). v.tree) c.self.view_is))
-    (subst (λ (l : List Pair). IsReadUpto c.args.leaf.now.tree inside.stamp scan.most scan.from scan.to l (Some at) → IsReadUpto c.args.leaf.now.tree inside.stamp scan.most scan.from scan.to new next) c.replace-read.ensures.value
-    (subst (λ (to : Option KeyBytes). IsReadUpto c.args.leaf.now.tree inside.stamp scan.most scan.from to c.replace-read.result (Some at) → IsReadUpto c.args.leaf.now.tree inside.stamp scan.most scan.from to new next) c.as_ref.ensures.value
-    (c.in_ok-next.ensures.read scan.from))))
+    (subst (λ (to : Option KeyBytes). IsReadUpto c.args.leaf.now.tree inside.stamp scan.most scan.from to inside.read (Some at) → IsReadUpto c.args.leaf.now.tree inside.stamp scan.most scan.from to new next) c.as_ref.ensures.value
+    (c.in_ok-next.ensures.read scan.from)))
