@@ -22,8 +22,8 @@ use Rattle.bw_tree.specs.Beside.{with_own_words}
 use Rattle.bw_tree.specs.Levels.{IsHome}
 use Rattle.bw_tree.specs.PageWords.{ArePages, IsPostedOn, IsPostedStageOn, words_of}
 use Rattle.bw_group.specs.Homes.{IsHomeNumber}
-use Rattle.bw_post.specs.Posting.{ArePostedHome, ArePostedPages, HasFolded, IsBoardOf, IsHomeOfRecord, IsPostedBeside, IsSpared, IsUnadopted}
-use Rattle.bw_post.proofs.Folds.{few, first_stays, leaf_of, listed_times, no_number, none_or_some, one_number, one_place, other_word, own_word, swapped_is}
+use Rattle.bw_post.specs.Posting.{ArePostedHome, AreSpares, HasFolded, IsBoardOf, IsHomeOfRecord, IsPostedBeside, IsSpared, IsUnadopted}
+use Rattle.bw_post.proofs.Folds.{all_listed, few, first_stays, leaf_of, listed_times, no_number, none_or_some, one_number, one_place, other_word, own_word, swapped_is}
 
 -- nothing posted yet
 pub none_home : (tree : TreeView) (pages : List ℕ) (v : SeatView) → v.book.posted ≡ [] → ArePostedHome tree pages v
@@ -100,40 +100,33 @@ length_each : {X : Type 0} (of : Folded → X) (xs : List X) (fs : List Folded) 
 length_each of xs [] = refl
 length_each of xs (f ∷ fs) = length_each of (set xs f.page (of f)) fs ∙ length-set xs f.page (of f)
 
--- A closed board over pages, which are the homes' where a write is staged, with the spares of some of them.
-pub record IsOver (tree : TreeView) (homes pages : List ℕ) (board : BoardView) : Type 0 where
+-- a closed board over pages, with the spares of some of them
+pub record IsOver (tree : TreeView) (pages : List ℕ) (board : BoardView) : Type 0 where
   pub listed : ArePages tree pages
   pub first : board.first ≡ words_of tree.heads pages
   pub records : board.records ≡ length (staged_writes tree.staged)
-  pub spare : (number spare : ℕ) → ◌≡◌ {A = Option ℕ} (slice_index_or board.spares number None) (Some spare) → (pages ≡ homes) × (slice_get pages number ≡ Some spare)
-  pub some : 0 < board.records → pages ≡ homes
+  pub spare : (number spare : ℕ) → ◌≡◌ {A = Option ℕ} (slice_index_or board.spares number None) (Some spare) → slice_get pages number ≡ Some spare
 
-module _ (tree : TreeView) (stage : StageView) (v : SeatView) (homes pages hs ls sw : List ℕ) (leaves : List Folded) (over : IsOver tree homes pages v.board) (staged : tree.staged ≡ Some stage)
-    (floor : v.board.floor ≡ 2 ^ 32 + stage.records) (at_home : ArePostedHome tree homes v) (folded : HasFolded tree homes v.board.spares leaves v.book.swaps) (closed : IsClosed v hs ls sw) where
+module _ (tree : TreeView) (stage : StageView) (v : SeatView) (pages hs ls sw : List ℕ) (leaves : List Folded) (over : IsOver tree pages v.board) (staged : tree.staged ≡ Some stage)
+    (floor : v.board.floor ≡ 2 ^ 32 + stage.records) (at_home : ArePostedHome tree pages v) (folded : HasFolded tree pages v.board.spares leaves v.book.swaps) (closed : IsClosed v hs ls sw) where
   in_stage : (r : ℕ) (w : WriteView) → slice_get stage.writes r ≡ Some w → slice_get (staged_writes tree.staged) r ≡ Some w
   in_stage r w at = ap (λ (l : List WriteView). slice_get l r) (ap staged_writes staged) ∙ at
 
   within : (r : ℕ) (w : WriteView) → slice_get stage.writes r ≡ Some w → r < v.board.records
   within r w at = omega (arith, over.records, slice_get_within (staged_writes tree.staged) r w (in_stage r w at))
 
-  same_pages : (r : ℕ) (w : WriteView) → slice_get stage.writes r ≡ Some w → pages ≡ homes
-  same_pages r w at = over.some (omega (arith, within r w at))
-
   -- where a record was posted, the home of its key is listed
   home_of : (number r : ℕ) (w : WriteView) → slice_get stage.writes r ≡ Some w → 0 < posts_at number r v.book.posted → IsHomeNumber tree pages w.key number
-  home_of number r w at some = subst (λ (l : List ℕ). IsHomeNumber tree l w.key number) (sym (same_pages r w at)) (at_home number r some w (in_stage r w at))
+  home_of number r w at some = at_home number r some w (in_stage r w at)
 
   in_board : (i p : ℕ) → slice_get pages i ≡ Some p → i < length v.board.first
   in_board i p at = omega (arith, slice_get_within pages i p at, ap (λ (l : List ℕ). length l) over.first, length-map pages (slice_index tree.heads))
 
-  -- a page with a leaf has it in the place of its chain, and then these pages are the homes
-  leaf_at : (p : ℕ) → 0 < times p (pages_of leaves) → (i : ℕ) × ((pages ≡ homes) × (slice_get pages i ≡ Some p) × ◌≡◌ {A = Option ℕ} (slice_index_or v.board.spares i None) (Some p))
+  -- a page with a leaf has it in the place of its chain
+  leaf_at : (p : ℕ) → 0 < times p (pages_of leaves) → (i : ℕ) × ((slice_get pages i ≡ Some p) × ◌≡◌ {A = Option ℕ} (slice_index_or v.board.spares i None) (Some p))
   leaf_at p some =
-      let leaf = leaf_of (IsSpared homes v.board.spares) leaves p folded.spared some in
-      let same = (over.spare leaf.1.0.number leaf.0.page leaf.1.0.spare).0 in (
-        leaf.1.0.number,
-        (same, ap (λ (l : List ℕ). slice_get l leaf.1.0.number) same ∙ leaf.1.0.page ∙ ap Some leaf.1.1, leaf.1.0.spare ∙ ap Some leaf.1.1),
-      )
+      let leaf = leaf_of (IsSpared pages v.board.spares) leaves p folded.spared some in
+      (leaf.1.0.number, (leaf.1.0.page ∙ ap Some leaf.1.1, leaf.1.0.spare ∙ ap Some leaf.1.1))
 
   -- where a chain ends: in the word of its page, or in the leaf that took the place of what stood there
   last_at : (i p : ℕ) (at : slice_get pages i ≡ Some p) → let t = closed.each_page i (in_board i p at) in (times p (pages_of leaves) ≤ 1) × (t.last ≡ slice_index (put_own_words tree.heads leaves) p)
@@ -146,10 +139,10 @@ module _ (tree : TreeView) (stage : StageView) (v : SeatView) (homes pages hs ls
       Ends = (times p (pages_of leaves) ≤ 1) × (t.last ≡ slice_index (put_own_words tree.heads leaves) p)
 
       spare_is : (x : ℕ) → ◌≡◌ {A = Option ℕ} (slice_index_or v.board.spares i None) (Some x) → x ≡ p
-      spare_is x e = one_number (sym (over.spare i x e).1 ∙ at)
+      spare_is x e = one_number (sym (over.spare i x e) ∙ at)
 
-      as_often : pages ≡ homes → times p (pages_of leaves) ≡ times i sw
-      as_often same = folded.won i p (ap (λ (l : List ℕ). slice_get l i) (sym same) ∙ at) ∙ sym t.won_is
+      as_often : times p (pages_of leaves) ≡ times i sw
+      as_often = folded.won i p at ∙ sym t.won_is
 
       by : (times i sw ≡ 0) ⊎ (0 < times i sw) → (times p (pages_of leaves) ≡ 0) ⊎ (0 < times p (pages_of leaves)) → Ends
       by (inl none) (inl no_leaf) = (
@@ -157,12 +150,11 @@ module _ (tree : TreeView) (stage : StageView) (v : SeatView) (homes pages hs ls
         first_stays v.board.first v.board.spares i p t.last (times i sw) spare_is t.is_last t.swapped_is none
             ∙ ap (λ (l : List ℕ). slice_index l i) over.first ∙ word_at tree.heads pages i p at ∙ sym (other_word tree.heads leaves p no_leaf),
       )
-      by (inl none) (inr leaf) = absurd (omega (arith, as_often (leaf_at p leaf).1.0, none, leaf))
+      by (inl none) (inr leaf) = absurd (omega (arith, as_often, none, leaf))
       by (inr some) other =
-          let swapped = swapped_is v.board.first v.board.spares i p t.last (times i sw) spare_is t.is_last t.swapped_is some in
-          let often = as_often (over.spare i t.last swapped.0).0 in (
-            omega (arith, often, few v.board.first v.board.spares i p t.last (times i sw) spare_is t.is_last t.swapped_is),
-            swapped.1 ∙ sym (own_word tree.heads leaves p (listed_there (length tree.heads) pages i p at over.listed.there) (omega (arith, often, some))),
+          let swapped = swapped_is v.board.first v.board.spares i p t.last (times i sw) spare_is t.is_last t.swapped_is some in (
+            omega (arith, as_often, few v.board.first v.board.spares i p t.last (times i sw) spare_is t.is_last t.swapped_is),
+            swapped.1 ∙ sym (own_word tree.heads leaves p (listed_there (length tree.heads) pages i p at over.listed.there) (omega (arith, as_often, some))),
           )
 
   chain_at : (i p : ℕ) → slice_get pages i ≡ Some p → IsPostedTo (with_own_words tree leaves) stage ls (slice_index hs i) p
@@ -203,26 +195,20 @@ module _ (tree : TreeView) (stage : StageView) (v : SeatView) (homes pages hs ls
     where
       by : (times p (pages_of leaves) ≡ 0) ⊎ (0 < times p (pages_of leaves)) → times p (pages_of leaves) ≤ 1
       by (inl none) = omega (arith, none)
-      by (inr some) = let leaf = leaf_at p some in (last_at leaf.0 p leaf.1.1).0
-
-  leaves_listed : (xs : List Folded) → AllByRecursion (IsSpared homes v.board.spares) xs → AllByRecursion (λ f. 0 < times f.page pages) xs
-  leaves_listed [] spared = tt
-  leaves_listed (f ∷ xs) spared =
-      let same = (over.spare spared.0.number f.page spared.0.spare).0 in
-      (subst (λ (l : List ℕ). 0 < times f.page l) (sym same) (listed_times homes spared.0.number f.page spared.0.page), leaves_listed xs spared.1)
+      by (inr some) = let leaf = leaf_at p some in (last_at leaf.0 p leaf.1.0).0
 
   pub posted_beside : stage.adopted ≡ false → IsPostedBeside tree leaves pages hs ls
   posted_beside not_yet = record {
     folded = folded.are;
     once = leaves_once;
-    listed = leaves_listed leaves folded.spared;
+    listed = all_listed pages v.board.spares leaves folded.spared;
     posted = subst (λ (o : Option StageView). IsPostedStageOn (with_own_words tree leaves) o pages hs ls) (sym staged) (not_yet, posted_on);
   }
 
   pub no_leaves : ((n : ℕ) → ◌≡◌ {A = Option ℕ} (slice_index_or v.board.spares n None) None) → leaves ≡ []
   no_leaves none = by leaves folded.spared
     where
-      by : (xs : List Folded) → AllByRecursion (IsSpared homes v.board.spares) xs → xs ≡ []
+      by : (xs : List Folded) → AllByRecursion (IsSpared pages v.board.spares) xs → xs ≡ []
       by [] spared = refl
       by (f ∷ xs) spared = absurd (no_number (sym (none spared.0.number) ∙ spared.0.spare))
 
@@ -230,12 +216,12 @@ pub unadopted : (tree : TreeView) (stage : StageView) → tree.staged ≡ Some s
 unadopted tree stage is waiting = subst IsUnadopted is waiting
 
 -- so a closed board is what the tree adopts
-pub posted_stage : (tree : TreeView) (v : SeatView) (homes pages hs ls sw : List ℕ) (leaves : List Folded) (batch : Staged) → IsUnadopted tree.staged → IsStagedAs tree batch → v.board.floor ≡ batch.floor → IsOver tree homes pages v.board → ArePostedHome tree homes v →
-    HasFolded tree homes v.board.spares leaves v.book.swaps → IsClosed v hs ls sw → IsPostedBeside tree leaves pages hs ls
-posted_stage tree v homes pages hs ls sw leaves batch waiting told floor over at_home folded closed =
-    posted_beside tree told.stage v homes pages hs ls sw leaves over told.is (floor ∙ told.floor) at_home folded closed (unadopted tree told.stage told.is waiting)
+pub posted_stage : (tree : TreeView) (v : SeatView) (pages hs ls sw : List ℕ) (leaves : List Folded) (batch : Staged) → IsUnadopted tree.staged → IsStagedAs tree batch → v.board.floor ≡ batch.floor → IsOver tree pages v.board → ArePostedHome tree pages v →
+    HasFolded tree pages v.board.spares leaves v.book.swaps → IsClosed v hs ls sw → IsPostedBeside tree leaves pages hs ls
+posted_stage tree v pages hs ls sw leaves batch waiting told floor over at_home folded closed =
+    posted_beside tree told.stage v pages hs ls sw leaves over told.is (floor ∙ told.floor) at_home folded closed (unadopted tree told.stage told.is waiting)
 
-module _ (tree : TreeView) (homes pages : List ℕ) (given : List (Option ℕ)) (opened : BoardView) (batch : Staged) (told : IsStagedAs tree batch) (are : ArePostedPages tree homes pages given) (at_homes : ArePages tree homes)
+module _ (tree : TreeView) (pages : List ℕ) (given : List (Option ℕ)) (opened : BoardView) (batch : Staged) (told : IsStagedAs tree batch) (are : ArePages tree pages) (spared : AreSpares tree pages given)
     (first : opened.first ≡ words_of tree.heads pages) (records : opened.records ≡ batch.records) (spares : ◌≡◌ {A = List (Option ℕ)} opened.spares given) where
   staged_are : opened.records ≡ length (staged_writes tree.staged)
   staged_are = records ∙ told.records ∙ ap (λ (o : Option StageView). length (staged_writes o)) (sym told.is)
@@ -244,36 +230,35 @@ module _ (tree : TreeView) (homes pages : List ℕ) (given : List (Option ℕ)) 
   spare_of_page number spare e = ap (λ (l : List (Option ℕ)). slice_index_or l number None) (sym spares) ∙ e
 
   -- a board over a tree's words, with so many records
-  pub is_board_of : IsBoardOf tree homes opened
+  pub is_board_of : IsBoardOf tree pages opened
   is_board_of = record {
-    first = λ some. first ∙ ap (words_of tree.heads) (are.written (omega (arith, some, staged_are)));
+    first = first;
     records = staged_are;
     few = omega (arith, records, told.fits, told.floor);
     spares = λ number spare e.
-        let s = are.spare number spare (spare_of_page number spare e) in
+        let s = spared number spare (spare_of_page number spare e) in
         record {
-          within = omega (arith, slice_get_within pages number spare s.1, ap (λ (l : List ℕ). length l) first, length-map pages (slice_index tree.heads));
-          listed = ap (λ (l : List ℕ). slice_get l number) (sym s.0) ∙ s.1;
-          leaf = s.2;
+          within = omega (arith, slice_get_within pages number spare s.0, ap (λ (l : List ℕ). length l) first, length-map pages (slice_index tree.heads));
+          listed = s.0;
+          leaf = s.1;
         };
-    once = at_homes.once;
+    once = are.once;
   }
 
-  pub is_over : IsOver tree homes pages opened
+  pub is_over : IsOver tree pages opened
   is_over = record {
-    listed = are.are;
+    listed = are;
     first = first;
     records = staged_are;
-    spare = λ number spare e. (let s = are.spare number spare (spare_of_page number spare e) in (s.0, s.1));
-    some = λ some. are.written (omega (arith, some, staged_are));
+    spare = λ number spare e. (spared number spare (spare_of_page number spare e)).0;
   }
 
 -- the spares of a board over a tree's words fit it
-pub spares_fit : (tree : TreeView) (homes pages : List ℕ) (given : List (Option ℕ)) (floor : ℕ) → 2 ^ 32 ≤ floor → ArePostedPages tree homes pages given → (number spare : ℕ) → slice_index_or given number None ≡ Some spare → (spare < floor) × (spare ≡ slice_index (words_of tree.heads pages) number → ⊥)
-spares_fit tree homes pages given floor le are number spare e =
-    let s = are.spare number spare e in
-    let word = word_at tree.heads pages number spare s.1 in
-    (omega (arith, le, s.3), λ same. omega (arith, same, word, s.3, s.4))
+pub spares_fit : (tree : TreeView) (pages : List ℕ) (given : List (Option ℕ)) (floor : ℕ) → 2 ^ 32 ≤ floor → AreSpares tree pages given → (number spare : ℕ) → slice_index_or given number None ≡ Some spare → (spare < floor) × (spare ≡ slice_index (words_of tree.heads pages) number → ⊥)
+spares_fit tree pages given floor le are number spare e =
+    let s = are number spare e in
+    let word = word_at tree.heads pages number spare s.0 in
+    (omega (arith, le, s.2), λ same. omega (arith, same, word, s.2, s.3))
 
 pub no_spare : (given : List (Option ℕ)) → given ≡ [] → (n : ℕ) → ◌≡◌ {A = Option ℕ} (slice_index_or given n None) None
 no_spare given none n = ap (λ (l : List (Option ℕ)). slice_index_or l n None) none ∙ nothing n

@@ -13,7 +13,7 @@ use Rattle.bw_level.proofs.RowLemmas.{in_row}
 use Rattle.bw_look.specs.Folding.{ripe_from, spare_of}
 use Rattle.bw_look.specs.View.{TreeView}
 use Rattle.bw_tree.specs.PageWords.{ArePages}
-use Rattle.bw_post.specs.Posting.{ArePostedPages}
+use Rattle.bw_post.specs.Posting.{AreSpares}
 use Rattle.bw_post.proofs.Folds.{no_number, one_number}
 
 -- what stands at a place of a list that is made of another one
@@ -69,30 +69,21 @@ leaf_with_writes tree p lawful stand some = by (slot_at tree.slots p) refl some
     by (Gone l) is writes = absurd (empty 0 writes)
     by Free is writes = absurd (empty 0 writes)
 
-pages_listed : (tree : TreeView) (homes pages : List ℕ) (given : List (Option ℕ)) (chain_max : ℕ) → ArePages tree homes → pages ≡ homes → given ≡ map (spare_of tree chain_max) pages → AreLevels tree.slots tree.root tree.levels → AllStand tree.slots tree.levels →
-    ((p : ℕ) → slice_index tree.heads p < 2 ^ 32 → writes_over (slot_at tree.slots p) ≡ []) → length tree.heads ≤ 2 ^ 32 → ArePostedPages tree homes pages given
-pages_listed tree homes pages given chain_max are same made lawful stand bare few = record {
-  are = subst (ArePages tree) (sym same) are;
-  written = λ some. same;
-  spare = λ number spare e. (
-      let at = made_at (spare_of tree chain_max) pages number spare (ap (λ (l : List (Option ℕ)). slice_index_or l number None) (sym made) ∙ e) in
-      let is = spare_is tree chain_max at.0 spare at.1.1 in
-      let listed : slice_get pages number ≡ Some spare = at.1.0 ∙ ap Some is.0 in
-      let writes : 0 < length (writes_over (slot_at tree.slots spare)) = subst (λ (p : ℕ). 0 < length (writes_over (slot_at tree.slots p))) is.0 is.1 in
-      let there : spare < length tree.heads = there_at (length tree.heads) pages number spare listed (subst (ArePages tree) (sym same) are).there in
-      (same, listed, leaf_with_writes tree spare lawful stand writes, omega (arith, there, few), high spare writes (cases_lt (slice_index tree.heads spare) 4294967296))
-      );
-}
+made_spares : (tree : TreeView) (pages : List ℕ) (given : List (Option ℕ)) (chain_max : ℕ) → ArePages tree pages → given ≡ map (spare_of tree chain_max) pages → AreLevels tree.slots tree.root tree.levels → AllStand tree.slots tree.levels →
+    ((p : ℕ) → slice_index tree.heads p < 2 ^ 32 → writes_over (slot_at tree.slots p) ≡ []) → length tree.heads ≤ 2 ^ 32 → AreSpares tree pages given
+made_spares tree pages given chain_max are made lawful stand bare few number spare e =
+    let at = made_at (spare_of tree chain_max) pages number spare (ap (λ (l : List (Option ℕ)). slice_index_or l number None) (sym made) ∙ e) in
+    let is = spare_is tree chain_max at.0 spare at.1.1 in
+    let listed : slice_get pages number ≡ Some spare = at.1.0 ∙ ap Some is.0 in
+    let writes : 0 < length (writes_over (slot_at tree.slots spare)) = subst (λ (p : ℕ). 0 < length (writes_over (slot_at tree.slots p))) is.0 is.1 in
+    let there : spare < length tree.heads = there_at (length tree.heads) pages number spare listed are.there in
+    (listed, leaf_with_writes tree spare lawful stand writes, omega (arith, there, few), high spare writes (cases_lt (slice_index tree.heads spare) (2 ^ 32)))
   where
-    high : (p : ℕ) → 0 < length (writes_over (slot_at tree.slots p)) → (slice_index tree.heads p < 4294967296) ⊎ (4294967296 ≤ slice_index tree.heads p) → 2 ^ 32 ≤ slice_index tree.heads p
+    high : (p : ℕ) → 0 < length (writes_over (slot_at tree.slots p)) → (slice_index tree.heads p < 2 ^ 32) ⊎ (2 ^ 32 ≤ slice_index tree.heads p) → 2 ^ 32 ≤ slice_index tree.heads p
     high p some (inl lt) = absurd (omega (arith, some, ap (λ (l : List WriteView). length l) (bare p (omega (arith, lt)))))
     high p some (inr ge) = omega (arith, ge)
 
-pub pages_spared : (tree : TreeView) (homes pages : List ℕ) (given : List (Option ℕ)) (chain_max : ℕ) → ArePages tree homes → pages ≡ homes → (given ≡ []) ⊎ (given ≡ map (spare_of tree chain_max) pages) → AreLevels tree.slots tree.root tree.levels → AllStand tree.slots tree.levels →
-    ((p : ℕ) → slice_index tree.heads p < 2 ^ 32 → writes_over (slot_at tree.slots p) ≡ []) → length tree.heads ≤ 2 ^ 32 → ArePostedPages tree homes pages given
-pages_spared tree homes pages given chain_max are same (inl none) lawful stand bare few = record {
-  are = subst (ArePages tree) (sym same) are;
-  written = λ some. same;
-  spare = λ number spare e. absurd (no_number (sym (ap (λ (l : List (Option ℕ)). slice_index_or l number None) none) ∙ e));
-}
-pages_spared tree homes pages given chain_max are same (inr made) lawful stand bare few = pages_listed tree homes pages given chain_max are same made lawful stand bare few
+pub page_spares : (tree : TreeView) (pages : List ℕ) (given : List (Option ℕ)) (chain_max : ℕ) → ArePages tree pages → (given ≡ []) ⊎ (given ≡ map (spare_of tree chain_max) pages) → AreLevels tree.slots tree.root tree.levels → AllStand tree.slots tree.levels →
+    ((p : ℕ) → slice_index tree.heads p < 2 ^ 32 → writes_over (slot_at tree.slots p) ≡ []) → length tree.heads ≤ 2 ^ 32 → AreSpares tree pages given
+page_spares tree pages given chain_max are (inl none) lawful stand bare few number spare e = absurd (no_number (sym (ap (λ (l : List (Option ℕ)). slice_index_or l number None) none) ∙ e))
+page_spares tree pages given chain_max are (inr made) lawful stand bare few number spare e = made_spares tree pages given chain_max are made lawful stand bare few number spare e

@@ -17,7 +17,7 @@ use Rattle.bw_look.specs.declared.folded.Folded.{Folded}
 use Rattle.bw_tree.specs.Beside.{AreFolded, with_own_words}
 use Rattle.bw_tree.specs.Levels.{row}
 use Rattle.bw_look.specs.View.{TreeView, StageView, staged_writes}
-use Rattle.bw_tree.specs.PageWords.{ArePages, IsPostedStageOn, words_of}
+use Rattle.bw_tree.specs.PageWords.{IsPostedStageOn, words_of}
 
 -- the writes of these operations are staged, and not adopted
 abbrev pub IsWaiting : TreeView → Option StageView → List Op → Type 0
@@ -37,13 +37,11 @@ pub record IsPostedBeside (tree : TreeView) (leaves : List Folded) (pages heads 
   pub listed : AllByRecursion (λ f. 0 < times f.page pages) leaves
   pub posted : IsPostedStageOn (with_own_words tree leaves) tree.staged pages heads links
 
--- Pages over whose words a batch is posted, with their spares: the homes' where a write is staged, or where there are spares.
-pub record ArePostedPages (tree : TreeView) (homes pages : List ℕ) (given : List (Option ℕ)) : Type 0 where
-  pub are : ArePages tree pages
-  pub written : 0 < length (staged_writes tree.staged) → pages ≡ homes
-  pub spare : (number spare : ℕ) → slice_index_or given number None ≡ Some spare →
-      (pages ≡ homes) × (slice_get pages number ≡ Some spare) × Contains (row tree.levels 0) spare
-      × (spare < 2 ^ 32) × (2 ^ 32 ≤ slice_index tree.heads spare)
+-- spares for some of these pages: each is the number of its page, a leaf, whose mapping word is another one
+abbrev pub AreSpares : TreeView → List ℕ → List (Option ℕ) → Type 0
+AreSpares tree pages given = (number spare : ℕ) → slice_index_or given number None ≡ Some spare →
+    (slice_get pages number ≡ Some spare) × Contains (row tree.levels 0) spare
+    × (spare < 2 ^ 32) × (2 ^ 32 ≤ slice_index tree.heads spare)
 
 -- a spare of the board is the number of the page itself, one of these, which is a leaf
 pub record IsSpare (tree : TreeView) (pages : List ℕ) (board : BoardView) (number spare : ℕ) : Type 0 where
@@ -51,10 +49,9 @@ pub record IsSpare (tree : TreeView) (pages : List ℕ) (board : BoardView) (num
   pub listed : slice_get pages number ≡ Some spare
   pub leaf : Contains (row tree.levels 0) spare
 
--- The board has a record for each staged write, and its spares are of leaves; where there is a record, it is over the mapping
--- words of these pages.
+-- the board is over the mapping words of these pages, it has a record for each staged write, and its spares are of leaves
 pub record IsBoardOf (tree : TreeView) (pages : List ℕ) (board : BoardView) : Type 0 where
-  pub first : 0 < board.records → board.first ≡ words_of tree.heads pages
+  pub first : board.first ≡ words_of tree.heads pages
   pub records : board.records ≡ length (staged_writes tree.staged)
   pub few : board.records ≤ 2 ^ 32
   pub spares : (number spare : ℕ) → slice_index_or board.spares number None ≡ Some spare →

@@ -6,7 +6,7 @@ ghost use Rattle.bw_look.specs.Folding.{spare_of};
 ghost use Rattle.bw_look.specs.View.{staged_writes};
 ghost use Rattle.bw_tree.specs.PageWords.{ArePages, IsPostedStageOn, words_of};
 ghost use Rattle.bw_group.specs.Homes.{AreHomes};
-ghost use Rattle.bw_post.specs.Posting.{ArePostedPages, AreStagedHomes, IsPostedBeside, IsUnadopted, IsWaiting};
+ghost use Rattle.bw_post.specs.Posting.{AreSpares, AreStagedHomes, IsPostedBeside, IsUnadopted, IsWaiting};
 
 use crate::gates::Gate;
 use crate::workers::{Worker, join_workers, post_side_by_side, seat_workers};
@@ -70,8 +70,7 @@ pub fn post_all<R: Threads + Sync, G: Gate>(
     if staged.records == 0 {
         return Ok(nothing_posted(alloc, homes));
     }
-    let written = Vec::from_slice(alloc, homes.pages())?;
-    post_over(rt, alloc, tree, homes, written, &[], piece, workers, gate)
+    post_over(rt, alloc, tree, homes, &[], piece, workers, gate)
 }
 
 /// The same, over a board of all pages of the batch, where leaves of these pages whose chains have at least half as many writes
@@ -103,18 +102,16 @@ pub fn post_beside<R: Threads + Sync, G: Gate>(
     tree.know_levels();
     tree.know_records();
     let homes = find_homes(rt, alloc, tree, batch, workers)?;
-    let pages = Vec::from_slice(alloc, homes.pages())?;
-    let spares = ripe_spares(tree, &pages, chain_max)?;
-    post_over(rt, alloc, tree, homes, pages, &spares, piece, workers, gate)
+    let spares = ripe_spares(tree, homes.pages(), chain_max)?;
+    post_over(rt, alloc, tree, homes, &spares, piece, workers, gate)
 }
 
-// Posts over a board of these pages, with these spares.
+// Posts over a board of the pages of the batch, with these spares.
 fn post_over<R: Threads + Sync, G: Gate>(
     rt: &R,
     alloc: Alloc,
     tree: &Tree,
     homes: Homes,
-    pages: Vec<PageId, Alloc>,
     spares: &[Option<u64>],
     piece: u64,
     workers: u64,
@@ -122,11 +119,11 @@ fn post_over<R: Threads + Sync, G: Gate>(
 ) -> Result<Posting, Memory>
     requires waiting { IsUnadopted tree.now.staged }
     requires staged { AreStagedHomes tree.now homes }
-    requires homes { ArePages tree.now homes.pages }
-    requires pages { ArePostedPages tree.now homes.pages pages.items spares.now }
+    requires pages { ArePages tree.now homes.pages }
+    requires spares { AreSpares tree.now homes.pages spares.now }
     requires piece { (0 < piece) × (piece ≤ 4096) }
     ensures homes { IfOk result (λ posting. posting.homes ≡ homes) }
-    ensures pages { IfOk result (λ posting. posting.pages.items ≡ pages.entry.items) }
+    ensures pages { IfOk result (λ posting. posting.pages.items ≡ homes.pages) }
     ensures posted { IfOk result (λ posting. IsPostedBeside tree.now posting.folded.items posting.pages.items
         posting.closed.heads posting.closed.links) }
     ensures none { spares.now ≡ [] → IfOk result (λ posting. posting.folded.items ≡ []) }
@@ -136,7 +133,7 @@ fn post_over<R: Threads + Sync, G: Gate>(
         IfOk result (λ posting. posting.lost ≤ pairs_of (length (staged_writes tree.now.staged))) }
 {
     let staged = tree.staged().unwrap();
-    let heads = heads_of(alloc, tree, &pages)?;
+    let heads = heads_of(alloc, tree, homes.pages())?;
     let (board, seat) = Board::open(alloc, &heads, staged.floor, staged.records, piece, spares)?;
     let ripe = spares.iter().filter(|spare| spare.is_some()).count() as u64;
     let tasks = staged.records.div_ceil(piece).max(ripe);
@@ -144,6 +141,7 @@ fn post_over<R: Threads + Sync, G: Gate>(
     post_side_by_side(rt, tree, &homes, &board, spares, gate, &mut crew);
     let Worker { seat, lost, folded } = join_workers(tree, &homes, &board, crew)?;
     let closed = board.close(seat)?;
+    let pages = Vec::from_slice(alloc, homes.pages())?;
     Ok(Posting {
         homes,
         pages,

@@ -1,5 +1,5 @@
 // Leaves that a worker consolidates beside the posting, before its first claim.
-ghost use Rattle.std.specs.Prelude.{◌≡◌, ◌≢◌, ℕ, ◌<◌, None, length, slice_index_or};
+ghost use Rattle.std.specs.Prelude.{◌≡◌, ◌≢◌, ℕ, ◌<◌, None, slice_index_or};
 ghost use Rattle.bw_core.specs.World.{tries_in};
 ghost use Rattle.bw_post.specs.Posting.{HasClaimedNothing, IsBoardOf, IsNew, width_of};
 
