@@ -56,6 +56,34 @@ pub fn six_reads<R: Abort>(rt: &R, alloc: Alloc) -> [Op; 6]
     ]
 }
 
+// A scan for two pairs from b on.
+fn scan_from_b<R: Abort>(rt: &R, alloc: Alloc) -> Op
+    ensures { write_of result ≡ None }
+{
+    Op::Scan {
+        from: key_of(rt, alloc, b"b"),
+        to: None,
+        most: 2,
+    }
+}
+
+/// Four scans for two pairs from b on: they meet on two leaves.
+pub fn four_scans<R: Abort>(rt: &R, alloc: Alloc) -> [Op; 4]
+    ensures { AllByRecursion (λ op. write_of op ≡ None) result }
+{
+    [
+        scan_from_b(rt, alloc),
+        scan_from_b(rt, alloc),
+        scan_from_b(rt, alloc),
+        scan_from_b(rt, alloc),
+    ]
+}
+
+/// The reply to each of the four scans.
+pub fn scan_reply<R: Abort>(rt: &R, alloc: Alloc) -> Reply {
+    Reply::Pairs(b_and_c(rt, alloc, true))
+}
+
 // The pair of a key and its value.
 fn pair_of<R: Abort>(rt: &R, alloc: Alloc, at: &[u8], bytes: &[u8]) -> (Key, Value) {
     pair(alloc, at, bytes).expect(rt, "memory")

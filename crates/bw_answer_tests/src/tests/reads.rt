@@ -5,14 +5,14 @@ ghost use Rattle.bw_delta.specs.Batches.{write_of};
 ghost use Rattle.bw_look.specs.View.{contents_at};
 
 use super::making::{
-    memory, reads, replies_by_parts, replies_by_workers, six_reads, six_replies, three,
+    four_scans, memory, reads, replies_by_parts, replies_by_workers, scan_reply, six_reads,
+    six_replies, three,
 };
 use crate::tests::assertions::{assert_equal, assert_that};
 use bw_fixtures::was_refused;
 use bw_memory::Alloc;
 use bw_model::{Op, Reply};
 use bw_tree::Tree;
-use std::alloc::Global;
 use std::process::Abort;
 use std::thread::Threads;
 
@@ -55,13 +55,13 @@ fn each_read_is_answered_at_its_place(rt: HostRuntime) {
     }
 }
 
-// Answers the six reads in so many parts where this growth is refused, if it comes, and compares the replies. Whether it was
-// refused.
+// Answers reads in so many parts where this growth is refused, if it comes, and compares the replies. Whether it was refused.
 fn answers_in_parts<R: Abort + Threads + Sync>(
     rt: &R,
     alloc: Alloc,
     tree: &Tree,
     ops: &[Op],
+    wanted: &[Reply],
     count: usize,
     growth: u64,
 ) -> bool
@@ -76,7 +76,7 @@ fn answers_in_parts<R: Abort + Threads + Sync>(
         assert_that(rt, replies.is_err());
         return true;
     }
-    compare_six(rt, alloc, replies.expect(rt, "memory").as_slice());
+    compare(rt, replies.expect(rt, "memory").as_slice(), wanted);
     false
 }
 
@@ -88,8 +88,10 @@ fn each_read_is_answered_in_parts(rt: HostRuntime) {
     let alloc = memory(&rt, rt.alloc());
     let tree = three(&rt, alloc);
     let ops = six_reads(&rt, alloc);
+    let wanted = six_replies(&rt, alloc);
     for count in [1, 2, 3, 64] {
-        assert_that(&rt, !answers_in_parts(&rt, alloc, &tree, &ops, count, MANY));
+        let refused = answers_in_parts(&rt, alloc, &tree, &ops, &wanted, count, MANY);
+        assert_that(&rt, !refused);
     }
 }
 
@@ -150,15 +152,21 @@ fn a_batch_of_no_operations_has_no_replies(rt: HostRuntime) {
     assert_equal(&rt, replies.as_slice().len(), 0);
 }
 
-// Refuses each growth of the replies in so many parts, until none is left to refuse.
-fn refuse_each<R: Abort + Threads + Sync>(rt: &R, global: Global, count: usize)
-    requires { 0 < count }
+// Refuses each growth of the replies to reads in so many parts, until none is left to refuse.
+fn refuse_each<R: Abort + Threads + Sync>(
+    rt: &R,
+    alloc: Alloc,
+    ops: &[Op],
+    wanted: &[Reply],
+    count: usize,
+)
+    requires reads { AllByRecursion (λ op. write_of op ≡ None) ops.now }
+    requires few { length ops.now ≤ 20000 }
+    requires count { 0 < count }
 {
-    let alloc = memory(rt, global);
     let tree = three(rt, alloc);
-    let ops = six_reads(rt, alloc);
     for growth in 1..200 {
-        if !answers_in_parts(rt, alloc, &tree, &ops, count, growth) {
+        if !answers_in_parts(rt, alloc, &tree, ops, wanted, count, growth) {
             assert_that(rt, growth > 9);
             return;
         }
@@ -168,10 +176,24 @@ fn refuse_each<R: Abort + Threads + Sync>(rt: &R, global: Global, count: usize)
 
 #[test]
 fn each_growth_of_replies_is_refused(rt: HostRuntime) {
-    refuse_each(&rt, rt.alloc(), 1);
+    let alloc = memory(&rt, rt.alloc());
+    let ops = six_reads(&rt, alloc);
+    let wanted = six_replies(&rt, alloc);
+    for count in [1, 4] {
+        refuse_each(&rt, alloc, &ops, &wanted, count);
+    }
 }
 
+// Over leaves without writes: what is refused is room for the scans, and for what they find.
 #[test]
-fn each_growth_of_replies_in_parts_is_refused(rt: HostRuntime) {
-    refuse_each(&rt, rt.alloc(), 4);
+fn each_growth_of_scans_that_share_leaves_is_refused(rt: HostRuntime) {
+    let alloc = memory(&rt, rt.alloc());
+    let ops = four_scans(&rt, alloc);
+    let wanted = [
+        scan_reply(&rt, alloc),
+        scan_reply(&rt, alloc),
+        scan_reply(&rt, alloc),
+        scan_reply(&rt, alloc),
+    ];
+    refuse_each(&rt, alloc, &ops, &wanted, 1);
 }
