@@ -3,12 +3,10 @@ ghost use Rattle.std.specs.Prelude.{◌≡◌, ◌<◌, ◌≤◌, ◌^◌, fals
 ghost use Rattle.std.specs.List.{AllByRecursion};
 ghost use Rattle.std.specs.List.Sorted.{IsSortedBy};
 ghost use Rattle.std.specs.Ordering.{is_lt};
-ghost use Rattle.std.specs.Option.{option_copied};
 ghost use Rattle.bw_key.specs.Order.{key_cmp, key_eq};
 ghost use Rattle.bw_group.specs.Points.{AreGrouped, HasKey, HaveSameOfKeys, IsPointOf};
 ghost use Rattle.bw_group.specs.Points.{entries_from, entries_in, entries_of, key_at, scans_from};
 ghost use Rattle.bw_group.specs.declared.points.Point.{Point};
-ghost use Rattle.bw_model.specs.Model.{key_of};
 
 use crate::points::Point;
 use crate::ranks::sorted_by_rank;

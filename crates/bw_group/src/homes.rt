@@ -1,15 +1,12 @@
 // The homes of a batch, and the runs of points that are at home on one page.
 ghost use Rattle.std.specs.Prelude.{◌≡◌, ◌≢◌, ◌<◌, ◌≤◌, false, Some, T, length, slice_get, IfOk, IfSome};
-ghost use Rattle.std.specs.List.{AllByRecursion, Contains};
+ghost use Rattle.std.specs.List.{AllByRecursion};
 ghost use Rattle.std.specs.List.Sorted.{IsSortedBy};
 ghost use Rattle.std.specs.Option.{option_copied};
 ghost use Rattle.std.specs.Ordering.{is_lt};
 ghost use Rattle.bw_key.specs.Order.{key_cmp};
 ghost use Rattle.bw_key.specs.Prefixes.{key_prefix};
 ghost use Rattle.bw_model.specs.Contents.{is_below_end};
-ghost use Rattle.bw_tree.specs.Levels.{IsOneHome, row};
-ghost use Rattle.bw_tree.specs.Slots.{slot_at};
-ghost use Rattle.bw_tree.specs.Scans.{high_of};
 ghost use Rattle.bw_group.specs.Points.{entries_in, entries_of, key_at, place_at};
 ghost use Rattle.bw_group.specs.FoundRuns.{IsFoundRun};
 ghost use Rattle.bw_group.specs.Homes.{AreHomes, HasPageAt, IsPageAt, number_of, with_number};

@@ -26,7 +26,7 @@ use Rattle.bw_level.specs.Splits.{slot_entries}
 use Rattle.bw_level.proofs.HomeLemmas.{home_value}
 use Rattle.bw_look.specs.Shapes.{pairs_on}
 use Rattle.bw_look.specs.View.{TreeView, contents_at}
-use Rattle.bw_look.proofs.ScanLemmas.{leaf_in_row}
+use Rattle.bw_look.proofs.LeafRangeLemmas.{leaf_in_row}
 use Rattle.bw_look.proofs.ShapeLemmas.{leaf_there}
 
 untrue : false ≡ true → ⊥

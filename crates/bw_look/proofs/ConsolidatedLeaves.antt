@@ -22,7 +22,7 @@ use Rattle.bw_level.specs.Reading.{row_writes}
 use Rattle.bw_level.proofs.RowLemmas.{first_stands}
 use Rattle.bw_level.proofs.LeafRowLemmas.{HasKey, one_has, wide_of}
 use Rattle.bw_look.proofs.RangeLemmas.{all_of_those}
-use Rattle.bw_look.proofs.ScanLemmas.{leaf_in_row, leaf_pairs}
+use Rattle.bw_look.proofs.LeafRangeLemmas.{leaf_in_row, leaf_pairs}
 
 pub high_is : (slots : List Slot) (level : ℕ) (low : KeyBytes) (high : Option KeyBytes) (side : Option ℕ) (p : ℕ) → Stands slots level low high side p → high_of (slot_at slots p) ≡ high
 high_is slots level low high side p st = ap high_of st.is ∙ st.to_high

@@ -5,17 +5,15 @@ use Rattle.std.proofs.lemmas.Option.{slice_get-get_or}
 use Rattle.std.specs.List.{Contains}
 use Rattle.std.specs.Prelude.{slice_get, slice_index}
 use Rattle.bw_key.specs.Order.{KeyBytes}
-use Rattle.bw_delta.specs.declared.deltas.Delta.{Delta}
 use Rattle.bw_level.specs.Changes.{Bases, based}
 use Rattle.bw_level.specs.Freeing.{IsUnreached}
-use Rattle.bw_level.specs.Levels.{Stands, levels_under, row}
+use Rattle.bw_level.specs.Levels.{levels_under, row}
 use Rattle.bw_level.specs.Searches.{IsInLevels}
-use Rattle.bw_level.specs.Slots.{Slot, PageState, Body, Pairs, Children, Live, IsSoundBody, children_of, level_of, side_of_slot, slot_at}
-use Rattle.bw_level.specs.Walk.{Leads}
+use Rattle.bw_level.specs.Slots.{Slot, Body, Pairs, Children, Live, IsSoundBody, children_of, level_of, side_of_slot}
 use Rattle.bw_level.proofs.RowLemmas.{InRow, in_row}
 use Rattle.bw_level.proofs.WalkLemmas.{walked_is}
 use Rattle.bw_chain.specs.Chains.{EndsAt, Records, changed, deltas_at, link_of, slots_of, slot_of_word}
-use Rattle.bw_chain.specs.DeltaNames.{HasDeltaNaming, page_named}
+use Rattle.bw_chain.specs.DeltaNames.{HasDeltaNaming}
 use Rattle.bw_chain.proofs.AdditionLemmas.{slot_here}
 use Rattle.bw_chain.proofs.ChainLemmas.{no_link, slot_of_way}
 use Rattle.bw_chain.proofs.DeltaNameLemmas.{Names, delta_named}

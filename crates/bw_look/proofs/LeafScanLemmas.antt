@@ -1,24 +1,20 @@
 -- A leaf of a tree, from its mapping word, and what a scan makes of it.
-use Rattle.std.proofs.Common.{◌≡◌, ℕ, ◌<◌, true, false, T, List, length, get_or, Option, Some, None, MatchOption, Result, Ok, Err, IfOk, refl, sym, ap, ◌∙◌, subst, arith}
+use Rattle.std.proofs.Common.{◌≡◌, ℕ, ◌<◌, true, false, List, length, get_or, Option, Result, Ok, Err, IfOk, sym, ap, subst, arith}
 use Rattle.std.proofs.lemmas.List.{length-map}
 use Rattle.std.specs.List.{Contains}
-use Rattle.bw_key.specs.Order.{KeyBytes}
-use Rattle.bw_model.specs.Contents.{is_below_end}
 use Rattle.bw_delta.specs.History.{HasDistinctStamps}
-use Rattle.bw_level.specs.Slots.{Slot, slot_at, is_leaf, side_of_slot}
+use Rattle.bw_level.specs.Slots.{Slot, slot_at, is_leaf}
 use Rattle.bw_chain.specs.declared.leaf_chain.LeafChain.{LeafChain}
 use Rattle.bw_chain.specs.LeafChains.{IsLeafChain}
 use Rattle.bw_level.specs.Levels.{AreLevels, row}
 use Rattle.bw_level.specs.Reading.{writes_over, row_writes}
-use Rattle.bw_level.specs.Scans.{Reaches, high_of}
 use Rattle.bw_level.specs.Changes.{Bases}
 use Rattle.bw_chain.specs.Chains.{Records, Ends, slot_of_word, slots_of}
 use Rattle.bw_look.specs.View.{ArePairsUnder, TreeView}
 use Rattle.bw_look.specs.Trees.{IsStanding, StageWords, view_of}
-use Rattle.bw_level.proofs.RowLemmas.{InRow}
 use Rattle.bw_level.proofs.RouteLemmas.{home_leaf}
 use Rattle.bw_look.proofs.ContentsLemmas.{found_at}
-use Rattle.bw_look.proofs.ScanLemmas.{page_distinct, leaf_in_row, own_home}
+use Rattle.bw_look.proofs.LeafRangeLemmas.{page_distinct, own_home}
 
 different : false ≡ true → ⊥
 different e = cc

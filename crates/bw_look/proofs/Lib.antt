@@ -1,11 +1,7 @@
 pub mod ContentsLemmas
-pub mod BackLemmas
 pub mod RangeLemmas
-pub mod GapLemmas
-pub mod ScanLemmas
+pub mod LeafRangeLemmas
 pub mod LeafScanLemmas
-pub mod ReplayLemmas
-pub mod CursorLemmas
 pub mod WordLemmas
 pub mod PutLemmas
 pub mod StagedLemmas

@@ -23,7 +23,7 @@ use Rattle.bw_look.specs.Shapes.{page_shape, pairs_on}
 use Rattle.bw_look.specs.View.{TreeView, contents_at}
 use Rattle.bw_look.specs.declared.look.shape.PageShape.{PageShape}
 use Rattle.bw_look.proofs.ConsolidatedLeaves.{first_home, pairs_here, high_is, row_ends, side_is}
-use Rattle.bw_look.proofs.ScanLemmas.{leaf_in_row}
+use Rattle.bw_look.proofs.LeafRangeLemmas.{leaf_in_row}
 
 -- a page of these parts
 abbrev pub of_parts : ℕ → ℕ → KeyBytes → Option KeyBytes → ℕ → ℕ → PageShape

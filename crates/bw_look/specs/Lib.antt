@@ -3,9 +3,6 @@ pub mod Trees
 pub mod Folding
 pub mod Words
 pub mod StagedBatches
-pub mod Gaps
-pub mod Replaying
-pub mod Cursors
 pub mod Routing
 pub mod PageStates
 pub mod Shapes

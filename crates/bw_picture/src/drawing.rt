@@ -1,7 +1,7 @@
 // The whole picture.
 ghost use Rattle.std.specs.Prelude.{◌≡◌, ◌++◌, OnOk, IfOk};
 ghost use Rattle.bw_picture.specs.Layout.{first_spot};
-ghost use Rattle.bw_picture.specs.Pictures.{place_text, page_text, pages_text, head_text, ground_text, picture_text};
+ghost use Rattle.bw_picture.specs.Pictures.{place_text, page_text, pages_text, head_text, picture_text};
 
 use crate::drawn_pages::{push_body, push_bracket};
 use crate::layout::{

@@ -1,7 +1,6 @@
 // Where pages stand in a picture.
-ghost use Rattle.std.specs.Prelude.{◌≡◌, length};
+ghost use Rattle.std.specs.Prelude.{◌≡◌};
 ghost use Rattle.std.specs.Option.{option_copied};
-ghost use Rattle.bw_text.specs.Spelling.{high_text, spelled};
 ghost use Rattle.bw_picture.specs.Layout.{letters_of, extent_with, extent_behind, no_extent, wide_of, frame_of, x_of, width_of, height_of, y_of, is_leaf_below, column_from, spot_of, first_spot, span_of};
 
 use crate::keys::{end_letters, key_letters};

@@ -19,7 +19,7 @@ use Rattle.bw_level.specs.Slots.{Slot, PageState, Body, Pairs, Children, Free, G
 use Rattle.bw_level.proofs.AboveLemmas.{one_above}
 use Rattle.bw_level.proofs.IndexLemmas.{one_child}
 use Rattle.bw_level.proofs.RowLemmas.{InRow, in_row}
-use Rattle.bw_look.specs.RemovedPages.{HasNoNamerOfRemoved, IsNamerOfRemoved}
+use Rattle.bw_look.specs.RemovedPages.{HasNoNamerOfRemoved}
 use Rattle.bw_look.specs.Routing.{IsInLevel}
 use Rattle.bw_look.specs.View.{TreeView}
 use Rattle.bw_look.proofs.PageLemmas.{entry_home}

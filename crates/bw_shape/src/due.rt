@@ -1,6 +1,5 @@
 // The pages that tidying is to look at.
-ghost use Rattle.std.specs.Prelude.{◌≡◌, ℕ, ◌+◌, ◌<◌, ◌≤◌, ◌^◌, true, false, [], ◌∷◌, ◌++◌, None, Some, length, reverse, slice_index, take, MatchOption, IsOk, IfOk, OnOk, OnErr};
-ghost use Rattle.std.specs.List.{Contains};
+ghost use Rattle.std.specs.Prelude.{◌≡◌, ℕ, ◌+◌, ◌<◌, ◌≤◌, true, false, [], ◌∷◌, ◌++◌, None, Some, length, reverse, take, MatchOption, IsOk, IfOk, OnOk, OnErr};
 ghost use Rattle.bw_look.specs.RemovedPages.{HasNoNamerOfRemoved};
 ghost use Rattle.bw_tree.specs.TreeSplits.{IsSplittable};
 ghost use Rattle.bw_steps.specs.Releasing.{AreFreed, IsLeftOut, IsLeftToFree};

@@ -1,5 +1,5 @@
 // The steps by which a tree changes its pages.
-ghost use Rattle.std.specs.Prelude.{◌≡◌, ◌<◌, ◌≤◌, ◌^◌, true, false, None, Decides, MatchOption, IfOk, OnOk, OnErr, length, slice_index};
+ghost use Rattle.std.specs.Prelude.{◌≡◌, ◌<◌, ◌≤◌, ◌^◌, true, false, None, Decides, MatchOption, IfOk, OnOk, OnErr, slice_index};
 ghost use Rattle.std.specs.List.{Contains};
 ghost use Rattle.bw_level.specs.Children.{FitsChild};
 ghost use Rattle.bw_level.specs.Levels.{row};

@@ -1,5 +1,5 @@
 // What a worker finds of a page that is due.
-ghost use Rattle.std.specs.Prelude.{◌≡◌, ℕ, ◌≤◌, true, false, is_some, length, IfSome};
+ghost use Rattle.std.specs.Prelude.{◌≡◌, ◌≤◌, true, false, is_some, length, IfSome};
 ghost use Rattle.bw_look.specs.Routing.{IsInLevel};
 ghost use Rattle.bw_tidy.specs.Findings.{IsFinding, IsLeafAt};
 

@@ -1,5 +1,5 @@
 // Workers who look at the pages that are due.
-ghost use Rattle.std.specs.Prelude.{◌≡◌, ℕ, ◌<◌, false, true, None, [], ◌∷◌, length, map, IfOk, OnOk};
+ghost use Rattle.std.specs.Prelude.{◌≡◌, ◌<◌, false, None, [], ◌∷◌, map, IfOk, OnOk};
 ghost use Rattle.std.specs.List.{AllByRecursion};
 ghost use Rattle.bw_shape.specs.Limits.{AreWithinBut};
 ghost use Rattle.bw_shape.specs.Sweeps.{HoldsSame};

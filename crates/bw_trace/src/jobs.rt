@@ -1,5 +1,5 @@
 // Running a trace.
-ghost use Rattle.std.specs.Prelude.{◌≡◌, ℕ, [], ◌++◌, ◌+◌, ◌<◌, ◌≤◌, ◌^◌, List, IfOk, IfErr, IfSome, OnOk, IsErrOf, None, true};
+ghost use Rattle.std.specs.Prelude.{◌≡◌, ℕ, [], ◌++◌, ◌+◌, ◌<◌, List, IfOk, IfErr, IfSome, OnOk, IsErrOf, None, true};
 ghost use Rattle.std.specs.Io.KnownBytes.{Appends, Consumes, IsAtEnd};
 ghost use Rattle.bw_batch.specs.Outcomes.{outcome_of};
 ghost use Rattle.bw_batch.specs.View.{contents_of, settings_of};

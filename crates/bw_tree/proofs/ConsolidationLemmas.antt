@@ -44,7 +44,7 @@ use Rattle.bw_look.specs.View.{StageView, TreeView, contents_at}
 use Rattle.bw_look.proofs.RoutingLemmas.{slot_past}
 use Rattle.bw_look.proofs.ConsolidatedLeaves.{consolidated_rules}
 use Rattle.bw_tree.proofs.RebaseLemmas.{put_on, stands_with}
-use Rattle.bw_look.proofs.ScanLemmas.{leaf_in_row}
+use Rattle.bw_look.proofs.LeafRangeLemmas.{leaf_in_row}
 
 alike_same : (slot other : Slot) → other ≡ slot → AreAlike slot other
 alike_same Free other is = is

@@ -32,7 +32,7 @@ use Rattle.bw_look.specs.View.{TreeView, contents_at}
 use Rattle.bw_look.proofs.ConsolidatedLeaves.{high_is, pairs_here}
 use Rattle.bw_tree.proofs.RebaseLemmas.{rebased_on}
 use Rattle.bw_look.proofs.RoutingLemmas.{page_at_head}
-use Rattle.bw_look.proofs.ScanLemmas.{leaf_in_row}
+use Rattle.bw_look.proofs.LeafRangeLemmas.{leaf_in_row}
 
 -- a page of a level stays and is sound, as its mapping word leads to it
 pub sound_at : (heads : List ℕ) (bases : Bases) (records : Records) (root next bound : ℕ) (staged : Option StageWords) (tree : TreeView) (p head : ℕ) → view_of heads bases records root next staged ≡ tree → IsStanding heads bases records root bound → IsInLevels tree.levels p → head ≡ get_or heads p head → IsSound (slot_of_word bases records head)

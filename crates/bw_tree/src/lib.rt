@@ -16,8 +16,8 @@ pub use tree::Tree;
 /// Out of memory.
 pub use bw_key::Memory;
 /// What is read of a tree, and by what.
-pub use bw_look::{
-    Folded, LeafChain, LeafCursor, Look, PageShape, Routes, ScanCursor, Scans, Staged, Unnamed,
-};
+pub use bw_look::{Folded, LeafChain, Look, PageShape, Routes, Staged, Unnamed};
 /// The names of pages, and the leaves that a tree is made of.
 pub use bw_page::{Leaf, PageId, RemovedPage};
+/// Scans of a tree.
+pub use bw_scan::{LeafCursor, ScanCursor, Scans};

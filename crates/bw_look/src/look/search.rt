@@ -38,9 +38,9 @@ impl<'a> Look<'a> {
         self.search(Target::Home(key))
     }
 
-    /// The leaf whose range has the keys right below an end: the search is that of `route`, by the greatest separator
-    /// below the end.
-    pub(crate) fn route_before(&self, end: Option<&Key>) -> PageId
+    /// The leaf whose range has the keys right below an end, or the last one where there is none: the search is that of
+    /// `route`, by the greatest separator below the end. It takes no memory.
+    pub fn route_before(&self, end: Option<&Key>) -> PageId
         requires { T (is_below_end (option_copied end) []) }
         ensures { IsBefore self.now.slots self.now.levels (option_copied end.entry) result }
     {

@@ -1,4 +1,4 @@
-// What is read of a tree: values, scans, and what its leaves have.
+// What is read of a tree: values, and what its leaves have.
 ghost use Rattle.std.specs.Prelude.{◌≡◌, IfOk};
 ghost use Rattle.std.specs.List.{Contains};
 ghost use Rattle.std.specs.Option.{option_copied};
@@ -7,16 +7,14 @@ ghost use Rattle.bw_level.specs.Slots.{slot_at};
 ghost use Rattle.bw_chain.specs.LeafChains.{IsLeafChain};
 ghost use Rattle.bw_level.specs.Levels.{row};
 ghost use Rattle.bw_level.specs.Scans.{high_of};
-ghost use Rattle.bw_look.specs.View.{ArePairsUnder, contents_at, first_pairs, last_pairs};
-ghost use Rattle.bw_look.specs.Replaying.{IsReadLeaf};
+ghost use Rattle.bw_look.specs.View.{ArePairsUnder, contents_at};
 
 use super::Look;
-use crate::scans::{ReadLeaf, Scans};
 use bw_chain::LeafChain;
 use bw_delta::value_as_of;
 use bw_key::{Key, Memory};
 use bw_memory::Alloc;
-use bw_model::{Pairs, Value};
+use bw_model::Value;
 use bw_page::PageId;
 
 impl<'a> Look<'a> {
@@ -65,59 +63,5 @@ impl<'a> Look<'a> {
         ensures { option_copied result ≡ high_of (slot_at self.now.slots page) }
     {
         self.chains.end(self.heads[page.0 as usize]).0
-    }
-
-    /// The first pairs of a range of keys as of a stamp, in the order of their keys: those from `from` on and below
-    /// `to`, and no more than `most` of them.
-    ///
-    /// From the leaf of `from` on it reads leaf after leaf, each of which it searches for, until there are enough pairs or a leaf
-    /// ends the range. The writes of a leaf below the stamp have their effects beside it, whatever `most` is; `Scans` does
-    /// so once for many scans. Memory is taken for the pairs that are answered and, for one leaf with writes at a time, for
-    /// lists of the writes and for a map of the keys that they changed, and none by `most`. `Memory` is answered where a
-    /// list, a map or a copy finds none.
-    pub fn scan_at(
-        &self,
-        from: &Key,
-        to: Option<&Key>,
-        most: u64,
-        stamp: u64,
-    ) -> Result<Pairs, Memory>
-        ensures { IfOk result (λ pairs. pairs ≡ first_pairs self.now from.now (option_copied to.entry) most stamp) }
-    {
-        Scans::once(*self.heads.allocator(), self.again()).scan(from, to, most, stamp)
-    }
-
-    /// The last pairs of a range of keys as of a stamp, the greatest key first: those from `from` on and below `to`,
-    /// and no more than `most` of them.
-    ///
-    /// From the leaf that has the last of the range on it reads leaf after leaf back, until there are enough pairs or a
-    /// leaf begins the range. Side links lead to the right alone, so it searches for each leaf from the root. Else the
-    /// costs are those of `scan_at`. `Memory` is answered where a list, a map or a copy finds none.
-    pub fn rscan_at(
-        &self,
-        from: &Key,
-        to: Option<&Key>,
-        most: u64,
-        stamp: u64,
-    ) -> Result<Pairs, Memory>
-        ensures { IfOk result (λ pairs. pairs ≡ last_pairs self.now from.now (option_copied to.entry) most stamp) }
-    {
-        Scans::once(*self.heads.allocator(), self.again()).scan_back(from, to, most, stamp)
-    }
-
-    /// What a scan reads of a leaf: its bounds, and its pairs as of stamp 0, which go on to later stamps.
-    pub(crate) fn read_leaf(&self, alloc: Alloc, page: PageId) -> Result<ReadLeaf<'a>, Memory>
-        requires { Contains (row self.now.levels 0) page }
-        ensures stamp { IfOk result (λ leaf. leaf.replay.stamp ≡ 0) }
-        ensures leaf { IfOk result (IsReadLeaf (slot_at self.now.slots page)) }
-    {
-        self.know_homes();
-        let leaf = self.leaf(alloc, page)?;
-        let replay = leaf.replay(alloc)?;
-        Ok(ReadLeaf {
-            low: leaf.base.low(),
-            end: leaf.end,
-            replay,
-        })
     }
 }

@@ -1,6 +1,5 @@
 // A tree of one leaf with five pairs, and what tests compare with.
 ghost use Rattle.std.specs.Prelude.{◌≡◌, [], None};
-ghost use Rattle.bw_tree.specs.Making.{AreAbutting};
 
 use crate::tests::assertions::{assert_equal, assert_that};
 use bw_fixtures::{are, heap, key};

@@ -1,4 +1,4 @@
-// What is read of a tree, each by the call of that name on a `Look` at it.
+// What is read of a tree: scans by `Scans`, and the rest each by the call of that name on a `Look` at it.
 ghost use Rattle.std.specs.Prelude.{◌≡◌, ℕ, ◌+◌, ◌<◌, ◌≤◌, ◌^◌, [], true, None, Some, length, slice_get, slice_index};
 ghost use Rattle.std.specs.Prelude.{Decides, IfOk, IfSome, MatchOption, map, slice_index_or};
 ghost use Rattle.std.specs.List.{AllByRecursion, Contains};
@@ -24,6 +24,7 @@ use bw_look::{Look, PageShape, Staged, Unnamed};
 use bw_memory::Alloc;
 use bw_model::{Pairs, Value};
 use bw_page::{Leaf, Page, PageId, RemovedPage};
+use bw_scan::Scans;
 
 impl Tree {
     ghost use Rattle.bw_look.specs.Unnamed.{HasNoUnnamed, IsUnnamed};
@@ -215,7 +216,7 @@ impl Tree {
     /// The first pairs of a range of keys as of a stamp, in the order of their keys: those from `from` on and below
     /// `to`, and no more than `most` of them.
     ///
-    /// From the leaf of `from` on it reads leaf after leaf along the side links, until there are enough pairs or a leaf
+    /// From the leaf of `from` on it reads leaf after leaf, each of which it searches for, until there are enough pairs or a leaf
     /// ends the range. The writes of a leaf below the stamp have their effects beside it, whatever `most` is; `Scans` does
     /// so once for many scans. Memory is taken for the pairs that are answered and, for one leaf with writes at a time, for
     /// lists of the writes and for a map of the keys that they changed, and none by `most`. `Memory` is answered where a
@@ -229,7 +230,8 @@ impl Tree {
     ) -> Result<Pairs, Memory>
         ensures { IfOk result (λ pairs. pairs ≡ first_pairs self.now from.now (option_copied to.entry) most stamp) }
     {
-        self.look().scan_at(from, to, most, stamp)
+        let mut scans = Scans::once(*self.heads.allocator(), self.look());
+        scans.scan(from, to, most, stamp)
     }
 
     /// The last pairs of a range of keys as of a stamp, the greatest key first: those from `from` on and below `to`,
@@ -247,7 +249,8 @@ impl Tree {
     ) -> Result<Pairs, Memory>
         ensures { IfOk result (λ pairs. pairs ≡ last_pairs self.now from.now (option_copied to.entry) most stamp) }
     {
-        self.look().rscan_at(from, to, most, stamp)
+        let mut scans = Scans::once(*self.heads.allocator(), self.look());
+        scans.scan_back(from, to, most, stamp)
     }
 
     /// How many entries a page has under its writes: the pairs of a leaf, or the children of an inner page. It costs a walk

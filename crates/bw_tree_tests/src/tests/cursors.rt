@@ -169,6 +169,9 @@ fn read_refused<R: Abort>(rt: &R, alloc: Alloc, tree: &Look<'_>, growth: u64) ->
     let second = scan.read_leaf(&mut leaf).is_err();
     let refused = was_refused(alloc, growth);
     assert_equal(rt, first || second, refused);
+    // A refused call leaves what was read, so the other one went on behind the first leaf.
+    let next: &[u8] = if refused { b"c" } else { b"e" };
+    assert_that(rt, has_bytes(scan.at(), Some(next)));
     finishes(
         rt,
         alloc,

@@ -1,5 +1,5 @@
 // Searches along keys, compared with the tree's own.
-ghost use Rattle.std.specs.Prelude.{◌≡◌, ◌<◌, [], is_some, T};
+ghost use Rattle.std.specs.Prelude.{◌≡◌, ◌<◌, is_some, T};
 ghost use Rattle.bw_model.specs.Contents.{is_below_end};
 ghost use Rattle.bw_tree.specs.Making.{AreAbutting};
 

@@ -1,4 +1,3 @@
-use Rattle.std.proofs.Common.{◌∙◌}
 use Rattle.bw_tree.proofs.MakingLemmas.{terms_more, rules_more}
 use Rattle.bw_tree.proofs.making.separators.Goals as goal
 

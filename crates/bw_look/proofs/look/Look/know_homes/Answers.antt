@@ -1,7 +1,7 @@
 use Rattle.bw_level.specs.Levels.{row}
 use Rattle.bw_level.proofs.HomeLemmas.{home_value, one_home}
 use Rattle.bw_look.proofs.LeafScanLemmas.{distinct_here, lawful_here}
-use Rattle.bw_look.proofs.ScanLemmas.{page_distinct}
+use Rattle.bw_look.proofs.LeafRangeLemmas.{page_distinct}
 use Rattle.bw_look.proofs.look.Look.know_homes.Goals as goal
 
 pub returns-clause-one : goal.returns-clause-one

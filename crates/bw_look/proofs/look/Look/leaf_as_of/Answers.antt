@@ -5,7 +5,7 @@ use Rattle.bw_level.specs.Levels.{row}
 use Rattle.bw_level.specs.Slots.{slot_at}
 use Rattle.bw_look.specs.View.{TreeView}
 use Rattle.bw_look.proofs.ConsolidatedLeaves.{AreParts, consolidated_parts, is_leaf_as_of, parts_rules}
-use Rattle.bw_look.proofs.ScanLemmas.{page_distinct}
+use Rattle.bw_look.proofs.LeafRangeLemmas.{page_distinct}
 use Rattle.bw_look.proofs.look.Look.leaf_as_of.Goals as goal
 
 pub pairs_as_of-requires : goal.pairs_as_of-requires

@@ -6,7 +6,7 @@ use Rattle.bw_level.specs.Levels.{row}
 use Rattle.bw_level.specs.Slots.{slot_at}
 use Rattle.bw_look.specs.View.{TreeView}
 use Rattle.bw_look.proofs.ContentsLemmas.{if_same}
-use Rattle.bw_look.proofs.ScanLemmas.{page_distinct}
+use Rattle.bw_look.proofs.LeafRangeLemmas.{page_distinct}
 use Rattle.bw_look.proofs.ShapeLemmas.{leaf_pairs_on, parts_shape}
 use Rattle.bw_look.proofs.look.Look.leaf_shape.Goals as goal
 

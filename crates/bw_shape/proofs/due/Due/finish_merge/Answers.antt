@@ -3,7 +3,7 @@ use Rattle.std.proofs.lemmas.Result.{on_err_weaker, on_ok_weaker}
 use Rattle.bw_shape.specs.Tidying.{DueView, KeepsWithin}
 use Rattle.bw_shape.proofs.AbsorbLemmas.{tidy_dropped, tidy_on}
 use Rattle.bw_shape.proofs.TidyLemmas.{tidy_freed}
-use Rattle.bw_shape.proofs.UnfinishedLemmas.{left_out, refused_at, refused_still, step_unnamed, still_unnamed, stopped_at, unnamed_on}
+use Rattle.bw_shape.proofs.UnfinishedLemmas.{left_out, step_unnamed, still_unnamed, stopped_at, unnamed_on}
 use Rattle.bw_shape.proofs.due.Due.finish_merge.Goals as goal
 
 pub returns-clause-within : goal.returns-clause-within

@@ -1,0 +1,3 @@
+pub mod Gaps
+pub mod Replaying
+pub mod Cursors
