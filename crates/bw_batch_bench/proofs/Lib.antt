@@ -1,1 +1,2 @@
 mod LeavesSideBySide
+mod RisingPairs

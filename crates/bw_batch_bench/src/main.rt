@@ -22,6 +22,7 @@ mod hard;
 mod hard_batches;
 mod insertion;
 mod kinds;
+mod leaves;
 mod load;
 mod memory;
 mod picture;

@@ -1,9 +1,10 @@
 //! An index and a map that run the same batches.
 ghost use Rattle.std.specs.Prelude.{◌<◌};
 
+use crate::leaves::{Filling, leaves_for};
 use crate::load::{BATCH, Load, fresh};
 use crate::runs::Runs;
-use crate::workload::{Kind, Order, Random, answer, drawn, leaves_for, upserts};
+use crate::workload::{Kind, Order, Random, answer, drawn, upserts};
 use anyhow::Result;
 use bw_batch::{Index, Key, Op, OpenGate, Options, Replies, Reply, Tree, Value};
 use bw_memory::Alloc;
@@ -41,6 +42,12 @@ pub fn one_heap(alloc: Alloc) -> Heaps {
     }
 }
 
+/// An index over a leaf for each 44 of so many keys.
+pub fn index_over(alloc: Alloc, options: Options, keys: u64, filling: Filling) -> Result<Index> {
+    let tree = Tree::from_level(alloc, leaves_for(alloc, keys, filling)?)?;
+    Ok(Index::from_tree(alloc, options, tree)?)
+}
+
 /// An index and a map with the same pairs.
 pub struct Rivals {
     pub index: Index,
@@ -68,9 +75,8 @@ impl Rivals {
 
     // Both without keys, the index over a leaf for each 44 of so many keys.
     fn over_leaves(heaps: Heaps, options: Options, keys: u64) -> Result<Rivals> {
-        let tree = Tree::from_level(heaps.index, leaves_for(heaps.index, keys)?)?;
         Ok(Rivals {
-            index: Index::from_tree(heaps.index, options, tree)?,
+            index: index_over(heaps.index, options, keys, Filling::Empty)?,
             map: BTreeMap::new(heaps.map),
         })
     }

@@ -1,24 +1,17 @@
-//! Leaves, keys and operations, and what a map answers to them.
+//! Keys and operations, and what a map answers to them.
 ghost use Rattle.std.specs.Prelude.{◌≡◌, ◌<◌, [], IfOk};
-ghost use Rattle.bw_tree.specs.Making.{AreAbutting};
 
 use crate::load::Load;
 use anyhow::{Result, bail};
-use bw_batch::{Key, Leaf, Op, PageId, Pairs, Reply, Value};
+use bw_batch::{Key, Op, Pairs, Reply, Value};
 use bw_memory::Alloc;
 use std::collections::BTreeMap;
-
-// Keys of a leaf.
-const LEAF: u64 = 44;
 
 // Pairs that a scan wants.
 const SCANNED: u64 = 32;
 
 // An odd number, whose multiples are scattered.
 const SCATTER: u64 = 0x9e37_79b9_7f4a_7c15;
-
-// No leaf has a greater place: the last one has all further keys.
-const PLACE_MAX: u64 = 1_000_000;
 
 /// Pseudo-random numbers by a linear congruence, whose high bits are taken.
 #[derive(Drop)]
@@ -58,38 +51,6 @@ pub fn least_key(alloc: Alloc) -> Result<Key>
     ensures { IfOk result (λ key. key ≡ []) }
 {
     Ok(Key::new(alloc, &[])?)
-}
-
-// Where the leaf at a place begins, the first one at the least key.
-fn low_of(alloc: Alloc, place: u32) -> Result<Key>
-    ensures { IfOk result (λ key. place ≡ 0 → key ≡ []) }
-{
-    if place == 0 {
-        return least_key(alloc);
-    }
-    key(alloc, place as u64 * LEAF)
-}
-
-/// Empty leaves side by side, for so many keys. They are made from the last to the first.
-pub fn leaves_for(alloc: Alloc, keys: u64) -> Result<Vec<Leaf, Alloc>>
-    ensures { IfOk result (λ leaves. AreAbutting 0 [] leaves.items) }
-{
-    let mut place = (keys.saturating_sub(1) / LEAF).min(PLACE_MAX) as u32;
-    let mut low = low_of(alloc, place)?;
-    let mut leaves = Vec::new(alloc);
-    leaves.push(Leaf::from_pairs(low.copy()?, None, None, Pairs::new(alloc)))?;
-    while place > 0 {
-        let side = Some(PageId(place));
-        let high = low;
-        place -= 1;
-        low = low_of(alloc, place)?;
-        if !(low < high) {
-            bail!("leaves out of order");
-        }
-        leaves.push(Leaf::from_pairs(low.copy()?, Some(high), side, Pairs::new(alloc)))?;
-    }
-    leaves.reverse();
-    Ok(leaves)
 }
 
 /// The order in which keys come.
