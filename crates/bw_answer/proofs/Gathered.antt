@@ -1,16 +1,18 @@
 -- The answers to the parts of a batch, side by side.
 use Rattle.std.proofs.Common.{◌≡◌, ℕ, ◌-◌, List, [], ◌∷◌, ◌++◌, map, take, drop, Result, Ok, Err, IfOk, refl, sym, ap, ◌∙◌, subst}
-use Rattle.std.specs.List.{AllZip, Contains, flat_map}
+use Rattle.std.specs.List.{AllByRecursion, AllZip, Contains, flat_map}
 use Rattle.std.specs.Prelude.{MatchResult}
 use Rattle.std.specs.declared.vec.Vec.{Vec}
 use Rattle.std.proofs.lemmas.List.{map-append, take-map}
 use Rattle.bw_answer.specs.Parts.{places_in, elements_in}
 use Rattle.bw_group.specs.Points.{Entry, entries_of, places_of}
-use Rattle.bw_answer.specs.Replies.{ReaderView, answer_to, answers_to}
+use Rattle.bw_answer.specs.Replies.{GoesOnTo, ReaderView, answer_to, answers_to}
 use Rattle.bw_answer.specs.declared.parts.Part.{Part}
 use Rattle.bw_answer.specs.declared.parts.Span.{Span}
 use Rattle.bw_group.specs.declared.points.Point.{Point}
+use Rattle.bw_tidy.specs.declared.leaf_findings.Findings.{Findings}
 use Rattle.bw_answer.specs.declared.batch_reader.Answer.{Answer}
+use Rattle.bw_answer.specs.declared.batch_reader.PartAnswers.{PartAnswers}
 use Rattle.bw_group.proofs.ListParts.{seen_rest}
 
 -- a span of a list whose elements are seen through a function
@@ -29,24 +31,33 @@ both_answered batch ps scans part none some all empty points rest =
     ∙ sym (map-append (answer_to batch) (places_of (entries_of (elements_in part.points ps))) (elements_in part.scans scans))
     ∙ ap (λ l. answers_to batch (l ++ elements_in part.scans scans)) places
 
-module _ (batch : ReaderView) (points scans : List ℕ) where
-  gathered : (Z E : Type 0) (parts : List Part) (lists : List (Vec Answer Z)) →
-      AllZip (λ part (r : Result (Vec Answer Z) E). IfOk r (λ answers. answers.items ≡ answers_to batch (places_in points scans part))) parts (map Ok lists) →
-      flat_map (λ (list : Vec Answer Z). list.items) lists ≡ answers_to batch (flat_map (places_in points scans) parts)
-  gathered Z E [] [] all = refl
-  gathered Z E [] (list ∷ lists) all = absurd all
-  gathered Z E (part ∷ parts) [] all = absurd all
-  gathered Z E (part ∷ parts) (list ∷ lists) all =
-      ap (λ l. l ++ flat_map (λ (v : Vec Answer Z). v.items) lists) all.0
-      ∙ ap (λ l. answers_to batch (places_in points scans part) ++ l) (gathered Z E parts lists all.1)
-      ∙ sym (map-append (answer_to batch) (places_in points scans part) (flat_map (places_in points scans) parts))
+module _ (batch : ReaderView) (points scans : List ℕ) (first : Findings) where
+  -- the part was answered, and what was found of its leaves goes on from the first findings
+  abbrev IsAnswered : Part → PartAnswers → Type 0
+  IsAnswered part list = (list.answers.items ≡ answers_to batch (places_in points scans part)) × GoesOnTo batch first list.findings
+
+  gathered : (E : Type 0) (parts : List Part) (lists : List PartAnswers) →
+      AllZip (λ part (r : Result PartAnswers E). IfOk r (IsAnswered part)) parts (map Ok lists) →
+      (flat_map (λ (list : PartAnswers). list.answers.items) lists ≡ answers_to batch (flat_map (places_in points scans) parts))
+      × AllByRecursion (λ (list : PartAnswers). GoesOnTo batch first list.findings) lists
+  gathered E [] [] all = (refl, tt)
+  gathered E [] (list ∷ lists) all = absurd all
+  gathered E (part ∷ parts) [] all = absurd all
+  gathered E (part ∷ parts) (list ∷ lists) all =
+      let rest = gathered E parts lists all.1 in (
+        ap (λ l. l ++ flat_map (λ (v : PartAnswers). v.answers.items) lists) all.0.0
+            ∙ ap (λ l. answers_to batch (places_in points scans part) ++ l) rest.0
+            ∙ sym (map-append (answer_to batch) (places_in points scans part) (flat_map (places_in points scans) parts)),
+        (all.0.1, rest.1),
+      )
 
   -- where every part was answered, their lists are the answers to all parts in order
-  pub all_gathered : {Z W E : Type 0} (parts : List Part) (rs : List (Result (Vec Answer Z) E)) (r : Result (Vec (Vec Answer Z) W) E) →
-      AllZip (λ part (r : Result (Vec Answer Z) E). IfOk r (λ answers. answers.items ≡ answers_to batch (places_in points scans part))) parts rs →
-      MatchResult r (λ v. (lists : List (Vec Answer Z)) × (rs ≡ map Ok lists) × (v.items ≡ lists)) (λ e. Contains rs (Err e)) →
-      IfOk r (λ v. flat_map (λ list. list.items) v.items ≡ answers_to batch (flat_map (places_in points scans) parts))
-  all_gathered {Z} {W} {E} parts rs (Ok v) all h =
-      ap (flat_map (λ (list : Vec Answer Z). list.items)) h.2
-      ∙ gathered Z E parts h.0 (subst (AllZip (λ part (r : Result (Vec Answer Z) E). IfOk r (λ answers. answers.items ≡ answers_to batch (places_in points scans part))) parts) h.1 all)
-  all_gathered parts rs (Err e) all h = tt
+  pub all_gathered : {W E : Type 0} (parts : List Part) (rs : List (Result PartAnswers E)) (r : Result (Vec PartAnswers W) E) →
+      AllZip (λ part (r : Result PartAnswers E). IfOk r (IsAnswered part)) parts rs →
+      MatchResult r (λ v. (lists : List PartAnswers) × (rs ≡ map Ok lists) × (v.items ≡ lists)) (λ e. Contains rs (Err e)) →
+      IfOk r (λ v. flat_map (λ list. list.answers.items) v.items ≡ answers_to batch (flat_map (places_in points scans) parts))
+      × IfOk r (λ v. AllByRecursion (λ list. GoesOnTo batch first list.findings) v.items)
+  all_gathered {W} {E} parts rs (Ok v) all h =
+      let all_of = gathered E parts h.0 (subst (AllZip (λ part (r : Result PartAnswers E). IfOk r (IsAnswered part)) parts) h.1 all) in
+      (ap (flat_map (λ (list : PartAnswers). list.answers.items)) h.2 ∙ all_of.0, subst (AllByRecursion (λ (list : PartAnswers). GoesOnTo batch first list.findings)) (sym h.2) all_of.1)
+  all_gathered parts rs (Err e) all h = (tt, tt)

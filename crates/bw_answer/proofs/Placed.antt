@@ -1,12 +1,12 @@
 -- Answers that are put at their places.
 use Rattle.std.proofs.Common.{◌≡◌, inl, inr, ℕ, zero, suc, ◌-◌, ◌<◌, ◌≤◌, take, drop, List, [], ◌∷◌, ◌++◌, length, get_or, slice_get, slice_set, Some, refl, sym, ap, ◌∙◌, subst, arith}
 use Rattle.std.specs.List.{AllByRecursion, flat_map}
-use Rattle.std.specs.declared.vec.Vec.{Vec}
 use Rattle.std.proofs.lemmas.Bool.{cases_eq}
 use Rattle.std.proofs.lemmas.List.{length-set, map-append, take-append-drop}
 use Rattle.bw_model.specs.declared.operations.Reply.{Reply}
 use Rattle.bw_model.specs.declared.operations.Reply.TheVariants.{Absent}
 use Rattle.bw_answer.specs.declared.batch_reader.Answer.{Answer}
+use Rattle.bw_answer.specs.declared.batch_reader.PartAnswers.{PartAnswers}
 use Rattle.bw_group.specs.Points.{Entry, entries_of, places_of}
 use Rattle.bw_group.specs.declared.points.Point.{Point}
 use Rattle.bw_answer.specs.Replies.{ReaderView, answer_to, answers_to, contents_before, point_places, replies_to, with_answers}
@@ -86,25 +86,24 @@ placed_append : (replies : List Reply) (xs ys : List Answer) → with_answers re
 placed_append replies [] ys = refl
 placed_append replies (x ∷ xs) ys = placed_append (slice_set replies x.place x.reply) xs ys
 
-module _ {Z : Type 0} where
-  -- one list further
-  pub list_placed : (replies replies' : List Reply) (rest rest' : List (Vec Answer Z)) (list : Vec Answer Z) → rest ≡ list ∷ rest' → replies' ≡ with_answers replies list.items →
-      AllByRecursion (λ (b : Answer). b.place < length replies) (flat_map (λ list. list.items) rest) →
-      AllByRecursion (λ (b : Answer). b.place < length replies) list.items × (with_answers replies' (flat_map (λ list. list.items) rest') ≡ with_answers replies (flat_map (λ list. list.items) rest))
-      × AllByRecursion (λ (b : Answer). b.place < length replies') (flat_map (λ list. list.items) rest')
-  list_placed replies replies' rest rest' list is placed within =
-      let more = flat_map (λ (l : Vec Answer Z). l.items) rest' in
-      let all : AllByRecursion (λ (b : Answer). b.place < length replies) (list.items ++ more) =
-      subst (λ (l : List (Vec Answer Z)). AllByRecursion (λ (b : Answer). b.place < length replies) (flat_map (λ l. l.items) l)) is within in
-      let size : length replies ≡ length replies' = sym (ap length placed ∙ placed_length replies list.items) in (
-        all_front (λ (b : Answer). b.place < length replies) list.items more all,
-        ap (λ r. with_answers r more) placed ∙ sym (placed_append replies list.items more) ∙ sym (ap (λ (l : List (Vec Answer Z)). with_answers replies (flat_map (λ l. l.items) l)) is),
-        subst (λ (n : ℕ). AllByRecursion (λ (b : Answer). b.place < n) more) size (all_back (λ (b : Answer). b.place < length replies) list.items more all),
-      )
+-- one list further
+pub list_placed : (replies replies' : List Reply) (rest rest' : List PartAnswers) (list : PartAnswers) → rest ≡ list ∷ rest' → replies' ≡ with_answers replies list.answers.items →
+    AllByRecursion (λ (b : Answer). b.place < length replies) (flat_map (λ list. list.answers.items) rest) →
+    AllByRecursion (λ (b : Answer). b.place < length replies) list.answers.items × (with_answers replies' (flat_map (λ list. list.answers.items) rest') ≡ with_answers replies (flat_map (λ list. list.answers.items) rest))
+    × AllByRecursion (λ (b : Answer). b.place < length replies') (flat_map (λ list. list.answers.items) rest')
+list_placed replies replies' rest rest' list is placed within =
+    let more = flat_map (λ (l : PartAnswers). l.answers.items) rest' in
+    let all : AllByRecursion (λ (b : Answer). b.place < length replies) (list.answers.items ++ more) =
+    subst (λ (l : List PartAnswers). AllByRecursion (λ (b : Answer). b.place < length replies) (flat_map (λ l. l.answers.items) l)) is within in
+    let size : length replies ≡ length replies' = sym (ap length placed ∙ placed_length replies list.answers.items) in (
+      all_front (λ (b : Answer). b.place < length replies) list.answers.items more all,
+      ap (λ r. with_answers r more) placed ∙ sym (placed_append replies list.answers.items more) ∙ sym (ap (λ (l : List PartAnswers). with_answers replies (flat_map (λ l. l.answers.items) l)) is),
+      subst (λ (n : ℕ). AllByRecursion (λ (b : Answer). b.place < n) more) size (all_back (λ (b : Answer). b.place < length replies) list.answers.items more all),
+    )
 
-  pub none_listed : (replies : List Reply) (rest : List (Vec Answer Z)) → length rest ≡ 0 → replies ≡ with_answers replies (flat_map (λ list. list.items) rest)
-  none_listed replies [] none = refl
-  none_listed replies (l ∷ rest) none = absurd (omega (arith, none))
+pub none_listed : (replies : List Reply) (rest : List PartAnswers) → length rest ≡ 0 → replies ≡ with_answers replies (flat_map (λ list. list.answers.items) rest)
+none_listed replies [] none = refl
+none_listed replies (l ∷ rest) none = absurd (omega (arith, none))
 
 -- the answers to some places, and then those to the others
 pub both_placed : (batch : ReaderView) (replies replies' : List Reply) (here more : List ℕ) → replies' ≡ with_answers replies (answers_to batch here) →

@@ -17,6 +17,8 @@ use Rattle.bw_look.specs.View.{TreeView, contents_at}
 use Rattle.bw_group.specs.Homes.{AreHomes, HomesView}
 use Rattle.bw_group.specs.Points.{entries_at, entries_of, places_of, HasRisingPlaces, IsEntryOf, IsPointOf}
 use Rattle.bw_group.specs.declared.points.Point.{Point}
+use Rattle.bw_tidy.specs.Findings.{GoOn}
+use Rattle.bw_tidy.specs.declared.leaf_findings.Findings.{Findings}
 use Rattle.bw_answer.specs.declared.batch_reader.Answer.{Answer}
 use Rattle.bw_answer.specs.declared.shared_leaves.BatchScan.{BatchScan}
 
@@ -43,6 +45,10 @@ pub record IsReadInTurn (batch : ReaderView) : Type 0 where
   pub reads : HasContentsInTurn batch.tree batch.base batch.ops
   pub fits : batch.base + length batch.ops ≤ 2 ^ 40
   pub homes : AreHomes batch.tree batch.ops batch.homes
+
+-- what is found of leaves goes on, as of the stamp behind the batch
+abbrev pub GoesOnTo : ReaderView → Findings → Findings → Type 0
+GoesOnTo batch = GoOn batch.tree (batch.base + length batch.ops)
 
 -- a place with the reply that the batch wants there
 abbrev pub answer_to : ReaderView → ℕ → Answer

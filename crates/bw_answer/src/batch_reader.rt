@@ -8,7 +8,7 @@ ghost use Rattle.bw_delta.specs.Rising.{HasRisingStamps};
 ghost use Rattle.bw_tree.specs.Levels.{IsHome, row};
 ghost use Rattle.bw_group.specs.Points.{entries_of, HasRisingPlaces, IsEntryOf, IsPointOf, IsScanOf};
 ghost use Rattle.bw_answer.specs.Parts.{IsPartOf, places_in};
-ghost use Rattle.bw_answer.specs.Replies.{answer_of, answers_to, point_places, ArePointsOf, IsReadBy, IsReplyThere};
+ghost use Rattle.bw_answer.specs.Replies.{answer_of, answers_to, point_places, ArePointsOf, GoesOnTo, IsReadBy, IsReplyThere};
 
 use crate::parts::Part;
 use crate::shared_leaves::{BatchScan, finish_scans, share_leaves};
@@ -18,6 +18,7 @@ use bw_group::{Homes, Point, group_end};
 use bw_key::Memory;
 use bw_memory::Alloc;
 use bw_model::{Op, Reply};
+use bw_tidy::Findings;
 use bw_tree::{Look, PageId, ScanCursor, Tree};
 use rayon::prelude::*;
 use std::marker::Model;
@@ -61,8 +62,16 @@ pub(crate) struct Answer {
     pub(crate) reply: Reply,
 }
 
+/// The answers to a part of a batch, and what was found of the leaves of its points.
+#[derive(Drop)]
+pub(crate) struct PartAnswers {
+    pub(crate) answers: Vec<Answer, Alloc>,
+    pub(crate) findings: Findings,
+}
+
 impl<'a> BatchReader<'a> {
-    /// The answers to the points and scans of each part, in lists of their own. The parts are shared out among threads.
+    /// The answers to the points and scans of each part. The parts are shared out among threads. `findings` has the limits
+    /// of the leaves.
     pub(crate) fn answer_parts<R: Threads + Sync>(
         &self,
         rt: &R,
@@ -70,26 +79,30 @@ impl<'a> BatchReader<'a> {
         points: &[Point<'_>],
         scans: &[usize],
         parts: &[Part],
-    ) -> Result<Vec<Vec<Answer, Alloc>, Alloc>, Memory>
+        findings: &Findings,
+    ) -> Result<Vec<PartAnswers, Alloc>, Memory>
         requires points { ArePointsOf self.now.ops points.now }
         requires scans { AllByRecursion (IsScanOf self.now.ops) scans.now }
         requires within { AllByRecursion (IsPartOf (length points.now) (length scans.now)) parts.now }
-        ensures { let places = flat_map (places_in (point_places points.now) scans.now) parts.now in
-            IfOk result (λ lists. flat_map (λ list. list.items) lists.items ≡ answers_to self.now places) }
+        ensures answers { let places = flat_map (places_in (point_places points.now) scans.now) parts.now in
+            IfOk result (λ lists. flat_map (λ list. list.answers.items) lists.items ≡ answers_to self.now places) }
+        ensures findings { IfOk result (λ lists.
+            AllByRecursion (λ list. GoesOnTo self.now findings.now list.findings) lists.items) }
     {
         parts
             .par_iter()
             .with_min_len(1)
             .map(
-                move |part: &Part| -> Result<Vec<Answer, Alloc>, Memory>
+                move |part: &Part| -> Result<PartAnswers, Memory>
                     requires { ArePointsOf self.now.ops points.now
                         × AllByRecursion (IsScanOf self.now.ops) scans.now
                         × IsPartOf (length points.now) (length scans.now) part.now }
                     ensures { let places = places_in (point_places points.entry.now) scans.entry.now part.entry.now in
-                        IfOk result (λ answers. answers.items ≡ answers_to self.entry.now places) }
-                { self.answer_part(alloc, points, scans, *part) },
+                        IfOk result (λ list. (list.answers.items ≡ answers_to self.entry.now places)
+                        × GoesOnTo self.entry.now findings.entry.now list.findings) }
+                { self.answer_part(alloc, points, scans, *part, findings) },
             )
-            .collect::<Result<Vec<Vec<Answer, Alloc>, Alloc>, Memory>>(rt, alloc)?
+            .collect::<Result<Vec<PartAnswers, Alloc>, Memory>>(rt, alloc)?
     }
 
     // The answers to the points and the scans of a part.
@@ -99,19 +112,22 @@ impl<'a> BatchReader<'a> {
         points: &[Point<'_>],
         scans: &[usize],
         part: Part,
-    ) -> Result<Vec<Answer, Alloc>, Memory>
+        findings: &Findings,
+    ) -> Result<PartAnswers, Memory>
         requires points { ArePointsOf self.now.ops points.now }
         requires scans { AllByRecursion (IsScanOf self.now.ops) scans.now }
         requires within { IsPartOf (length points.now) (length scans.now) part }
-        ensures { let places = places_in (point_places points.now) scans.now part in
-            IfOk result (λ answers. answers.items ≡ answers_to self.now places) }
+        ensures answers { let places = places_in (point_places points.now) scans.now part in
+            IfOk result (λ list. list.answers.items ≡ answers_to self.now places) }
+        ensures findings { IfOk result (λ list. GoesOnTo self.now findings.now list.findings) }
     {
         let points = &points[part.points.start..part.points.end];
         let scans = &scans[part.scans.start..part.scans.end];
         let mut answers = Vec::with_capacity(alloc, points.len() + scans.len())?;
-        self.answer_points(alloc, points, &mut answers)?;
+        let mut findings = findings.again(alloc);
+        self.answer_points(alloc, points, &mut answers, &mut findings)?;
         self.answer_scans(alloc, scans, &mut answers)?;
-        Ok(answers)
+        Ok(PartAnswers { answers, findings })
     }
 
     /// Where some of the points end that begin at `start`: behind the last of those on a leaf, and behind 4,096 of
@@ -130,16 +146,19 @@ impl<'a> BatchReader<'a> {
         end
     }
 
-    /// Adds the answers to operations on one key each, a run of them for each leaf.
+    /// Adds the answers to operations on one key each, a run of them for each leaf, and what is found of the leaves.
     pub(crate) fn answer_points(
         &self,
         alloc: Alloc,
         points: &[Point<'_>],
         answers: &mut Vec<Answer, Alloc>,
+        findings: &mut Findings,
     ) -> Result<(), Memory>
         requires points { ArePointsOf self.now.ops points.now }
-        ensures { OnOk result (answers.new.items ≡ answers.old.items ++ answers_to self.now (point_places points.now)) }
+        ensures findings { GoesOnTo self.now findings.old findings.new }
+        ensures answers { OnOk result (answers.new.items ≡ answers.old.items ++ answers_to self.now (point_places points.now)) }
     {
+        let stamp = self.stamp_behind();
         let mut start = 0;
         let mut read_ahead = 0;
         let mut near = 0;
@@ -151,9 +170,17 @@ impl<'a> BatchReader<'a> {
             }
             let (page, end) = self.homes.run_from(points, start);
             self.answer_run(alloc, page, near, &points[start..end], answers)?;
+            findings.look_at(self.tree, page, stamp);
             start = end;
         }
         Ok(())
+    }
+
+    // The stamp behind those of the batch.
+    fn stamp_behind(&self) -> u64
+        ensures { result ≡ self.now.base + length self.now.ops }
+    {
+        self.base + self.ops.len() as u64
     }
 
     // Reads the leaves and the keys of the next runs of points, of as many runs as have 16 points, before the first of them is

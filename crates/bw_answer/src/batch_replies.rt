@@ -1,19 +1,21 @@
 // The replies to a batch.
-ghost use Rattle.std.specs.Prelude.{◌≡◌, ◌+◌, ◌<◌, ◌≤◌, ◌^◌, length, IfOk, OnOk, flat_map};
+ghost use Rattle.std.specs.Prelude.{◌≡◌, ℕ, ◌+◌, ◌<◌, ◌≤◌, ◌^◌, length, IfOk, OnOk, flat_map};
 ghost use Rattle.std.specs.List.{AllByRecursion};
 ghost use Rattle.bw_model.specs.Model.{replies_of};
-ghost use Rattle.bw_look.specs.View.{contents_at};
+ghost use Rattle.bw_look.specs.View.{TreeView, contents_at};
 ghost use Rattle.bw_group.specs.Homes.{AreHomes};
 ghost use Rattle.bw_group.specs.Points.{IsScanOf};
-ghost use Rattle.bw_answer.specs.Replies.{ArePointsOf, HasContentsInTurn};
+ghost use Rattle.bw_tidy.specs.Findings.{AreFindings, GoOn};
+ghost use Rattle.bw_answer.specs.Replies.{ArePointsOf, GoesOnTo, HasContentsInTurn};
 ghost use Rattle.bw_answer.specs.Replies.{answers_to, point_places, replies_to, with_answers};
 
-use crate::batch_reader::{Answer, BatchReader};
+use crate::batch_reader::{Answer, BatchReader, PartAnswers};
 use crate::parts::{count_parts, parts};
 use bw_group::{Grouping, Homes, Point};
 use bw_key::Memory;
 use bw_memory::Alloc;
 use bw_model::{Replies, Reply};
+use bw_tidy::Findings;
 use bw_tree::Tree;
 use std::thread::Threads;
 
@@ -30,6 +32,9 @@ use std::thread::Threads;
 /// those of a leaf one after another, and its writes have their effects once for all of these; what they leave, and
 /// scans back, is read one scan after another (`Scans`). A leaf that lies in several parts has its writes sorted in
 /// each. `Memory` is answered where a list, a map or a reply finds none, in any part.
+///
+/// `findings` get what is found of the leaves of the batch's keys, as of the stamp behind the batch: each worker looks at
+/// the leaves of its part while it reads them.
 pub fn replies<R: Threads + Sync>(
     rt: &R,
     alloc: Alloc,
@@ -38,14 +43,16 @@ pub fn replies<R: Threads + Sync>(
     batch: &Grouping<'_>,
     homes: &Homes,
     workers: u64,
+    findings: &mut Findings,
 ) -> Result<Replies, Memory>
     requires homes { AreHomes tree.now batch.now.ops homes.now }
     requires reads { HasContentsInTurn tree.now base batch.now.ops }
     requires fits { base + length batch.now.ops ≤ 2 ^ 40 }
-    ensures { IfOk result (λ replies. replies ≡ replies_of batch.now.ops (contents_at tree.now base)) }
+    ensures findings { GoOn tree.now (base + length batch.now.ops) findings.old findings.new }
+    ensures replies { IfOk result (λ replies. replies ≡ replies_of batch.now.ops (contents_at tree.now base)) }
 {
     let count = count_parts(batch.points().len(), batch.scans().len(), workers);
-    replies_in_parts(rt, alloc, tree, base, batch, homes, count)
+    replies_in_parts(rt, alloc, tree, base, batch, homes, count, findings)
 }
 
 /// The replies to a batch, as `replies` gives them, where it is cut into at most so many parts, however few its
@@ -60,12 +67,14 @@ pub fn replies_in_parts<R: Threads + Sync>(
     batch: &Grouping<'_>,
     homes: &Homes,
     count: usize,
+    findings: &mut Findings,
 ) -> Result<Replies, Memory>
     requires homes { AreHomes tree.now batch.now.ops homes.now }
     requires reads { HasContentsInTurn tree.now base batch.now.ops }
     requires fits { base + length batch.now.ops ≤ 2 ^ 40 }
     requires count { 0 < count }
-    ensures { IfOk result (λ replies. replies ≡ replies_of batch.now.ops (contents_at tree.now base)) }
+    ensures findings { GoOn tree.now (base + length batch.now.ops) findings.old findings.new }
+    ensures replies { IfOk result (λ replies. replies ≡ replies_of batch.now.ops (contents_at tree.now base)) }
 {
     let reader = BatchReader {
         tree,
@@ -74,7 +83,7 @@ pub fn replies_in_parts<R: Threads + Sync>(
         homes,
     };
     let mut replies = absent_replies(alloc, batch.ops().len())?;
-    place_replies(rt, alloc, &reader, batch, count, &mut replies)?;
+    place_replies(rt, alloc, &reader, batch, count, &mut replies, findings)?;
     Ok(Replies::from_vec(replies))
 }
 
@@ -86,20 +95,22 @@ fn place_replies<R: Threads + Sync>(
     batch: &Grouping<'_>,
     count: usize,
     replies: &mut [Reply],
+    findings: &mut Findings,
 ) -> Result<(), Memory>
     requires ops { reader.now.ops ≡ batch.now.ops }
     requires size { length replies.old ≡ length batch.now.ops }
     requires count { 0 < count }
-    ensures { OnOk result (replies.new ≡ replies_to reader.now) }
+    ensures findings { GoesOnTo reader.now findings.old findings.new }
+    ensures replies { OnOk result (replies.new ≡ replies_to reader.now) }
 {
     let (points, scans) = (batch.points(), batch.scans());
     if count > 1 {
         let parts = parts(alloc, points.len(), scans.len(), count)?;
-        let lists = reader.answer_parts(rt, alloc, points, scans, &parts)?;
-        place_lists(replies, lists);
+        let lists = reader.answer_parts(rt, alloc, points, scans, &parts, findings)?;
+        place_lists(replies, findings, lists);
         return Ok(());
     }
-    place_points(alloc, reader, points, replies)?;
+    place_points(alloc, reader, points, replies, findings)?;
     place_scans(alloc, reader, scans, replies)?;
     Ok(())
 }
@@ -110,16 +121,18 @@ fn place_points(
     reader: &BatchReader<'_>,
     points: &[Point<'_>],
     replies: &mut [Reply],
+    findings: &mut Findings,
 ) -> Result<(), Memory>
     requires points { ArePointsOf reader.now.ops points.now }
     requires there { AllByRecursion (λ place. place < length replies.old) (point_places points.now) }
-    ensures { OnOk result (replies.new ≡ with_answers replies.old (answers_to reader.now (point_places points.now))) }
+    ensures findings { GoesOnTo reader.now findings.old findings.new }
+    ensures replies { OnOk result (replies.new ≡ with_answers replies.old (answers_to reader.now (point_places points.now))) }
 {
     let mut start = 0;
     while start < points.len() {
         let end = reader.turn_end(points, start);
         let mut answers = Vec::with_capacity(alloc, end - start)?;
-        reader.answer_points(alloc, &points[start..end], &mut answers)?;
+        reader.answer_points(alloc, &points[start..end], &mut answers, findings)?;
         place_answers(replies, answers);
         start = end;
     }
@@ -154,13 +167,18 @@ fn absent_replies(alloc: Alloc, len: usize) -> Result<Vec<Reply, Alloc>, Memory>
     Ok(replies)
 }
 
-// Puts the answers of each list at their places.
-fn place_lists(replies: &mut [Reply], lists: Vec<Vec<Answer, Alloc>, Alloc>)
-    requires { AllByRecursion (λ a. a.place < length replies.old) (flat_map (λ list. list.items) lists.items) }
-    ensures { replies.new ≡ with_answers replies.old (flat_map (λ list. list.items) lists.entry.items) }
+// Puts the answers of each part at their places, and adds what was found of leaves.
+fn place_lists(replies: &mut [Reply], findings: &mut Findings, lists: Vec<PartAnswers, Alloc>)
+    requires there { AllByRecursion (λ a. a.place < length replies.old) (flat_map (λ list. list.answers.items) lists.items) }
+    requires limits { AllByRecursion (λ list. list.findings.limits ≡ findings.old.limits) lists.items }
+    ensures replies { replies.new ≡ with_answers replies.old (flat_map (λ list. list.answers.items) lists.entry.items) }
+    ensures findings { (tree : TreeView) (stamp : ℕ) →
+        AllByRecursion (λ list. GoOn tree stamp findings.old list.findings) lists.entry.items →
+        GoOn tree stamp findings.old findings.new }
 {
     for list in lists {
-        place_answers(replies, list);
+        place_answers(replies, list.answers);
+        findings.append(list.findings);
     }
 }
 

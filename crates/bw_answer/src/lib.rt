@@ -16,3 +16,5 @@ pub use parts::count_parts;
 
 /// Out of memory.
 pub use bw_key::Memory;
+/// What is found of leaves meanwhile, and the limits that they are kept to.
+pub use bw_tidy::{Findings, Limits};

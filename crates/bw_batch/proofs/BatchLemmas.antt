@@ -9,6 +9,7 @@ use Rattle.bw_look.specs.View.{TreeView, StageView, contents_at, contents_with}
 use Rattle.bw_look.specs.declared.folded.Folded.{Folded}
 use Rattle.bw_tree.specs.PageWords.{IsPostedStageOn}
 use Rattle.bw_post.specs.Posting.{IsPostedBeside, IsWaiting}
+use Rattle.bw_shape.specs.Sweeps.{HoldsSame}
 use Rattle.bw_batch.specs.IndexStages.{operations_staged}
 
 -- a batch that was staged waits to be posted
@@ -105,3 +106,12 @@ accepted_as before tree now after ops is reads next records same so count accept
               ap (λ (t : TreeView). contents_at t t.next) is' ∙ ap (contents_at now) next_is ∙ same (before.next + length ops) (omega (arith, ap (λ (t : TreeView). t.next) is)) ∙ reads (length ops)
               ∙ ap (λ (l : List Op). contents_after l (contents_at before before.next)) (take_all (length ops) ops (omega arith));
         }
+
+-- the same once leaves are in the places of their chains
+pub accepted_still : (before after put : TreeView) (ops : List Op) → IsAccepted before after ops → HoldsSame after put → IsAccepted before put ops
+accepted_still before after put ops is same = record {
+  next = same.next ∙ is.next;
+  none = same.staged;
+  records = same.records ∙ is.records;
+  contents = same.contents ∙ is.contents;
+}

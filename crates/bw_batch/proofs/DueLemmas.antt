@@ -1,12 +1,15 @@
 -- The leaves that a batch has written are due: all others are as they were.
-use Rattle.std.proofs.Common.{inl, inr, ◌⊎◌, ◌≡◌, ℕ, suc, ◌<◌, ◌≤◌, Bool, true, false, cond, List, [], ◌∷◌, ◌++◌, length, set, Option, Some, None, Result, Ok, Err, OnOk, OnErr, refl, sym, ap, ◌∙◌, subst, arith}
+use Rattle.std.proofs.Common.{inl, inr, ◌⊎◌, ◌≡◌, ℕ, zero, suc, ◌<◌, ◌≤◌, Bool, true, false, cond, List, [], ◌∷◌, ◌++◌, length, set, Option, Some, None, Result, Ok, Err, OnOk, OnErr, refl, sym, ap, ◌∙◌, subst, arith}
 use Rattle.std.specs.Prelude.{filter, slice_get}
 use Rattle.std.proofs.lemmas.Bool.{cases_eq, cases_lt}
+use Rattle.std.proofs.lemmas.List.Elements.{Contains-append_cases, Contains-append_left, Contains-append_right}
 use Rattle.std.proofs.lemmas.List.Sorted.{length_permutation}
 use Rattle.std.specs.List.{AllByRecursion, Contains}
 use Rattle.bw_core.specs.World.{times}
 use Rattle.bw_core.proofs.Lists.{one_other}
 use Rattle.bw_key.specs.Order.{KeyBytes}
+use Rattle.bw_model.specs.Values.{ValueBytes}
+use Rattle.bw_page.specs.Leaves.{LeafView}
 use Rattle.bw_page.proofs.Truths.{true_holds, left_of, right_of}
 use Rattle.bw_delta.specs.Writes.{WriteView}
 use Rattle.bw_level.specs.Levels.{IsHome, row}
@@ -25,6 +28,9 @@ use Rattle.bw_post.specs.Posting.{IsPostedBeside}
 use Rattle.bw_batch.proofs.KeptHomes.{put_at}
 use Rattle.bw_shape.specs.Limits.{LimitsView, AreWithinBut, IsWithin}
 use Rattle.bw_shape.specs.Tidying.{DueView, HasBoth, KeepsWithin}
+use Rattle.bw_tidy.specs.Findings.{AreFindings, AreLeft, FitsAt, IsFinding, IsLeafAt}
+use Rattle.bw_tidy.specs.declared.findings.Finding.{Finding}
+use Rattle.bw_tidy.specs.declared.leaf_findings.Findings.{Findings}
 
 -- the pairs under the writes stay where pages differ in writes alone
 bare_pairs : (page : Slot) → pairs_under (slot_without_writes page) ≡ pairs_under page
@@ -116,10 +122,37 @@ module _ (tree after : TreeView) (pages heads links due due' : List ℕ) (both :
       by (inr none) (inl has) = inl (both.right p has)
       by (inr none) (inr within) = inr (omega (arith, within.0, same_writes p was_leaf (omega (arith, none))), omega (arith, within.1, same_pairs p (omega (arith, none))))
 
+-- of some pages those are left at which there may be something to do
+pub within_left : (limits : LimitsView) (after : TreeView) (findings : Findings) (stamp : ℕ) (pages left due due' : List ℕ) → AreFindings after stamp findings → findings.limits ≡ limits → AreLeft pages findings.fitting.items left →
+    HasBoth left due due' → AreWithinBut limits after (pages ++ due) → AreWithinBut limits after due'
+within_left limits after findings stamp pages left due due' are same lefts both but p leaf = by (but p leaf)
+  where
+    fits : Contains findings.fitting.items p → IsWithin limits (slot_at after.slots p)
+    fits has = subst (λ l. IsWithin l (slot_at after.slots p)) same (each_fits findings.fitting.items p are.fitting has leaf)
+      where
+        each_fits : (ps : List ℕ) (q : ℕ) → AllByRecursion (λ r. FitsAt after findings.limits r None) ps → Contains ps q → FitsAt after findings.limits q None
+        each_fits [] q all at = absurd (omega (arith, at.1))
+        each_fits (r ∷ rs) q all (zero, lt, here) = subst (λ n. FitsAt after findings.limits n None) here all.0
+        each_fits (r ∷ rs) q all (suc n, lt, there) = each_fits rs q all.1 (n, omega (arith, lt), there)
+
+    by : Contains (pages ++ due) p ⊎ IsWithin limits (slot_at after.slots p) → Contains due' p ⊎ IsWithin limits (slot_at after.slots p)
+    by (inr within) = inr within
+    by (inl has) = elim (Contains-append_cases pages due p has) [
+      | inr was ↦ inl (both.right p was)
+      | inl of ↦ elim (lefts p of) [
+        | inl there ↦ inl (both.left p there)
+        | inr told ↦ inr (fits told)
+      ]
+    ]
+
+pub has_both : (pages due : List ℕ) → HasBoth pages due (pages ++ due)
+has_both pages due = record { left = Contains-append_left pages due; right = Contains-append_right pages due; only = Contains-append_cases pages due }
+
 -- and so behind the batch: to stage it and to accept it moves no page
-pub within_batch : (before tree now after : TreeView) (ops : List Op) (due due' : List ℕ) → tree ≡ staged_on before ops → after ≡ accepted_tree now now.staged → KeepsWithin tree now due due' → KeepsWithin before after due due'
-within_batch before tree now after ops due due' staged accepted kept limits =
-    λ but. accepted_within (kept limits (subst (λ (t : TreeView). AreWithinBut limits t due) (sym staged) but))
+pub within_batch : (limits : LimitsView) (before tree now after : TreeView) (ops : List Op) (due due' : List ℕ) → tree ≡ staged_on before ops → after ≡ accepted_tree now now.staged →
+    (AreWithinBut limits tree due → AreWithinBut limits now due') → AreWithinBut limits before due → AreWithinBut limits after due'
+within_batch limits before tree now after ops due due' staged accepted kept but =
+    accepted_within (kept (subst (λ (t : TreeView). AreWithinBut limits t due) (sym staged) but))
   where
     accepted_within : AreWithinBut limits now due' → AreWithinBut limits after due'
     accepted_within but = subst (λ (t : TreeView). AreWithinBut limits t due') (sym accepted) (by now.staged)
@@ -128,8 +161,39 @@ within_batch before tree now after ops due due' staged accepted kept limits =
         by None = but
         by (Some stage) = but
 
+-- and what was found of the leaves is so still
+module _ (now : TreeView) (stage : StageView) (stamp : ℕ) where
+  abbrev accepted : TreeView
+  accepted = accepted_tree now (Some stage)
+
+  leaf_accepted : (p : ℕ) (o : Option (LeafView ValueBytes)) → IsLeafAt now stamp p o → IsLeafAt accepted stamp p o
+  leaf_accepted p None at = at
+  leaf_accepted p (Some leaf) at = at
+
+  fits_accepted : (limits : LimitsView) (p : ℕ) (o : Option (LeafView ValueBytes)) → FitsAt now limits p o → FitsAt accepted limits p o
+  fits_accepted limits p None fits = fits
+  fits_accepted limits p (Some leaf) fits = fits
+
+  all_accepted : (limits : LimitsView) (findings : List Finding) → AllByRecursion (IsFinding now limits stamp) findings → AllByRecursion (IsFinding accepted limits stamp) findings
+  all_accepted limits [] all = tt
+  all_accepted limits (finding ∷ findings) all = (
+    record {
+      leaf = leaf_accepted finding.page finding.leaf all.0.leaf;
+      fits = λ off. fits_accepted limits finding.page finding.leaf (all.0.fits off);
+      lowest = all.0.lowest;
+    },
+    all_accepted limits findings all.1,
+  )
+
+pub findings_accepted : (now after : TreeView) (stamp : ℕ) (findings : Findings) → after ≡ accepted_tree now now.staged → AreFindings now stamp findings → AreFindings after stamp findings
+findings_accepted now after stamp findings accepted are = subst (λ (t : TreeView). AreFindings t stamp findings) (sym accepted) (by now.staged)
+  where
+    by : (o : Option StageView) → AreFindings (accepted_tree now o) stamp findings
+    by None = are
+    by (Some stage) = record { fitting = are.fitting; due = all_accepted now stage stamp findings.limits findings.due.items are.due }
+
 -- whether the batch was accepted or not
-pub within_answered : {A E : Type 0} (outcome : Result A E) (limits : LimitsView) (old new : TreeView) (due due' : DueView) → OnOk outcome (KeepsWithin old new due.pages due'.pages) → OnErr outcome (new ≡ old) → OnErr outcome (due' ≡ due) →
-    AreWithinBut limits old due.pages → AreWithinBut limits new due'.pages
-within_answered (Ok answered) limits old new due due' kept tree same but = kept limits but
+pub within_answered : {A E : Type 0} (outcome : Result A E) (limits : LimitsView) (old new : TreeView) (due due' : DueView) → OnOk outcome (AreWithinBut limits old due.pages → AreWithinBut limits new due'.pages) → OnErr outcome (new ≡ old) →
+    OnErr outcome (due' ≡ due) → AreWithinBut limits old due.pages → AreWithinBut limits new due'.pages
+within_answered (Ok answered) limits old new due due' kept tree same but = kept but
 within_answered (Err error) limits old new due due' kept tree same but = subst (λ (t : TreeView). AreWithinBut limits t due'.pages) (sym tree) (subst (λ (d : DueView). AreWithinBut limits old d.pages) (sym same) but)

@@ -10,8 +10,9 @@ ghost use Rattle.bw_look.specs.Words.{put_words};
 ghost use Rattle.bw_group.specs.Homes.{AreHomes};
 ghost use Rattle.bw_post.specs.Posting.{IsPostedBeside, IsWaiting};
 ghost use Rattle.bw_shape.specs.LeafRanges.{leaf_ranges};
-ghost use Rattle.bw_shape.specs.Tidying.{KeepsWithin};
-ghost use Rattle.bw_batch.specs.Settings.{most_lost};
+ghost use Rattle.bw_shape.specs.Limits.{AreWithinBut};
+ghost use Rattle.bw_tidy.specs.Findings.{AreFindings, GoOn};
+ghost use Rattle.bw_batch.specs.Settings.{limits_of, most_lost};
 ghost use Rattle.bw_batch.specs.IndexStages.{operations_staged};
 
 use crate::options::Options;
@@ -22,20 +23,28 @@ use bw_memory::Alloc;
 use bw_model::{Op, Replies};
 use bw_post::{Closed, Folded, Gate, Posting, post_all, post_beside};
 use bw_shape::{Due, PageId};
+use bw_tidy::{Findings, put_findings};
 use bw_tree::Tree;
 use std::thread::Threads;
 
-/// The replies to a batch, how many exchanges its posting lost, and how many leaves were replaced beside it.
+// The leaves of the keys of so many operations at the least are looked at while they are answered. Those of fewer are in the
+// caches still when tidying looks at them, and no list is made.
+const MANY: usize = 64;
+
+/// The replies to a batch, how many exchanges its posting lost, how many leaves were replaced beside it, and how many were
+/// consolidated while it was answered.
 #[derive(Drop)]
 pub(crate) struct Answered {
     pub(crate) replies: Replies,
     pub(crate) lost: u64,
     pub(crate) replaced: u64,
+    pub(crate) consolidated: u64,
 }
 
 /// Runs a batch on a tree, whose replies are those of one thread that runs its operations in order on an ordered map. The
-/// pages to which it posts are due then, behind those that are due already: all its pages, where leaves could be consolidated
-/// beside that. After `Memory` all is as before.
+/// pages to which it posts are due then, behind those that are due already, but for those at which there is nothing to do by
+/// what was found while it was answered. Leaves that were consolidated meanwhile are in the places of their chains. After
+/// `Memory` all is as before.
 pub(crate) fn run_batch<R: Threads + Sync, G: Gate>(
     rt: &R,
     alloc: Alloc,
@@ -58,17 +67,23 @@ pub(crate) fn run_batch<R: Threads + Sync, G: Gate>(
     ensures stamped { OnOk result (tree.new.next ≡ tree.old.next + length ops.now) }
     ensures recorded { OnOk result (tree.new.records ≡ tree.old.records + length (writes_of tree.old.next ops.now)) }
     ensures leaves { OnOk result (leaf_ranges tree.new ≡ leaf_ranges tree.old) }
-    ensures within { OnOk result (KeepsWithin tree.old tree.new due.old.pages due.new.pages) }
+    ensures within { let limits = limits_of options.now in
+        OnOk result (AreWithinBut limits tree.old due.old.pages → AreWithinBut limits tree.new due.new.pages) }
     ensures none { tree.new.staged ≡ None }
     ensures err { OnErr result (tree.new ≡ tree.old) }
     ensures due { OnErr result (due.new ≡ due.old) }
 {
     let batch = Grouping::new(alloc, ops)?;
     tree.stage(ops)?;
-    match answer_staged(rt, alloc, tree, due, &batch, options, gate) {
+    let mut findings = Findings::new(alloc, options.limits(), ops.len() >= MANY);
+    match answer_staged(rt, alloc, tree, due, &batch, options, gate, &mut findings) {
         Ok(answered) => {
             tree.accept();
-            Ok(answered)
+            let consolidated = put_findings(tree, due, findings).unwrap_or(0);
+            Ok(Answered {
+                consolidated,
+                ..answered
+            })
         }
         Err(memory) => {
             tree.undo();
@@ -87,6 +102,7 @@ fn answer_staged<R: Threads + Sync, G: Gate>(
     batch: &Grouping<'_>,
     options: &Options,
     gate: &G,
+    findings: &mut Findings,
 ) -> Result<Answered, Memory>
     requires waiting { IsWaiting tree.old tree.old.staged batch.now.ops }
     requires reads { (i : ℕ) → contents_with tree.old (tree.old.next + i)
@@ -101,7 +117,10 @@ fn answer_staged<R: Threads + Sync, G: Gate>(
         contents_at tree.new stamp ≡ contents_with tree.old stamp) }
     ensures recorded { OnOk result (tree.new.records ≡ tree.old.records) }
     ensures leaves { OnOk result (leaf_ranges tree.new ≡ leaf_ranges tree.old) }
-    ensures within { OnOk result (KeepsWithin tree.old tree.new due.old.pages due.new.pages) }
+    ensures found { OnOk result (GoOn tree.new (tree.old.next + length batch.now.ops) findings.old findings.new) }
+    ensures within { let limits = findings.old.limits in let stamp = tree.old.next + length batch.now.ops in
+        OnOk result (AreFindings tree.new stamp findings.new →
+        AreWithinBut limits tree.old due.old.pages → AreWithinBut limits tree.new due.new.pages) }
     ensures due { OnErr result (due.new ≡ due.old) }
     ensures next { tree.new.next ≡ tree.old.next }
     ensures adopted { OnOk result (is_adopted tree.new.staged ≡ true) }
@@ -119,13 +138,15 @@ fn answer_staged<R: Threads + Sync, G: Gate>(
     } = post(rt, alloc, tree, batch, options, gate)?;
     let Adopted { pages, leaves } = adopt(alloc, tree, pages, closed, folded)?;
     let base = tree.next_stamp();
-    let replies = replies(rt, alloc, tree, base, batch, &homes, workers)?;
+    let replies = replies(rt, alloc, tree, base, batch, &homes, workers, findings)?;
     let replaced = leaves.len() as u64;
+    let pages = findings.left_of(alloc, pages)?;
     due.add(tree, pages, &leaves)?;
     Ok(Answered {
         replies,
         lost,
         replaced,
+        consolidated: 0,
     })
 }
 

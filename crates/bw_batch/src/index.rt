@@ -214,8 +214,13 @@ impl Index {
             replies,
             lost,
             replaced,
+            consolidated,
         } = self.answer(rt, ops, gate)?;
         let tidy = self.tidy(rt);
+        let tidy = Tidy {
+            consolidated: tidy.consolidated.saturating_add(consolidated),
+            ..tidy
+        };
         Ok(Done {
             replies,
             tidy,

@@ -26,6 +26,6 @@ pub found_fits : (tree : TreeView) (limits : LimitsView) (p : ℕ) (o : Option (
 found_fits tree limits p None some few = absurd (different (sym some))
 found_fits tree limits p (Some leaf) some few = few
 
-pub found_leaf : (tree : TreeView) → AreLevels tree.slots tree.root tree.levels → (p : ℕ) (o : Option (LeafView ValueBytes)) → is_some o ≡ true → IsLeafAt tree p o → IsInLevel tree p 0
-found_leaf tree lawful p None some at = absurd (different (sym some))
-found_leaf tree lawful p (Some leaf) some at = (lawful.some, at.0)
+pub found_leaf : (tree : TreeView) → AreLevels tree.slots tree.root tree.levels → (stamp p : ℕ) (o : Option (LeafView ValueBytes)) → is_some o ≡ true → IsLeafAt tree stamp p o → IsInLevel tree p 0
+found_leaf tree lawful stamp p None some at = absurd (different (sym some))
+found_leaf tree lawful stamp p (Some leaf) some at = (lawful.some, at.0)

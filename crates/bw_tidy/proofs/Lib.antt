@@ -1,2 +1,3 @@
 pub mod PutLeafLemmas
 pub mod DueLevelLemmas
+pub mod FindingsLemmas

@@ -38,7 +38,7 @@ same_leaf old new same p =
     ∙ ap (λ (s : Option ℕ). leaf_with (contents_at old old.next) (low_of (slot_at old.slots p)) (high_of (slot_at old.slots p)) s) bounds.side
 
 -- so a leaf that was consolidated may take the place of its chain still
-pub leaf_still : (old new : TreeView) → HoldsSame old new → (p : ℕ) (o : Option (LeafView ValueBytes)) → IsLeafAt old p o → IsLeafAt new p o
+pub leaf_still : (old new : TreeView) → HoldsSame old new → (p : ℕ) (o : Option (LeafView ValueBytes)) → IsLeafAt old old.next p o → IsLeafAt new new.next p o
 leaf_still old new same p None at = tt
 leaf_still old new same p (Some leaf) at = (subst (λ (l : List (List ℕ)). Contains (row l 0) p) (sym same.levels) at.0, at.1 ∙ sym (same_leaf old new same p))
 
@@ -173,21 +173,21 @@ still_listed pages begun pages' begun' (x ∷ xs) more more' listed =
     (record { due = λ due. more x.page (listed.0.due due); leaf = λ due leaf. more' x.page (listed.0.leaf due leaf) }, still_listed pages begun pages' begun' xs more more' listed.1)
 
 module _ (limits : LimitsView) (old new : TreeView) (findings : List Finding) (due due' : List ℕ)
-    (of_due : map (λ finding. finding.page) findings ≡ due) (looked : AllByRecursion (IsFinding old limits) findings)
+    (of_due : map (λ finding. finding.page) findings ≡ due) (looked : AllByRecursion (IsFinding old limits old.next) findings)
     (begun : List ℕ) (listed : AreListed due' begun findings)
     (same : HoldsSame old new) (put : ArePut old new findings) (but : AreWithinBut limits old due) where
   consolidated : (p : ℕ) → Contains (row old.levels 0) p → IsPutBy findings p → Contains due' p ⊎ IsWithin limits (slot_at new.slots p)
   consolidated p leaf at =
       let found = put_by findings p at in
       let finding : Finding = found.0 in
-      let is : IsFinding old limits finding = each_of (IsFinding old limits) findings finding looked found.1 in
-      by finding.leaf (subst (λ q. IsLeafAt old q finding.leaf) found.2 is.leaf) (λ none. subst (λ q. FitsAt old limits q finding.leaf) found.2 (is.fits none)) found.3 (λ more. subst (Contains due') found.2 ((each_of (IsListed due' begun) findings finding listed found.1).due more)) (cases_bool finding.is_due)
+      let is : IsFinding old limits old.next finding = each_of (IsFinding old limits old.next) findings finding looked found.1 in
+      by finding.leaf (subst (λ q. IsLeafAt old old.next q finding.leaf) found.2 is.leaf) (λ none. subst (λ q. FitsAt old limits q finding.leaf) found.2 (is.fits none)) found.3 (λ more. subst (Contains due') found.2 ((each_of (IsListed due' begun) findings finding listed found.1).due more)) (cases_bool finding.is_due)
     where
       cases_bool : (b : Bool) → (b ≡ true) ⊎ (b ≡ false)
       cases_bool true = inl refl
       cases_bool false = inr refl
 
-      by : {b : Bool} (o : Option (LeafView ValueBytes)) → IsLeafAt old p o → (b ≡ false → FitsAt old limits p o) → is_some o ≡ true → (b ≡ true → Contains due' p) → (b ≡ true) ⊎ (b ≡ false) → Contains due' p ⊎ IsWithin limits (slot_at new.slots p)
+      by : {b : Bool} (o : Option (LeafView ValueBytes)) → IsLeafAt old old.next p o → (b ≡ false → FitsAt old limits p o) → is_some o ≡ true → (b ≡ true → Contains due' p) → (b ≡ true) ⊎ (b ≡ false) → Contains due' p ⊎ IsWithin limits (slot_at new.slots p)
       by o is fits some listed (inl due) = inl (listed due)
       by None is fits some listed (inr none) = absurd (different (sym some))
       by (Some l) is fits some listed (inr none) =
@@ -199,7 +199,7 @@ module _ (limits : LimitsView) (old new : TreeView) (findings : List Finding) (d
     | inl has ↦
         let found = not_put_by findings p not (subst (λ (l : List ℕ). Contains l p) (sym of_due) has) in
         let finding : Finding = found.0 in
-        let is : IsFinding old limits finding = each_of (IsFinding old limits) findings finding looked found.1 in
+        let is : IsFinding old limits old.next finding = each_of (IsFinding old limits old.next) findings finding looked found.1 in
         by finding.is_due finding.leaf found.3 (λ more. subst (Contains due') found.2 ((each_of (IsListed due' begun) findings finding listed found.1).due more)) (λ none. subst (λ q. FitsAt old limits q finding.leaf) found.2 (is.fits none))
   ]
     where

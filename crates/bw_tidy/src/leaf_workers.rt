@@ -1,12 +1,13 @@
 // Workers who look at the pages that are due.
-ghost use Rattle.std.specs.Prelude.{◌≡◌, ◌<◌, false, None, [], ◌∷◌, map, IfOk, OnOk};
+ghost use Rattle.std.specs.Prelude.{◌≡◌, ◌<◌, false, None, [], ◌∷◌, map, IfOk, OnErr, OnOk};
 ghost use Rattle.std.specs.List.{AllByRecursion};
-ghost use Rattle.bw_shape.specs.Limits.{AreWithinBut};
+ghost use Rattle.bw_shape.specs.Limits.{AreWithinBut, LimitsView};
 ghost use Rattle.bw_shape.specs.Sweeps.{HoldsSame};
 ghost use Rattle.bw_shape.specs.Tidying.{AreAmong, HasNoneDue, HoldsAll};
-ghost use Rattle.bw_tidy.specs.Findings.{AreListed, ArePut, IsFinding, IsLeafAt, IsListed};
+ghost use Rattle.bw_tidy.specs.Findings.{AreFindings, AreListed, ArePut, IsFinding, IsLeafAt, IsListed};
 
 use crate::findings::{Finding, inspect};
+use crate::leaf_findings::Findings;
 use bw_key::Memory;
 use bw_memory::Alloc;
 use bw_page::PageId;
@@ -50,6 +51,30 @@ pub fn tidy_by<R: Threads + Sync>(
     }
 }
 
+/// Puts leaves that were consolidated while a batch was answered in the places of their chains, and answers how many there
+/// are. Those of them that have too few or too many pairs stay due, and so do the pages that are due of which nothing was
+/// found (`tidy_by` looks at them); all others aren't due any more.
+///
+/// The findings are of this tree as of its next stamp, and no batch is staged. It costs a place in three lists for each page
+/// that is due, and nothing where there is nothing to do at the leaves of which it is told. After `Memory` all is as before,
+/// and so it is behind a stop, while leaves that were consolidated before it are due.
+pub fn put_findings(tree: &mut Tree, due: &mut Due, findings: Findings) -> Result<u64, Memory>
+    requires none { tree.old.staged ≡ None }
+    requires found { AreFindings tree.old tree.old.next findings }
+    ensures same { HoldsSame tree.old tree.new }
+    ensures within { AreWithinBut findings.limits tree.old due.old.pages →
+        AreWithinBut findings.limits tree.new due.new.pages }
+    ensures err { OnErr result (tree.new ≡ tree.old) }
+{
+    if findings.has_none_due() || due.has_leaves_begun() {
+        return Ok(0);
+    }
+    let pages = Vec::with_capacity(due.alloc(), due.pages().len())?;
+    let begun = Vec::with_capacity(due.alloc(), due.pages().len())?;
+    let findings = findings.of_pages(due.alloc(), due.pages())?;
+    put_all(tree, due, findings, pages, begun)
+}
+
 // Has so many workers consolidate the leaves that are over a limit, if they are two or more, and answers how many leaves that
 // were. The pages at which there is more to do stay due. After `Memory` all is as before.
 fn consolidate_due<R: Threads + Sync>(
@@ -68,10 +93,33 @@ fn consolidate_due<R: Threads + Sync>(
         return Ok(0);
     }
     // Asked for before the leaves take memory.
-    let mut pages = Vec::with_capacity(due.alloc(), due.pages().len())?;
-    let mut begun = Vec::with_capacity(due.alloc(), due.pages().len())?;
+    let pages = Vec::with_capacity(due.alloc(), due.pages().len())?;
+    let begun = Vec::with_capacity(due.alloc(), due.pages().len())?;
     let mut findings = new_findings(due.alloc(), due.pages())?;
     inspect_all(rt, tree, limits, workers, &mut findings);
+    put_all(tree, due, findings, pages, begun)
+}
+
+// Puts the leaves that were consolidated in the places of their chains, and answers how many there are. The pages at which
+// there is more to do are listed in `pages`, and those of them that were consolidated in `begun`: these are due then. After
+// `Memory` all is as before.
+fn put_all(
+    tree: &mut Tree,
+    due: &mut Due,
+    findings: Vec<Finding, Alloc>,
+    mut pages: Vec<PageId, Alloc>,
+    mut begun: Vec<PageId, Alloc>,
+) -> Result<u64, Memory>
+    requires none { tree.old.staged ≡ None }
+    requires leaves { let next = tree.old.next in
+        AllByRecursion (λ finding. IsLeafAt tree.old next finding.page finding.leaf) findings.items }
+    requires begun { begun.items ≡ [] }
+    ensures same { HoldsSame tree.old tree.new }
+    ensures within { map (λ finding. finding.page) findings.entry.items ≡ due.old.pages → (limits : LimitsView) →
+        AllByRecursion (IsFinding tree.old limits tree.old.next) findings.entry.items →
+        AreWithinBut limits tree.old due.old.pages → AreWithinBut limits tree.new due.new.pages }
+    ensures err { OnErr result (tree.new ≡ tree.old) }
+{
     list_due(&findings, &mut pages, &mut begun)?;
     let consolidated = put_leaves(tree, findings);
     due.keep(pages, begun);
@@ -99,13 +147,13 @@ fn inspect_all<R: Threads + Sync>(
 )
     requires { 0 < workers }
     ensures pages { map (λ finding. finding.page) findings.new ≡ map (λ finding. finding.page) findings.old }
-    ensures found { AllByRecursion (IsFinding tree.now limits.now) findings.new }
+    ensures found { AllByRecursion (IsFinding tree.now limits.now tree.now.next) findings.new }
 {
     let look = move |_place: usize, finding: &mut Finding|
         ensures { (finding.exit.now.page ≡ finding.entry.now.page)
-            × IsFinding tree.entry.now limits.entry.now finding.exit.now }
+            × IsFinding tree.entry.now limits.entry.now tree.entry.now.next finding.exit.now }
     {
-        *finding = inspect(tree, limits, finding.page);
+        *finding = inspect(tree, limits, finding.page, tree.next_stamp());
     };
     for_each_mut(rt, findings, workers, &look);
 }
@@ -150,7 +198,8 @@ fn add_due(
 // Puts each leaf that was consolidated in the place of its chain, and answers how many there are.
 fn put_leaves(tree: &mut Tree, findings: Vec<Finding, Alloc>) -> u64
     requires none { tree.old.staged ≡ None }
-    requires leaves { AllByRecursion (λ finding. IsLeafAt tree.old finding.page finding.leaf) findings.items }
+    requires leaves { let next = tree.old.next in
+        AllByRecursion (λ finding. IsLeafAt tree.old next finding.page finding.leaf) findings.items }
     ensures same { HoldsSame tree.old tree.new }
     ensures put { ArePut tree.old tree.new findings.entry.items }
 {
@@ -164,7 +213,7 @@ fn put_leaves(tree: &mut Tree, findings: Vec<Finding, Alloc>) -> u64
 // Puts a leaf that was consolidated, if it was, in the place of its chain, and answers how many that was.
 fn put_leaf(tree: &mut Tree, finding: Finding) -> u64
     requires none { tree.old.staged ≡ None }
-    requires leaf { IsLeafAt tree.old finding.page finding.leaf }
+    requires leaf { IsLeafAt tree.old tree.old.next finding.page finding.leaf }
     ensures same { HoldsSame tree.old tree.new }
     ensures put { ArePut tree.old tree.new (finding ∷ []) }
 {

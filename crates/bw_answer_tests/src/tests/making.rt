@@ -5,7 +5,7 @@ ghost use Rattle.bw_delta.specs.Batches.{write_of};
 ghost use Rattle.bw_group.specs.Homes.{AreHomes};
 ghost use Rattle.bw_look.specs.View.{contents_at};
 
-use bw_answer::{replies, replies_in_parts};
+use bw_answer::{Findings, Limits, replies, replies_in_parts};
 use bw_fixtures::{LONG, heap, key, pair, three_leaves, two, value};
 use bw_group::{Grouping, Homes, find_homes};
 use bw_key::{Key, Memory};
@@ -164,7 +164,16 @@ pub fn replies_by_workers<R: Threads + Sync>(
 {
     let batch = Grouping::new(alloc, ops)?;
     let homes = find_homes(rt, alloc, tree, &batch, workers)?;
-    replies(rt, alloc, tree, 0, &batch, &homes, workers)
+    replies(
+        rt,
+        alloc,
+        tree,
+        0,
+        &batch,
+        &homes,
+        workers,
+        &mut no_findings(alloc),
+    )
 }
 
 /// The replies to reads, by a tree without writes, in at most so many parts.
@@ -182,7 +191,21 @@ pub fn replies_by_parts<R: Threads + Sync>(
 {
     let batch = Grouping::new(alloc, ops)?;
     let homes = find_homes(rt, alloc, tree, &batch, 1)?;
-    replies_in_parts(rt, alloc, tree, 0, &batch, &homes, count)
+    replies_in_parts(
+        rt,
+        alloc,
+        tree,
+        0,
+        &batch,
+        &homes,
+        count,
+        &mut no_findings(alloc),
+    )
+}
+
+// Nothing is found of leaves.
+fn no_findings(alloc: Alloc) -> Findings {
+    Findings::new(alloc, Limits::new(8, 8, 2), false)
 }
 
 /// The homes of a batch, by so many workers.

@@ -13,8 +13,12 @@ use std::thread::Threads;
 // How many keys there may be.
 const KEYS: usize = 2048;
 
-// How many operations a batch has. Soon they write to some 400 leaves, which four workers look at.
+// How many operations a batch has. Soon they write to some 400 leaves, at which tidying has nothing to do but to merge and to
+// split: they are consolidated while the batch is answered.
 const LEN: u32 = 1024;
+
+// With so many the batch is answered by several workers, who read some leaves both.
+const LONG: u32 = 4096;
 
 // How many batches there are. Of four in a row the last one deletes keys.
 const BATCHES: u32 = 8;
@@ -41,10 +45,16 @@ fn draw<R: Abort>(rt: &R, make: &Maker<R>, random: &mut Random, number: u32, shr
     Op::Upsert(key, make.value(number))
 }
 
-// A batch of upserts or of deletes.
-fn batch<R: Abort>(rt: &R, make: &Maker<R>, random: &mut Random, shrinks: bool) -> Vec<Op, Alloc> {
+// A batch of so many upserts, or deletes.
+fn batch<R: Abort>(
+    rt: &R,
+    make: &Maker<R>,
+    random: &mut Random,
+    len: u32,
+    shrinks: bool,
+) -> Vec<Op, Alloc> {
     let mut ops = Vec::new(make.alloc);
-    for number in 0..LEN {
+    for number in 0..len {
         ops.push(draw(rt, make, random, number, shrinks))
             .expect(rt, "memory");
     }
@@ -53,7 +63,7 @@ fn batch<R: Abort>(rt: &R, make: &Maker<R>, random: &mut Random, shrinks: bool) 
 
 // An index of leaves of up to four pairs, with so many workers and records.
 fn empty<R: Abort>(rt: &R, make: &Maker<R>, workers: u64, record_max: u64) -> Index {
-    let options = Options::new(workers, 64, 1, 4, 2, 1024, record_max).expect(rt, "options");
+    let options = Options::new(workers, 64, 1, 4, 2, LONG as u64, record_max).expect(rt, "options");
     Index::new(make.alloc, options).expect(rt, "an index")
 }
 
@@ -85,12 +95,13 @@ struct Seen {
     merges: u64,
 }
 
-// Runs batches that are drawn by both.
+// Runs batches of so many operations that are drawn by both.
 fn run_all<R: Abort + Threads + Sync>(
     rt: &R,
     make: &Maker<R>,
     one: &mut Index,
     several: &mut Index,
+    len: u32,
 ) -> Seen {
     let mut random = Random::new(20130409);
     let mut seen = Seen {
@@ -98,7 +109,7 @@ fn run_all<R: Abort + Threads + Sync>(
         merges: 0,
     };
     for number in 0..BATCHES {
-        let ops = batch(rt, make, &mut random, number % 4 == 3);
+        let ops = batch(rt, make, &mut random, len, number % 4 == 3);
         let tidy = run_both(rt, one, several, &ops);
         seen.consolidated = seen.consolidated.max(tidy.consolidated);
         seen.merges = seen.merges.saturating_add(tidy.merges);
@@ -107,10 +118,16 @@ fn run_all<R: Abort + Threads + Sync>(
 }
 
 // Compares an index of so many workers with one that has one worker. Batches consolidate more leaves than two workers look at.
-fn compare<R: Abort + Threads + Sync>(rt: &R, make: &Maker<R>, workers: u64, record_max: u64) {
+fn compare<R: Abort + Threads + Sync>(
+    rt: &R,
+    make: &Maker<R>,
+    workers: u64,
+    record_max: u64,
+    len: u32,
+) {
     let mut one = empty(rt, make, 1, record_max);
     let mut several = empty(rt, make, workers, record_max);
-    let seen = run_all(rt, make, &mut one, &mut several);
+    let seen = run_all(rt, make, &mut one, &mut several, len);
     assert_that(rt, seen.consolidated > 192);
     assert_that(rt, seen.merges > 64);
 }
@@ -118,19 +135,25 @@ fn compare<R: Abort + Threads + Sync>(rt: &R, make: &Maker<R>, workers: u64, rec
 #[test]
 fn four_workers_come_to_the_pages_of_one(rt: HostRuntime) {
     let make = Maker::new(&rt, rt.alloc());
-    compare(&rt, &make, 4, AMPLE);
+    compare(&rt, &make, 4, AMPLE, LEN);
 }
 
 #[test]
 fn four_workers_come_to_the_pages_of_one_among_sweeps(rt: HostRuntime) {
     let make = Maker::new(&rt, rt.alloc());
-    compare(&rt, &make, 4, FEW);
+    compare(&rt, &make, 4, FEW, LEN);
 }
 
 #[test]
 fn more_workers_than_there_are_pages_for_come_to_the_pages_of_one(rt: HostRuntime) {
     let make = Maker::new(&rt, rt.alloc());
-    compare(&rt, &make, 64, AMPLE);
+    compare(&rt, &make, 64, AMPLE, LEN);
+}
+
+#[test]
+fn four_workers_who_read_leaves_both_come_to_the_pages_of_one(rt: HostRuntime) {
+    let make = Maker::new(&rt, rt.alloc());
+    compare(&rt, &make, 4, AMPLE, LONG);
 }
 
 // An index of so many workers that ran these batches.
@@ -190,7 +213,7 @@ fn comes_to<R: Abort + Threads + Sync>(
 fn upserts<R: Abort>(rt: &R, make: &Maker<R>, random: &mut Random) -> Vec<Vec<Op, Alloc>, Alloc> {
     let mut list = Vec::new(make.alloc);
     for _ in 0..2 {
-        list.push(batch(rt, make, random, false))
+        list.push(batch(rt, make, random, LEN, false))
             .expect(rt, "memory");
     }
     list
@@ -218,7 +241,7 @@ fn refuse_some<R: Abort + Threads + Sync>(
 fn refuse_some_of<R: Abort + Threads + Sync>(rt: &R, make: &Maker<R>, shrinks: bool) {
     let mut random = Random::new(20130410);
     let before = upserts(rt, make, &mut random);
-    let ops = batch(rt, make, &mut random, shrinks);
+    let ops = batch(rt, make, &mut random, LEN, shrinks);
     refuse_some(rt, make, &before, &ops);
 }
 
@@ -253,37 +276,30 @@ fn stands<R: Abort + Threads + Sync>(
     }
 }
 
-// The first growth that may be refused so that the batch stands: the first one of tidying. Whether tidying stopped there.
-fn first_of_tidying<R: Abort + Threads + Sync>(
+// Whether tidying stopped behind a batch of which the first growth was refused that may be, so that the batch stands.
+fn stops_at_first<R: Abort + Threads + Sync>(
     rt: &R,
     make: &Maker<R>,
     workers: u64,
     before: &[Vec<Op, Alloc>],
     ops: &[Op],
-) -> (u64, bool) {
+) -> bool {
     for growth in 1..4096u64 {
         if let Some(stopped) = stands(rt, make, workers, before, ops, growth) {
-            return (growth, stopped);
+            return stopped;
         }
     }
     panic!(rt; "each batch was refused");
 }
 
-// Where workers consolidate leaves, three lists are made first, and one thread does all where one of them finds no memory. One
-// worker makes no such list, and stops at the first growth that it is refused.
+// The first growth that may be refused is that of a leaf that is consolidated while the batch is answered. Tidying does it, then.
 #[test]
-fn one_thread_goes_on_where_a_list_finds_no_memory(rt: HostRuntime) {
+fn tidying_goes_on_where_a_leaf_finds_no_memory(rt: HostRuntime) {
     let make = Maker::new(&rt, rt.alloc());
     let mut random = Random::new(20130411);
     let before = upserts(&rt, &make, &mut random);
-    let ops = batch(&rt, &make, &mut random, false);
-    let (first, stopped) = first_of_tidying(&rt, &make, 4, &before, &ops);
-    assert_that(&rt, !stopped);
-    for more in 1..3u64 {
-        let growth = first.saturating_add(more);
-        let stopped = stands(&rt, &make, 4, &before, &ops, growth);
-        assert_equal(&rt, stopped, Some(false));
+    let ops = batch(&rt, &make, &mut random, LEN, false);
+    for workers in [1u64, 4] {
+        assert_that(&rt, !stops_at_first(&rt, &make, workers, &before, &ops));
     }
-    let (_, stopped) = first_of_tidying(&rt, &make, 1, &before, &ops);
-    assert_that(&rt, stopped);
 }

@@ -1,10 +1,10 @@
-use Rattle.std.proofs.Common.{ℕ, List, length, ap, subst, ◌∙◌}
+use Rattle.std.proofs.Common.{ℕ, ◌+◌, List, ◌++◌, length, ap, subst, ◌∙◌}
 use Rattle.bw_tree.proofs.SwappedWords.{length_put}
 use Rattle.bw_model.specs.Model.{replies_of}
 use Rattle.bw_look.specs.View.{contents_at}
-use Rattle.bw_shape.specs.Tidying.{HasBoth}
+use Rattle.bw_tidy.specs.Findings.{AreLeft, GoOn}
 use Rattle.bw_batch.proofs.BatchLemmas.{start_adopted}
-use Rattle.bw_batch.proofs.DueLemmas.{within_posted}
+use Rattle.bw_batch.proofs.DueLemmas.{has_both, within_left, within_posted}
 use Rattle.bw_batch.proofs.LeavesLemmas.{wide_leaves}
 use Rattle.bw_batch.proofs.KeptHomes.{adopted_wide, homes_stay}
 use Rattle.bw_batch.proofs.batch.answer_staged.Goals as goal
@@ -21,15 +21,24 @@ replies-requires-clause-homes g c κs within =
 
 pub returns-clause-replies : goal.returns-clause-replies
 returns-clause-replies g c =
-    c.in_ok-replies.ensures
+    c.in_ok-replies.ensures.replies
     ∙ ap (replies_of c.args.batch.now.ops) (ap (contents_at c.adopt.new.tree) c.next_stamp-base.ensures ∙ start_adopted c.args.tree.now c.adopt.new.tree c.in_ok-pages.ensures.ok.next c.in_ok-pages.ensures.ok.contents)
 
+pub returns-clause-found : goal.returns-clause-found
+returns-clause-found g c =
+    let first = c.args.findings.now in
+    subst (λ n. GoOn c.adopt.new.tree (n + length c.args.batch.now.ops) first c.replies.new.findings) (c.next_stamp-base.ensures ∙ c.in_ok-pages.ensures.ok.next) c.replies.ensures.findings
+
 pub returns-clause-within : goal.returns-clause-within
-returns-clause-within g c =
+returns-clause-within g c = λ are but.
     let posting = c.in_ok-homes.field-0 in
-    within_posted c.args.tree.now c.adopt.new.tree posting.pages.items posting.closed.heads posting.closed.links c.args.due.now.pages c.add.new.self.pages
-    (subst (λ (l : List ℕ). HasBoth l c.args.due.now.pages c.add.new.self.pages) (c.in_ok-pages.ensures.pages) c.in_ok-add.ensures.ok)
-    posting.folded.items c.in_ok-homes.ensures.posted c.in_ok-pages.ensures.ok.levels c.in_ok-pages.ensures.ok.pages c.in_ok-pages.ensures.ok.writes
+    let limits = c.args.findings.now.limits in
+    let pages = posting.pages.items in
+    let due = c.args.due.now.pages in
+    within_left limits c.adopt.new.tree c.replies.new.findings (c.args.tree.now.next + length c.args.batch.now.ops) pages c.in_ok-pages-2.pages.items due c.add.new.self.pages are c.replies.ensures.findings.limits
+    (subst (λ (l : List ℕ). AreLeft l c.replies.new.findings.fitting.items c.in_ok-pages-2.pages.items) c.in_ok-pages.ensures.pages c.in_ok-pages-2.ensures) c.in_ok-add.ensures.ok
+    (within_posted c.args.tree.now c.adopt.new.tree pages posting.closed.heads posting.closed.links due (pages ++ due) (has_both pages due)
+    posting.folded.items c.in_ok-homes.ensures.posted c.in_ok-pages.ensures.ok.levels c.in_ok-pages.ensures.ok.pages c.in_ok-pages.ensures.ok.writes limits but)
 
 pub returns-clause-leaves : goal.returns-clause-leaves
 returns-clause-leaves g c =

@@ -11,8 +11,7 @@ loop-place-init c =
 
 pub loop-place-preserved : goal.loop-place-preserved
 loop-place-preserved c =
-    let narrow = c.narrow.ensures in
-    (
+    let narrow = c.narrow.ensures in (
       put_before c.loop-place.place (c.loop-place.place - 1) c.loop-place.low c.in_ok-low-2.low c.narrow.new.self c.loop-place.leaves.items c.push-in-loop-place.new.self.items (omega (arith, c.loop-place-test.true))
           (ap (λ (l : LeafView ValueBytes). l.low) narrow ∙ c.in_ok-leaf.ensures.low ∙ c.in_ok-copy-2.ensures.ok)
           (ap (λ (l : LeafView ValueBytes). l.high) narrow) (ap (λ (l : LeafView ValueBytes). l.side) narrow) c.loop-place.invariant.0 c.in_ok-push-2.ensures.items,

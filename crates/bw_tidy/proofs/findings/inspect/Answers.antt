@@ -14,5 +14,5 @@ returns-clause-found c =
     record {
       leaf = c.consolidated-leaf.ensures;
       fits = λ off. found_fits tree c.args.limits.now c.args.page leaf (c.needs_more-is_due.ensures.some off) (c.needs_more-is_due.ensures.few off);
-      lowest = λ off level on. leaf_lowest tree c.know_levels.ensures.lawful c.args.page level on (found_leaf tree c.know_levels.ensures.lawful c.args.page leaf (c.needs_more-is_due.ensures.some off) c.consolidated-leaf.ensures);
+      lowest = λ off level on. leaf_lowest tree c.know_levels.ensures.lawful c.args.page level on (found_leaf tree c.know_levels.ensures.lawful c.args.stamp c.args.page leaf (c.needs_more-is_due.ensures.some off) c.consolidated-leaf.ensures);
     }

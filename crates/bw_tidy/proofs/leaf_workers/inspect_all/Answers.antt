@@ -12,4 +12,4 @@ returns-clause-pages g c =
 pub returns-clause-found : goal.returns-clause-found
 returns-clause-found g c =
     let len : length c.for_each_mut.new.s ≡ length c.args.findings.now = search rules in
-    all_each (IsFinding c.args.tree.now c.args.limits.now) c.for_each_mut.new.s (λ i d lt. (let call = (c.for_each_mut.ensures i d (omega (arith, lt, len))).1 in subst (IsFinding c.args.tree.now c.args.limits.now) call.left call.call.1))
+    all_each (IsFinding c.args.tree.now c.args.limits.now c.args.tree.now.next) c.for_each_mut.new.s (λ i d lt. (let call = (c.for_each_mut.ensures i d (omega (arith, lt, len))).1 in subst (IsFinding c.args.tree.now c.args.limits.now c.args.tree.now.next) call.left call.call.1))

@@ -7,5 +7,5 @@ abbrev pub invariant-loop-finding : goal.invariant-loop-finding
 invariant-loop-finding l = record {
   same : HoldsSame l.fn.tree l.tree;
   put : ArePut l.fn.tree l.tree l.yielded;
-  leaves : AllByRecursion (λ finding. IsLeafAt l.fn.tree finding.page finding.leaf) l.finding-iterator.rest.items;
+  leaves : AllByRecursion (λ finding. IsLeafAt l.fn.tree l.fn.tree.next finding.page finding.leaf) l.finding-iterator.rest.items;
 }

@@ -1,4 +1,5 @@
-use Rattle.std.proofs.Common.{◌-◌}
+use Rattle.std.proofs.Common.{◌-◌, ◌+◌, length}
+use Rattle.bw_tidy.proofs.FindingsLemmas.{begin, go_on}
 use Rattle.bw_answer.proofs.Gathered.{both_answered}
 use Rattle.bw_answer.proofs.GroupReads.{points_part}
 use Rattle.bw_answer.proofs.batch_reader.BatchReader.answer_part.Goals as goal
@@ -8,7 +9,14 @@ answer_points-requires c =
     let start = c.args.part.points.start in
     record { points = points_part c.args.self.now.ops c.args.points.now start (c.args.part.points.end - start) c.requires.points }
 
-pub returns : goal.returns
-returns c =
+pub returns-clause-answers : goal.returns-clause-answers
+returns-clause-answers c =
     both_answered c.args.self.now c.args.points.now c.args.scans.now c.args.part c.in_ok-answers.answers.items c.answer_points.new.answers.items c.answer_scans.new.answers.items c.in_ok-answers.ensures.items
-    c.in_ok-answer_points.ensures c.in_ok-answer_scans.ensures
+    c.in_ok-answer_points.ensures.answers c.in_ok-answer_scans.ensures
+
+pub returns-clause-findings : goal.returns-clause-findings
+returns-clause-findings c =
+    let batch = c.args.self.now in
+    let stamp = batch.base + length batch.ops in
+    go_on batch.tree stamp c.args.findings.now c.again-findings.result c.answer_points.new.findings
+    (begin batch.tree stamp c.args.findings.now c.again-findings.result c.again-findings.ensures.limits (c.again-findings.ensures.found batch.tree stamp)) c.answer_points.ensures.findings

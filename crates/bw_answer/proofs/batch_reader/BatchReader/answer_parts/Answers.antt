@@ -3,7 +3,7 @@ use Rattle.std.specs.List.{AllZip}
 use Rattle.rayon.proofs.ToStd.{slice-AllZip}
 use Rattle.bw_answer.specs.Parts.{places_in}
 use Rattle.bw_group.specs.Points.{entries_of, places_of}
-use Rattle.bw_answer.specs.Replies.{answers_to}
+use Rattle.bw_answer.specs.Replies.{GoesOnTo, answers_to}
 use Rattle.bw_answer.proofs.Gathered.{all_gathered}
 use Rattle.bw_answer.proofs.batch_reader.BatchReader.answer_parts.Goals as goal
 
@@ -16,6 +16,8 @@ returns g c =
     let points = places_of (entries_of c.args.points.now) in
     let scans = c.args.scans.now in
     let parts = c.args.parts.now in
-    all_gathered batch points scans parts h.0 c.in_ok-collect.field-0
-    (slice-AllZip chain.0 parts (chain.1 ∙ over) (λ part r. IfOk r (λ answers. answers.items ≡ answers_to batch (places_in points scans part))) h.0
-    (subst (λ f. AllZip (λ x r. IfOk r (λ answers. answers.items ≡ answers_to f.0.now (places_in (places_of (entries_of f.2.now)) f.3.now x.now))) chain.0 h.0) c.map.ensures.f chain.2)) h.2
+    let first = c.args.findings.now in
+    let both = all_gathered batch points scans first parts h.0 c.in_ok-collect.field-0
+    (slice-AllZip chain.0 parts (chain.1 ∙ over) (λ part r. IfOk r (λ list. (list.answers.items ≡ answers_to batch (places_in points scans part)) × GoesOnTo batch first list.findings)) h.0
+    (subst (λ f. AllZip (λ x r. IfOk r (λ list. (list.answers.items ≡ answers_to f.0.now (places_in (places_of (entries_of f.2.now)) f.3.now x.now)) × GoesOnTo f.0.now f.4.now list.findings)) chain.0 h.0) c.map.ensures.f chain.2)) h.2 in
+    record { answers = both.0; findings = both.1 }

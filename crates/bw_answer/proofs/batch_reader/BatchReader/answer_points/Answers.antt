@@ -1,4 +1,4 @@
-use Rattle.std.proofs.Common.{◌-◌, take, drop, subst, arith}
+use Rattle.std.proofs.Common.{◌-◌, ◌+◌, length, take, drop, subst, arith}
 use Rattle.std.specs.List.{AllByRecursion}
 use Rattle.bw_tree.specs.Levels.{IsHome, IsOneHome}
 use Rattle.bw_group.specs.Homes.{IsPageAt}
@@ -9,6 +9,8 @@ use Rattle.bw_group.proofs.HomeReads.{run_at_home}
 use Rattle.bw_group.proofs.ListParts.{all_same}
 use Rattle.bw_answer.proofs.GroupReads.{all_listed, first_home, points_part}
 use Rattle.bw_answer.proofs.ReplyLemmas.{all_answered, answered_none, part_answered}
+use Rattle.bw_tidy.specs.Findings.{GoOn}
+use Rattle.bw_tidy.proofs.FindingsLemmas.{go_on, stay}
 use Rattle.bw_answer.proofs.batch_reader.BatchReader.answer_points.Goals as goal
 
 pub run_from-page-requires-clause-pages : goal.run_from-page-requires-clause-pages
@@ -37,12 +39,21 @@ answer_run-requires-clause-points c =
     points_part c.args.self.now.ops c.args.points.now start (c.run_from-page.result.1 - start) c.requires.points
 
 pub loop-start-init : goal.loop-start-init
-loop-start-init c = answered_none c.args.self.now c.args.points.now c.args.answers.now.items
+loop-start-init c = record {
+  answered = answered_none c.args.self.now c.args.points.now c.args.answers.now.items;
+  findings = stay c.args.self.now.tree (c.args.self.now.base + length c.args.self.now.ops) c.args.findings.now;
+}
 
 pub loop-start-preserved : goal.loop-start-preserved
 loop-start-preserved c =
-    part_answered c.args.self.now c.args.points.now c.loop-start.start c.run_from-page.result.1 c.args.answers.now.items c.loop-start.answers.items c.answer_run.new.answers.items (omega (arith, c.run_from-page.ensures.more))
-    c.run_from-page.ensures.bound c.loop-start.invariant c.in_ok-answer_run.ensures
+    let batch = c.args.self.now in
+    record {
+      answered = part_answered batch c.args.points.now c.loop-start.start c.run_from-page.result.1 c.args.answers.now.items c.loop-start.answers.items c.answer_run.new.answers.items (omega (arith, c.run_from-page.ensures.more))
+          c.run_from-page.ensures.bound c.loop-start.invariant.answered c.in_ok-answer_run.ensures;
+      findings = go_on batch.tree (batch.base + length batch.ops) c.args.findings.now c.loop-start.findings c.look_at.new.self c.loop-start.invariant.findings
+          (subst (λ n. GoOn batch.tree n c.loop-start.findings c.look_at.new.self) c.stamp_behind-stamp.ensures
+          (subst (λ (v : ReaderView). GoOn v.tree c.stamp_behind-stamp.result c.loop-start.findings c.look_at.new.self) c.self.view_is c.look_at.ensures));
+    }
 
-pub returns : goal.returns
-returns c = all_answered c.args.self.now c.args.points.now c.loop-start.start c.args.answers.now.items c.loop-start.answers.items c.loop-start-test.false c.loop-start.invariant
+pub returns-clause-answers : goal.returns-clause-answers
+returns-clause-answers c = all_answered c.args.self.now c.args.points.now c.loop-start.start c.args.answers.now.items c.loop-start.answers.items c.loop-start-test.false c.loop-start.invariant.answered
