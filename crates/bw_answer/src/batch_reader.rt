@@ -156,7 +156,8 @@ impl<'a> BatchReader<'a> {
     ) -> Result<(), Memory>
         requires points { ArePointsOf self.now.ops points.now }
         ensures findings { GoesOnTo self.now findings.old findings.new }
-        ensures answers { OnOk result (answers.new.items ≡ answers.old.items ++ answers_to self.now (point_places points.now)) }
+        ensures answers { let more = answers_to self.now (point_places points.now) in
+            OnOk result (answers.new.items ≡ answers.old.items ++ more) }
     {
         let stamp = self.stamp_behind();
         let mut start = 0;

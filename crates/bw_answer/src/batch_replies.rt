@@ -5,7 +5,7 @@ ghost use Rattle.bw_model.specs.Model.{replies_of};
 ghost use Rattle.bw_look.specs.View.{TreeView, contents_at};
 ghost use Rattle.bw_group.specs.Homes.{AreHomes};
 ghost use Rattle.bw_group.specs.Points.{IsScanOf};
-ghost use Rattle.bw_tidy.specs.Findings.{AreFindings, GoOn};
+ghost use Rattle.bw_tidy.specs.Findings.{GoOn};
 ghost use Rattle.bw_answer.specs.Replies.{ArePointsOf, GoesOnTo, HasContentsInTurn};
 ghost use Rattle.bw_answer.specs.Replies.{answers_to, point_places, replies_to, with_answers};
 
@@ -33,8 +33,9 @@ use std::thread::Threads;
 /// scans back, is read one scan after another (`Scans`). A leaf that lies in several parts has its writes sorted in
 /// each. `Memory` is answered where a list, a map or a reply finds none, in any part.
 ///
-/// `findings` get what is found of the leaves of the batch's keys, as of the stamp behind the batch: each worker looks at
-/// the leaves of its part while it reads them.
+/// Where `findings` look at leaves, they get what is found of those of the batch's keys, as of the stamp behind the batch:
+/// each part looks at its leaves while it reads them, and two that read one leaf both do. What is consolidated is kept
+/// beside the replies, which may find no memory for that.
 pub fn replies<R: Threads + Sync>(
     rt: &R,
     alloc: Alloc,
@@ -126,7 +127,8 @@ fn place_points(
     requires points { ArePointsOf reader.now.ops points.now }
     requires there { AllByRecursion (λ place. place < length replies.old) (point_places points.now) }
     ensures findings { GoesOnTo reader.now findings.old findings.new }
-    ensures replies { OnOk result (replies.new ≡ with_answers replies.old (answers_to reader.now (point_places points.now))) }
+    ensures replies { let answers = answers_to reader.now (point_places points.now) in
+        OnOk result (replies.new ≡ with_answers replies.old answers) }
 {
     let mut start = 0;
     while start < points.len() {
@@ -169,9 +171,11 @@ fn absent_replies(alloc: Alloc, len: usize) -> Result<Vec<Reply, Alloc>, Memory>
 
 // Puts the answers of each part at their places, and adds what was found of leaves.
 fn place_lists(replies: &mut [Reply], findings: &mut Findings, lists: Vec<PartAnswers, Alloc>)
-    requires there { AllByRecursion (λ a. a.place < length replies.old) (flat_map (λ list. list.answers.items) lists.items) }
+    requires there { let answers = flat_map (λ list. list.answers.items) lists.items in
+        AllByRecursion (λ a. a.place < length replies.old) answers }
     requires limits { AllByRecursion (λ list. list.findings.limits ≡ findings.old.limits) lists.items }
-    ensures replies { replies.new ≡ with_answers replies.old (flat_map (λ list. list.answers.items) lists.entry.items) }
+    ensures replies { let answers = flat_map (λ list. list.answers.items) lists.entry.items in
+        replies.new ≡ with_answers replies.old answers }
     ensures findings { (tree : TreeView) (stamp : ℕ) →
         AllByRecursion (λ list. GoOn tree stamp findings.old list.findings) lists.entry.items →
         GoOn tree stamp findings.old findings.new }

@@ -16,7 +16,7 @@ ghost use Rattle.bw_batch.specs.Settings.{limits_of, most_lost};
 ghost use Rattle.bw_batch.specs.IndexStages.{operations_staged};
 
 use crate::options::Options;
-use bw_answer::replies;
+use bw_answer::{count_parts, replies};
 use bw_group::Grouping;
 use bw_key::Memory;
 use bw_memory::Alloc;
@@ -27,8 +27,8 @@ use bw_tidy::{Findings, put_findings};
 use bw_tree::Tree;
 use std::thread::Threads;
 
-// The leaves of the keys of so many operations at the least are looked at while they are answered. Those of fewer are in the
-// caches still when tidying looks at them, and no list is made.
+// One worker looks at the leaves of so many operations at the least while it answers them. Those of fewer are in the caches
+// still when tidying looks at them, and no list is made.
 const MANY: usize = 64;
 
 /// The replies to a batch, how many exchanges its posting lost, how many leaves were replaced beside it, and how many were
@@ -74,8 +74,9 @@ pub(crate) fn run_batch<R: Threads + Sync, G: Gate>(
     ensures due { OnErr result (due.new ≡ due.old) }
 {
     let batch = Grouping::new(alloc, ops)?;
-    tree.stage(ops)?;
-    let mut findings = Findings::new(alloc, options.limits(), ops.len() >= MANY);
+    let staged = tree.stage(ops)?;
+    let looks = are_looked_at(&batch, staged.records, due, options.workers());
+    let mut findings = Findings::new(alloc, options.limits(), looks);
     match answer_staged(rt, alloc, tree, due, &batch, options, gate, &mut findings) {
         Ok(answered) => {
             tree.accept();
@@ -90,6 +91,17 @@ pub(crate) fn run_batch<R: Threads + Sync, G: Gate>(
             Err(memory)
         }
     }
+}
+
+// Whether leaves are looked at while a batch of so many records is answered: where that is done in several parts, or by one
+// worker alone. Else workers look at them behind it, and so they do where it only reads, or where leaves are due that were
+// consolidated before a stop.
+fn are_looked_at(batch: &Grouping<'_>, records: u64, due: &Due, workers: u64) -> bool {
+    if records == 0 || due.has_leaves_begun() {
+        return false;
+    }
+    let parts = count_parts(batch.points().len(), batch.scans().len(), workers);
+    parts > 1 || workers == 1 && batch.ops().len() >= MANY
 }
 
 // Posts a staged batch, adopts it, and answers each of its operations as of its stamp. What `undo` leaves is the same
@@ -140,7 +152,7 @@ fn answer_staged<R: Threads + Sync, G: Gate>(
     let base = tree.next_stamp();
     let replies = replies(rt, alloc, tree, base, batch, &homes, workers, findings)?;
     let replaced = leaves.len() as u64;
-    let pages = findings.left_of(alloc, pages)?;
+    let pages = findings.left_of(alloc, pages);
     due.add(tree, pages, &leaves)?;
     Ok(Answered {
         replies,

@@ -47,9 +47,10 @@ impl Findings {
         Findings::new(alloc, self.limits, self.looks)
     }
 
-    /// Looks at a leaf. One that is over a limit is consolidated as of the stamp, which is behind those of all its writes.
-    /// It costs two walks along the leaf's chain, and what `Tree::leaf_as_of` does where the leaf is over a limit. Nothing
-    /// is told of a leaf for which a list finds no memory.
+    /// Looks at a leaf, where leaves are looked at. One that is over a limit is consolidated as of the stamp, which is behind
+    /// those of all its writes. It costs two walks along the leaf's chain, or one and what `Tree::leaf_as_of` does where
+    /// there are too many writes. The consolidated leaf is kept until it takes the place of its chain, or is let go. Nothing
+    /// is told of a leaf that finds no memory, or for which a list finds none.
     pub fn look_at(&mut self, tree: &Tree, page: PageId, stamp: u64)
         ensures { GoOn tree.now stamp self.old self.new }
     {
@@ -76,21 +77,27 @@ impl Findings {
         self.add_all_due(due);
     }
 
-    /// Those of these pages, which stand in the order of keys, of which it isn't told that there is nothing to do at them.
-    /// Where that is told of none, it takes no memory.
-    pub fn left_of(
-        &self,
-        alloc: Alloc,
-        pages: Vec<PageId, Alloc>,
-    ) -> Result<Vec<PageId, Alloc>, Memory>
-        ensures { IfOk result (λ left. AreLeft pages.entry.items self.now.fitting.items left.items) }
+    /// Those of these pages, which stand in the order of keys, of which it isn't told that there is nothing to do at them. It
+    /// is all of them where that is told of none, and where their list finds no memory.
+    pub fn left_of(&self, alloc: Alloc, pages: Vec<PageId, Alloc>) -> Vec<PageId, Alloc>
+        ensures { AreLeft pages.entry.items self.now.fitting.items result.items }
     {
         if self.fitting.is_empty() {
-            return Ok(pages);
+            return pages;
         }
+        match self.list_left(alloc, &pages) {
+            Ok(left) => left,
+            Err(_) => pages,
+        }
+    }
+
+    // A list of those of these pages of which it isn't told that there is nothing to do at them.
+    fn list_left(&self, alloc: Alloc, pages: &[PageId]) -> Result<Vec<PageId, Alloc>, Memory>
+        ensures { IfOk result (λ left. AreLeft pages.now self.now.fitting.items left.items) }
+    {
         let mut left = Vec::new(alloc);
         let mut place = 0;
-        for page in &pages {
+        for page in pages {
             if self.is_fitting_at(place, *page) {
                 place = place.saturating_add(1);
             } else {

@@ -26,8 +26,8 @@ const LEAST_PAGES: usize = 64;
 /// Which pages there are then, and what is counted, doesn't depend on the number of workers, where each page is due once and
 /// no memory is refused. It costs what `tidy_due` does, a place in three lists for each page that is due, and, until they take
 /// their places, the memory of all leaves that were consolidated beside that of the pages for which they stand. A worker whose
-/// leaf finds no memory leaves it to the one thread, and where a list finds none, that does all. So it does behind a stop,
-/// while leaves that were consolidated before it are due still.
+/// leaf finds no memory leaves it to the one thread, and where a list finds none, that does all. So it does while leaves are
+/// due that were consolidated before: behind a stop, or while the batch was answered (`put_findings`).
 pub fn tidy_by<R: Threads + Sync>(
     rt: &R,
     tree: &mut Tree,
@@ -65,6 +65,7 @@ pub fn put_findings(tree: &mut Tree, due: &mut Due, findings: Findings) -> Resul
     ensures within { AreWithinBut findings.limits tree.old due.old.pages →
         AreWithinBut findings.limits tree.new due.new.pages }
     ensures err { OnErr result (tree.new ≡ tree.old) }
+    ensures due { OnErr result (due.new ≡ due.old) }
 {
     if findings.has_none_due() || due.has_leaves_begun() {
         return Ok(0);
@@ -114,11 +115,13 @@ fn put_all(
     requires leaves { let next = tree.old.next in
         AllByRecursion (λ finding. IsLeafAt tree.old next finding.page finding.leaf) findings.items }
     requires begun { begun.items ≡ [] }
+    requires none_begun { due.old.begun ≡ [] }
     ensures same { HoldsSame tree.old tree.new }
     ensures within { map (λ finding. finding.page) findings.entry.items ≡ due.old.pages → (limits : LimitsView) →
         AllByRecursion (IsFinding tree.old limits tree.old.next) findings.entry.items →
         AreWithinBut limits tree.old due.old.pages → AreWithinBut limits tree.new due.new.pages }
     ensures err { OnErr result (tree.new ≡ tree.old) }
+    ensures due { OnErr result (due.new ≡ due.old) }
 {
     list_due(&findings, &mut pages, &mut begun)?;
     let consolidated = put_leaves(tree, findings);

@@ -155,3 +155,31 @@ fn a_leaf_that_was_begun_is_merged_behind_two_stops(rt: HostRuntime) {
     }
     assert_that(&rt, cuts > 1);
 }
+
+// Behind a stop runs a batch that is long enough for its leaves to be looked at while it is answered. It consolidates the first
+// leaf, and the third one is merged. Whether there was such a stop.
+fn is_merged_behind_many<R: Abort + Threads + Sync>(rt: &R, make: &Maker<R>, growth: u64) -> bool {
+    let mut both = four_leaves(rt, make, 2);
+    if !is_cut(rt, make, &mut both, growth) {
+        return false;
+    }
+    let ops = upserts(rt, make, &[10; 64]);
+    let done = both.index.run(rt, &ops, &OpenGate).expect(rt, "memory");
+    assert_equal(rt, done.tidy, MERGED);
+    both.plain.run(rt, &ops);
+    both.plain.tidy(rt);
+    same_pages(rt, &both.index, &both.plain);
+    true
+}
+
+#[test]
+fn a_leaf_that_was_begun_is_merged_behind_a_long_batch(rt: HostRuntime) {
+    let make = Maker::new(&rt, rt.alloc());
+    let mut cuts = 0u64;
+    for growth in 1..100 {
+        if is_merged_behind_many(&rt, &make, growth) {
+            cuts = cuts.saturating_add(1);
+        }
+    }
+    assert_that(&rt, cuts > 1);
+}

@@ -13,11 +13,11 @@ use std::thread::Threads;
 // How many keys there may be.
 const KEYS: usize = 2048;
 
-// How many operations a batch has. Soon they write to some 400 leaves, at which tidying has nothing to do but to merge and to
-// split: they are consolidated while the batch is answered.
+// How many operations a batch has. Soon they write to some 400 leaves. One worker consolidates them while it answers the batch,
+// and four do behind it.
 const LEN: u32 = 1024;
 
-// With so many the batch is answered by several workers, who read some leaves both.
+// With so many the batch is answered by several workers, who consolidate leaves meanwhile. Some leaves are read by two.
 const LONG: u32 = 4096;
 
 // How many batches there are. Of four in a row the last one deletes keys.
@@ -237,24 +237,30 @@ fn refuse_some<R: Abort + Threads + Sync>(
     }
 }
 
-// Some growths of a batch of upserts or of deletes are refused one by one, behind two batches of upserts.
-fn refuse_some_of<R: Abort + Threads + Sync>(rt: &R, make: &Maker<R>, shrinks: bool) {
+// Some growths of a batch of so many upserts or deletes are refused one by one, behind two batches of upserts.
+fn refuse_some_of<R: Abort + Threads + Sync>(rt: &R, make: &Maker<R>, len: u32, shrinks: bool) {
     let mut random = Random::new(20130410);
     let before = upserts(rt, make, &mut random);
-    let ops = batch(rt, make, &mut random, LEN, shrinks);
+    let ops = batch(rt, make, &mut random, len, shrinks);
     refuse_some(rt, make, &before, &ops);
 }
 
 #[test]
 fn pages_are_the_same_behind_a_growth_that_was_refused(rt: HostRuntime) {
     let make = Maker::new(&rt, rt.alloc());
-    refuse_some_of(&rt, &make, false);
+    refuse_some_of(&rt, &make, LEN, false);
+}
+
+#[test]
+fn pages_of_several_parts_are_the_same_behind_a_growth_that_was_refused(rt: HostRuntime) {
+    let make = Maker::new(&rt, rt.alloc());
+    refuse_some_of(&rt, &make, LONG, false);
 }
 
 #[test]
 fn fewer_pages_are_the_same_behind_a_growth_that_was_refused(rt: HostRuntime) {
     let make = Maker::new(&rt, rt.alloc());
-    refuse_some_of(&rt, &make, true);
+    refuse_some_of(&rt, &make, LEN, true);
 }
 
 // Whether tidying stopped behind a batch of so many workers, where this growth is refused, if the batch stands.
@@ -276,30 +282,37 @@ fn stands<R: Abort + Threads + Sync>(
     }
 }
 
-// Whether tidying stopped behind a batch of which the first growth was refused that may be, so that the batch stands.
-fn stops_at_first<R: Abort + Threads + Sync>(
+// The first growth that may be refused so that the batch stands, and whether tidying stopped there.
+fn first_that_stands<R: Abort + Threads + Sync>(
     rt: &R,
     make: &Maker<R>,
     workers: u64,
     before: &[Vec<Op, Alloc>],
     ops: &[Op],
-) -> bool {
+) -> (u64, bool) {
     for growth in 1..4096u64 {
         if let Some(stopped) = stands(rt, make, workers, before, ops, growth) {
-            return stopped;
+            return (growth, stopped);
         }
     }
     panic!(rt; "each batch was refused");
 }
 
-// The first growth that may be refused is that of a leaf that is consolidated while the batch is answered. Tidying does it, then.
+// Where workers consolidate leaves, three lists are made first, and one thread does all where one of them finds no memory. One
+// worker is refused the memory of a leaf that it consolidates while it answers the batch, and tidying does that, too.
 #[test]
-fn tidying_goes_on_where_a_leaf_finds_no_memory(rt: HostRuntime) {
+fn one_thread_goes_on_where_a_list_or_a_leaf_finds_no_memory(rt: HostRuntime) {
     let make = Maker::new(&rt, rt.alloc());
     let mut random = Random::new(20130411);
     let before = upserts(&rt, &make, &mut random);
     let ops = batch(&rt, &make, &mut random, LEN, false);
-    for workers in [1u64, 4] {
-        assert_that(&rt, !stops_at_first(&rt, &make, workers, &before, &ops));
+    let (first, stopped) = first_that_stands(&rt, &make, 4, &before, &ops);
+    assert_that(&rt, !stopped);
+    for more in 1..3u64 {
+        let growth = first.saturating_add(more);
+        let stopped = stands(&rt, &make, 4, &before, &ops, growth);
+        assert_equal(&rt, stopped, Some(false));
     }
+    let (_, stopped) = first_that_stands(&rt, &make, 1, &before, &ops);
+    assert_that(&rt, !stopped);
 }

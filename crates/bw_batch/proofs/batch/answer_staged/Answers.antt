@@ -35,8 +35,8 @@ returns-clause-within g c = λ are but.
     let limits = c.args.findings.now.limits in
     let pages = posting.pages.items in
     let due = c.args.due.now.pages in
-    within_left limits c.adopt.new.tree c.replies.new.findings (c.args.tree.now.next + length c.args.batch.now.ops) pages c.in_ok-pages-2.pages.items due c.add.new.self.pages are c.replies.ensures.findings.limits
-    (subst (λ (l : List ℕ). AreLeft l c.replies.new.findings.fitting.items c.in_ok-pages-2.pages.items) c.in_ok-pages.ensures.pages c.in_ok-pages-2.ensures) c.in_ok-add.ensures.ok
+    within_left limits c.adopt.new.tree c.replies.new.findings (c.args.tree.now.next + length c.args.batch.now.ops) pages c.left_of-pages.result.items due c.add.new.self.pages are c.replies.ensures.findings.limits
+    (subst (λ (l : List ℕ). AreLeft l c.replies.new.findings.fitting.items c.left_of-pages.result.items) c.in_ok-pages.ensures.pages c.left_of-pages.ensures) c.in_ok-add.ensures.ok
     (within_posted c.args.tree.now c.adopt.new.tree pages posting.closed.heads posting.closed.links due (pages ++ due) (has_both pages due)
     posting.folded.items c.in_ok-homes.ensures.posted c.in_ok-pages.ensures.ok.levels c.in_ok-pages.ensures.ok.pages c.in_ok-pages.ensures.ok.writes limits but)
 
