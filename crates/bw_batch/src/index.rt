@@ -28,7 +28,7 @@ const STAMP_END: u64 = 1 << 40;
 pub struct Done {
     /// One for each operation, in the order of the batch.
     pub replies: Replies,
-    /// What tidying behind the batch did.
+    /// What tidying behind the batch did, with the leaves that were consolidated while the batch was answered.
     pub tidy: Tidy,
     /// How many exchanges the workers lost while they posted, to one another's records or to leaves that were replaced.
     pub lost: u64,
@@ -163,8 +163,10 @@ impl Index {
     /// The writes are posted by up to `workers` threads side by side, which `rt` starts, and `gate` is called round the
     /// posting of each. They are numbered in the order of the batch, from 0. Where the options ask for it
     /// (`Options::with_beside`), leaves of the batch are consolidated beside that. The replies are made in up to `workers`
-    /// parts side by side. Then the pages that the batch wrote to are tidied, or with consolidation beside the posting all
-    /// its pages, and those that an earlier stop left: where no memory is left for it, the rest of them stay due.
+    /// parts side by side. Of a batch with writes that is answered in several parts, or by one worker and has 64 operations at
+    /// the least, leaves that are over a limit are consolidated meanwhile, and stand beside the old ones until it is
+    /// accepted. Then the pages of the batch at which there is more to do are tidied, and those that an earlier stop left:
+    /// where no memory is left for it, the rest of them stay due.
     pub fn run<R: Threads + Sync, G: Gate>(
         &mut self,
         rt: &R,
