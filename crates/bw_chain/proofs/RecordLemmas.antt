@@ -24,17 +24,6 @@ appended_more before old new n ops i op lt is so more =
     ∙ ap (λ l. before ++ l) (sym (map-append (λ (w : WriteView). (Put w, 0)) (writes_of n (take i ops)) (stamped (n + i) (write_of op))))
     ∙ ap (λ l. before ++ unlinked l) (sym (writes_further n ops i op lt is))
 
--- the number of writes with those of an operation more
-pub counted_more : (ops : List Op) (i : ℕ) (op : Op) (writes : Bool) (old new : ℕ) → i < length ops → op ≡ get_or ops i op → writes ≡ is_some (write_of op) → new ≡ old + cond writes 1 0 → old ≡ length (writes_of 0 (take i ops)) → new ≡ length (writes_of 0 (take (i + 1) ops))
-counted_more ops i op writes old new lt is result more so =
-    let whole : length (writes_of 0 (take (i + 1) ops)) ≡ length (writes_of 0 (take i ops)) + length (stamped (0 + i) (write_of op)) =
-    ap length (writes_further 0 ops i op lt is) ∙ length-append (writes_of 0 (take i ops)) (stamped (0 + i) (write_of op)) in
-    omega (arith, whole, so, more ∙ ap (λ b. old + cond b 1 0) result, one (write_of op))
-  where
-    one : (write : Option (KeyBytes × Action)) → length (stamped (0 + i) write) ≡ cond (is_some write) 1 0
-    one None = refl
-    one (Some write) = refl
-
 -- records without links yet
 pub unlinked_put : (ws : List WriteView) → unlinked ws ≡ put_records ws (map (λ w. 0) ws)
 unlinked_put [] = refl

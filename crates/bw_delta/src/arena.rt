@@ -1,5 +1,5 @@
 // Delta records in the order in which they were made.
-ghost use Rattle.std.specs.Prelude.{◌≡◌, ℕ, ◌+◌, ◌<◌, ◌≤◌, List, [], ◌∷◌, ◌++◌, length, take, drop, slice_get, OnOk};
+ghost use Rattle.std.specs.Prelude.{◌≡◌, ◌+◌, ◌<◌, ◌≤◌, [], ◌∷◌, ◌++◌, length, take, drop, slice_get, OnOk};
 ghost use Rattle.std.specs.Option.{option_map};
 ghost use Rattle.bw_delta.specs.Arenas.{deltas_of, links_of};
 

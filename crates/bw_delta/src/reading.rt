@@ -1,5 +1,5 @@
 // Reading stamped writes as of a stamp.
-ghost use Rattle.std.specs.Prelude.{◌≡◌, ℕ, ◌<◌, ◌≤◌, length, IfOk};
+ghost use Rattle.std.specs.Prelude.{◌≡◌, ◌<◌, ◌≤◌, IfOk};
 ghost use Rattle.std.specs.Option.{option_copied};
 ghost use Rattle.std.specs.List.Sorted.{IsPermutation};
 ghost use Rattle.bw_delta.specs.History.{history, action_at, pointed_to, HasDistinctStamps};

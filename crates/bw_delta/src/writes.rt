@@ -36,7 +36,6 @@ impl Model for Write {
 }
 
 impl Write {
-    ghost use Rattle.std.specs.Prelude.{List};
     ghost use Rattle.bw_delta.specs.Batches.{stamped, write_of};
     ghost use Rattle.bw_delta.specs.Writes.{one_or_none};
 

@@ -1,5 +1,5 @@
 // Pseudo-random numbers.
-ghost use Rattle.std.specs.Prelude.{◌≡◌, ◌<◌};
+ghost use Rattle.std.specs.Prelude.{◌<◌};
 
 /// Pseudo-random numbers by a linear congruence, whose high bits are taken. The same seed draws the same numbers.
 #[derive(Drop)]

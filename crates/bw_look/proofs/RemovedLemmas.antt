@@ -55,9 +55,6 @@ module _ (tree : TreeView) (p : ℕ) where
         let one_page : other ≡ parent = one_above tree.slots root tree.levels lawful (suc g.level) g.low other parent (subst (λ (x : RemovedPage). IsHomeAt tree.slots tree.levels x.low (suc x.level) other) is there) home in
         unnamed (subst (λ q. HasChildAt (slot_at tree.slots q) g.low p) one_page (subst (λ (x : RemovedPage). HasChildAt (slot_at tree.slots other) x.low p) is s.named))
 
-    pub names_it : (parent : ℕ) → IsHomeAt tree.slots tree.levels g.low (suc g.level) parent → HasChildAt (slot_at tree.slots parent) g.low p → IsNamerOfRemoved tree p parent
-    names_it parent home named = record { removed = g; is = gone; above = (home.reached.within, home.reached.in_level); named = named }
-
 -- the page above is an inner one, and doesn't begin above the key
 pub inner_there : (tree : TreeView) (key : KeyBytes) (level parent : ℕ) → IsHomeAt tree.slots tree.levels key (suc level) parent → IsInnerPage tree parent
 inner_there tree key level parent home = record { in_levels = record { level = suc level; within = home.reached.within; in_level = home.reached.in_level }; raised = omega arith }

@@ -6,7 +6,6 @@ ghost use Rattle.std.specs.List.{list_all};
 ghost use Rattle.bw_key.specs.Order.{KeyBytes, key_cmp};
 ghost use Rattle.bw_model.specs.Contents.{is_below_end, is_in_range, is_pair_in_range};
 ghost use Rattle.bw_page.specs.Inners.{IsInner, IsLastUpto, IsUpto, joined_inner, lower_inner, narrowed_inner, upper_inner, with_child, with_children, without_child};
-ghost use Rattle.bw_page.specs.Pages.{BeginsAt};
 
 use crate::bounds::Bounds;
 use crate::children::Children;

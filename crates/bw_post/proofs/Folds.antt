@@ -15,7 +15,7 @@ use Rattle.bw_look.specs.View.{TreeView}
 use Rattle.bw_look.specs.declared.folded.Folded.{Folded}
 use Rattle.bw_tree.specs.Levels.{row}
 use Rattle.bw_board.specs.Public.{BoardView, Replaces, SeatView, Sees}
-use Rattle.bw_post.specs.Posting.{HasClaimedNothing, HasFolded, IsNew, IsSpared}
+use Rattle.bw_post.specs.Posting.{HasClaimedNothing, HasFolded, IsSpared}
 use Rattle.bw_post.specs.declared.workers.Worker.{Worker}
 
 all_both : {X : Type 0} (P : X → Type 0) (xs ys : List X) → AllByRecursion P xs → AllByRecursion P ys → AllByRecursion P (xs ++ ys)
@@ -27,9 +27,6 @@ times_both p xs ys = ap (times p) (map-append (λ (f : Folded). f.page) xs ys) �
 
 wins_both : (n : ℕ) (xs ys : List Swap) → wins_in n (xs ++ ys) ≡ wins_in n xs + wins_in n ys
 wins_both n xs ys = total-append (λ (s : Swap). one_if ((s.page == n) && s.won)) xs ys
-
-pub none_folded : (tree : TreeView) (pages : List ℕ) (spares : List (Option ℕ)) → HasFolded tree pages spares [] []
-none_folded tree pages spares = record { are = tt; spared = tt; won = λ number p at. refl }
 
 -- what two workers put, in one list
 pub folded_both : (tree : TreeView) (pages : List ℕ) (spares : List (Option ℕ)) (xs ys : List Folded) (a b : List Swap) → HasFolded tree pages spares xs a → HasFolded tree pages spares ys b → HasFolded tree pages spares (xs ++ ys) (a ++ b)
@@ -221,18 +218,6 @@ module _ (tree : TreeView) (pages : List ℕ) (board : BoardView) (w v : Worker)
         (subst (λ (fs : List Folded). HasFolded tree pages board.spares fs (w.seat.book.swaps ++ swap n false ∷ [])) (sym same)
         (folded_late tree pages board.spares w.folded.items w.seat.book.swaps n so.folded));
   }
-
--- a worker who did nothing yet
-pub new_claimed : (tree : TreeView) (pages : List ℕ) (board : BoardView) (w : Worker) → IsNew board w → HasClaimedNothing tree pages board w
-new_claimed tree pages board w so = record {
-  board_is = so.board_is;
-  owned = so.owned;
-  posted = so.posted;
-  lost = so.lost;
-  folded =
-      subst (λ (fs : List Folded). HasFolded tree pages board.spares fs w.seat.book.swaps) (sym so.folded)
-      (subst (HasFolded tree pages board.spares []) (sym so.untried) (none_folded tree pages board.spares));
-}
 
 pub some_spare : (o : Option ℕ) → o ≢ None → (x : ℕ) × (o ≡ Some x)
 some_spare None is = absurd (is refl)

@@ -136,18 +136,6 @@ module _ (board : BoardView) (ws rest : List Worker) (w : Worker) (parts : ws �
       let b = ap (total width_of) first ∙ total-append width_of rest (l ∷ []) in
       omega (arith, b, ap (λ (v : SeatView). v.book.width) same, ap (total width_of) parts)
 
-  pub same_new : (one : List Worker) (l : Worker) → one ≡ rest ++ l ∷ [] → l.seat ≡ w.seat → (l.lost ≡ 0) × (l.folded.items ≡ []) → AllByRecursion (IsNew board) ws → AllByRecursion (IsNew board) one
-  same_new one l first same none new =
-      let all = subst (AllByRecursion (IsNew board)) parts new in
-      subst (AllByRecursion (IsNew board)) (sym first) (all_more (IsNew board) rest l all.1 (record {
-        board_is = ap (λ (v : SeatView). v.board) same ∙ all.0.board_is;
-        owned = ap (λ (v : SeatView). v.book.owned) same ∙ all.0.owned;
-        posted = ap (λ (v : SeatView). v.book.posted) same ∙ all.0.posted;
-        untried = ap (λ (v : SeatView). v.book.swaps) same ∙ all.0.untried;
-        lost = none.0;
-        folded = none.1;
-      }))
-
 -- one more worker's seat joined
 pub all_joined : (tree : TreeView) (pages : List ℕ) (board : BoardView) (ws rest : List Worker) (w : Worker) → ws ≡ w ∷ rest → AllByRecursion (HasFinished tree pages board) ws → HasFinished tree pages board w × AllByRecursion (HasFinished tree pages board) rest
 all_joined tree pages board ws rest w parts all = subst (AllByRecursion (HasFinished tree pages board)) parts all

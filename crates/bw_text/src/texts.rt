@@ -1,13 +1,12 @@
 // The printed texts.
 ghost use Rattle.std.specs.Prelude.{◌≡◌, ◌++◌, IfOk, OnOk, IfErr, IsErrOf};
-ghost use Rattle.std.specs.List.{flat_map};
 ghost use Rattle.std.specs.Fmt.{decimal};
 ghost use Rattle.std.specs.Io.KnownBytes.{Appends};
 ghost use Rattle.bw_text.specs.Counts.{HasRisenBy};
 ghost use Rattle.bw_text.specs.Faults.{IsOfWriting};
 ghost use Rattle.bw_text.specs.Texts.{line, pair_text, pairs_text, reply_text, replies_text, refusal_text, contents_text};
 ghost use Rattle.bw_text.specs.Spelling.{spelled};
-ghost use Rattle.bw_text.specs.Writing.{IsFront, TakesFront};
+ghost use Rattle.bw_text.specs.Writing.{TakesFront};
 
 use crate::faults::TraceFault;
 use crate::ports::Outlet;
