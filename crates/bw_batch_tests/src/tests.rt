@@ -3,6 +3,7 @@
 mod assertions;
 mod batches;
 mod beside;
+mod blocks;
 mod gates;
 mod merges;
 mod options;

@@ -36,6 +36,10 @@ module _ (homes : HomesView) (items : List ℕ) (ps : List Point) (n : ℕ) (p :
       ap (λ (q : Point). number_of homes q.place) (get_or_default ps n d p lt)
       ∙ ap (λ (l : List ℕ). slice_index l at) (sym are) ∙ get_or_default items at 0 got (number_there within) ∙ sym read
 
+  -- and so where any number was to be read past the end
+  pub number_at : (d : Point) → AllByRecursion (λ e. e.1 < length homes.numbers) (entries_of ps) → number_of homes (place_at ps n d) ≡ get_or items at 0
+  number_at d within = number_read (get_or items at 0) d within (get_or_default items at 0 (get_or items at 0) (number_there within))
+
   -- and that of a page
   pub page_there : (got : ℕ) → AllByRecursion (λ e. HasPageAt homes e.1) (entries_of ps) → got ≡ get_or items at got → got < length homes.pages
   page_there got pages read =
@@ -44,6 +48,9 @@ module _ (homes : HomesView) (items : List ℕ) (ps : List Point) (n : ℕ) (p :
       sym (get_or_from_slice_get homes.numbers p.place here.1.number got here.1.at)
       ∙ ap (λ (i : ℕ). get_or homes.numbers i got) (ap (λ (q : Point). q.place) is) ∙ ap (λ (l : List ℕ). get_or l at got) (sym are) ∙ sym read in
       omega (arith, number, slice_get_within homes.pages here.1.number here.0 here.1.is)
+
+  pub page_at : AllByRecursion (λ e. HasPageAt homes e.1) (entries_of ps) → get_or items at 0 < length homes.pages
+  page_at pages = page_there (get_or items at 0) pages (get_or_default items at 0 (get_or items at 0) (number_there (places_within homes (entries_of ps) pages)))
 
 -- points with the number of a page have the page
 pub pages_at : (homes : HomesView) (pages : List ℕ) (number page : ℕ) (es : List Entry) → pages ≡ homes.pages → number < length homes.pages → page ≡ get_or pages number page →

@@ -18,15 +18,20 @@ use crate::points::Point;
 use bw_key::{Key, Memory};
 use bw_memory::Alloc;
 use bw_tree::{PageId, Routes, Tree};
+use smallvec::SmallVec;
 use std::marker::Model;
 use std::thread::Threads;
+
+// So many pages and numbers have room without a block of memory: those of a small batch, whose blocks would cost as much as
+// a search.
+const FEW: usize = 8;
 
 /// The homes of a batch: the pages of its keys, in the order of the keys and none twice, and for each operation that
 /// has a key the number of its page among them. So whoever works on the pages of a batch has lists as long as the
 /// batch, and none as long as the index.
 pub struct Homes {
-    pages: Vec<PageId, Alloc>,
-    numbers: Vec<usize, Alloc>,
+    pages: SmallVec<PageId, FEW, Alloc>,
+    numbers: SmallVec<usize, FEW, Alloc>,
 }
 
 // Not derived: whoever drops one calls this, and its proof is spared the parts.
@@ -52,7 +57,7 @@ impl Homes {
     pub fn pages(&self) -> &[PageId]
         ensures { result.now ≡ self.now.pages }
     {
-        &self.pages
+        self.pages.as_slice()
     }
 
     /// The number of the page of an operation's key, by the operation's place in the batch. It means nothing where the
@@ -61,7 +66,7 @@ impl Homes {
         requires { place < length self.now.numbers }
         ensures { slice_get self.now.numbers place ≡ Some result }
     {
-        self.numbers[place]
+        self.numbers.as_slice()[place]
     }
 
     /// The run of points that begins at `start`: their page, and where the run ends: at the first point behind it with
@@ -76,8 +81,17 @@ impl Homes {
         ensures whole { result.1 < length points.now → (d : Point) →
             number_of self.now (place_at points.now result.1 d) ≢ number_of self.now (place_at points.now start d) }
     {
-        let number = self.numbers[points[start].place as usize];
-        (self.pages[number], self.run_end(points, start, number))
+        let numbers = self.numbers.as_slice();
+        let number = numbers[points[start].place as usize];
+        (self.page_at(number), self.run_end(points, start, number))
+    }
+
+    // The page of a number.
+    fn page_at(&self, number: usize) -> PageId
+        requires { number < length self.now.pages }
+        ensures { slice_get self.now.pages number ≡ Some result }
+    {
+        self.pages.as_slice()[number]
     }
 
     // Where the run of points with a number stops that begins at `start`.
@@ -92,8 +106,10 @@ impl Homes {
         ensures whole { result < length points.now → (d : Point) →
             number_of self.now (place_at points.now result d) ≢ number }
     {
+        let numbers = self.numbers.as_slice();
         for end in start + 1..points.len() {
-            if self.numbers[points[end].place as usize] != number {
+            let other = numbers[points[end].place as usize];
+            if other != number {
                 return end;
             }
         }
@@ -118,7 +134,7 @@ pub fn find_homes<R: Threads + Sync>(
     let points = &batch.points;
     let runs = find_runs(rt, alloc, tree, points, workers)?;
     let found = runs.as_slice();
-    let mut pages = Vec::new(alloc);
+    let mut pages = SmallVec::new(alloc);
     let mut numbers = no_numbers(alloc, batch.ops.len())?;
     let mut routes = Routes::new(tree.look());
     let mut next = 0;
@@ -126,7 +142,8 @@ pub fn find_homes<R: Threads + Sync>(
     while start < points.len() {
         next = first_from(found, next, start);
         let run = run_at(tree, &mut routes, points, start, found.get(next));
-        set_numbers(&mut numbers, &points[start..run.end], pages.len());
+        let ours = &points[start..run.end];
+        set_numbers(numbers.as_mut_slice(), ours, pages.len());
         pages.push(run.page)?;
         start = run.end;
     }
@@ -144,10 +161,11 @@ fn first_from(found: &[FoundRun], next: usize, place: usize) -> usize {
 }
 
 // Number 0 for each of so many operations, until its page is found.
-fn no_numbers(alloc: Alloc, len: usize) -> Result<Vec<usize, Alloc>, Memory>
+fn no_numbers(alloc: Alloc, len: usize) -> Result<SmallVec<usize, FEW, Alloc>, Memory>
     ensures { IfOk result (λ numbers. length numbers.items ≡ len) }
 {
-    let mut numbers = Vec::with_capacity(alloc, len)?;
+    let mut numbers = SmallVec::new(alloc);
+    numbers.reserve(len)?;
     for _ in 0..len {
         numbers.push(0)?;
     }

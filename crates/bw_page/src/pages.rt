@@ -5,7 +5,7 @@ use bw_key::Key;
 use std::marker::Model;
 
 /// The name of a page. The mapping table turns it into the page's present state. Contracts see it as its number.
-#[derive(Clone, Copy, Debug, PartialEq, Eq, PartialOrd, Ord)]
+#[derive(Clone, Copy, Debug, Default, PartialEq, Eq, PartialOrd, Ord)]
 pub struct PageId(pub u32);
 
 impl Model for PageId {

@@ -26,8 +26,8 @@ loop-start-init g c = record {
 pub set_numbers-requires : goal.set_numbers-requires
 set_numbers-requires g c =
     let entries = batch_entries c.batch.inside.ops.now (entries_of c.batch.inside.points.items) c.batch.invariant.grouped.same in
-    let size : length c.batch.inside.ops.now ≡ length c.deref_mut.result.now = ap (λ (v : GroupingView). length v.ops) c.batch.view_is ∙ sym c.loop-start.invariant.found.count ∙ sym (ap length c.deref_mut.ensures.value) in
-    subst (λ (l : List Point). AllByRecursion (λ e. e.1 < length c.deref_mut.result.now) (entries_of (take (c.run_at-run.result.end - c.loop-start.start) (drop c.loop-start.start l)))) (sym c.deref-in-loop-start-2.ensures.value)
+    let size : length c.batch.inside.ops.now ≡ length c.as_mut_slice.result.now = ap (λ (v : GroupingView). length v.ops) c.batch.view_is ∙ sym c.loop-start.invariant.found.count ∙ sym (ap length c.as_mut_slice.ensures.value) in
+    subst (λ (l : List Point). AllByRecursion (λ e. e.1 < length c.as_mut_slice.result.now) (entries_of (take (c.run_at-run.result.end - c.loop-start.start) (drop c.loop-start.start l)))) (sym c.deref-in-loop-start-2.ensures.value)
     (places_within c.batch.inside.ops.now _ _ size (part_holds (IsEntryOf c.batch.inside.ops.now) c.batch.inside.points.items c.loop-start.start (c.run_at-run.result.end - c.loop-start.start) entries))
 
 pub loop-start-preserved : goal.loop-start-preserved
@@ -41,14 +41,14 @@ loop-start-preserved g c =
     let numbers = c.loop-start.numbers.items in
     let numbers' = c.set_numbers.new.numbers in
     let number = length c.loop-start.pages.items in
-    let count : c.len-in-loop-start.result ≡ number = omega (arith, c.len-in-loop-start.ensures, c.loop-start.pages.ok) in
+    let count : c.len-in-loop-start.result ≡ number = c.len-in-loop-start.ensures.value in
     let any = point_of [] 0 in
     let part = λ (l : List Point). entries_of (take (m - n) (drop n l)) in
     let here = c.deref-in-loop-start-2.ensures.value in
     let listed : numbers' ≡ with_number numbers (part points) number =
-    c.set_numbers.ensures ∙ ap (λ (k : ℕ). with_number c.deref_mut.result.now (part c.deref-in-loop-start-2.result.now) k) count ∙ ap (λ (l : List Point). with_number c.deref_mut.result.now (part l) number) here ∙ ap (λ (l : List ℕ). with_number l (part points) number) c.deref_mut.ensures.value in
+    c.set_numbers.ensures ∙ ap (λ (k : ℕ). with_number c.as_mut_slice.result.now (part c.deref-in-loop-start-2.result.now) k) count ∙ ap (λ (l : List Point). with_number c.as_mut_slice.result.now (part l) number) here ∙ ap (λ (l : List ℕ). with_number l (part points) number) c.as_mut_slice.ensures.value in
     let size : length numbers' ≡ length numbers = ap length listed ∙ with_number_length numbers (part points) number in
-    let back : take c.loop-start.numbers.len (numbers' ++ drop (length numbers') numbers) ≡ numbers' = whole c.loop-start.numbers.len numbers' (drop (length numbers') numbers) (omega (arith, size, c.loop-start.numbers.ok)) in
+    let back : take (length numbers) (numbers' ++ drop (length numbers') numbers) ≡ numbers' = whole (length numbers) numbers' (drop (length numbers') numbers) (sym size) in
     let entries = batch_entries ops (entries_of points) c.batch.invariant.grouped.same in
     let run : IsRun c.args.tree.now c.args.batch.now.ops points n m page = record {
       more = omega (arith, c.run_at-run.ensures.found.more, c.run_at-run.ensures.start);
@@ -62,7 +62,7 @@ loop-start-preserved g c =
           (λ (h : m < length c.deref-in-loop-start.result.now). c.run_at-run.ensures.found.whole h d) lt;
     } in
     record {
-      found = run_found c.args.tree.now c.args.batch.now.ops points n m page run c.loop-start.pages.items numbers c.push.new.self.items _ any c.loop-start.invariant.found c.in_ok-push.ensures.items (back ∙ listed);
+      found = run_found c.args.tree.now c.args.batch.now.ops points n m page run c.loop-start.pages.items numbers c.push.new.self.items _ any c.loop-start.invariant.found c.in_ok-push.ensures.ok (back ∙ listed);
       tree = c.run_at-run.ensures.tree;
     }
 
