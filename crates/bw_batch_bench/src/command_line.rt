@@ -28,7 +28,7 @@ const AFTER: &str = "The jobs:
   bytes   prints how many bytes a key an index and a map of so many keys have in use
   time    times all kinds of batches of 65536, over 10000 keys and 1000000, with 1, 2 and 4 workers
   small   times batches of 1, 8, 64 and 1024 gets, and of gets and upserts
-  insert  times an empty index and an empty map that get 1048576 keys
+  insert  times an empty index and an empty map that get 1048576 keys, with 1 and 4 workers
   drain   times an index and a map of 1048576 keys that lose them all, with 1 and 4 workers, and
           prints what bytes they have in use then
   beside  times batches of gets and upserts on an index alone, without and with --beside, over 10000

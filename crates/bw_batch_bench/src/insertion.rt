@@ -18,12 +18,14 @@ pub const RECORDS: u64 = 1 << 24;
 // So few that some sweeps are.
 const FEW_RECORDS: u64 = 1 << 18;
 
-/// The order in which keys are put, by batches of how many, and how many records the index has at the most.
+/// The order in which keys are put, by batches of how many, how many records the index has at the most, and how many
+/// workers.
 #[derive(Clone, Copy)]
 pub struct Insertion {
     pub order: Order,
     pub load: Load,
     pub record_max: u64,
+    pub workers: u64,
 }
 
 /// Puts keys in one order, and prints what came of it.
@@ -39,8 +41,10 @@ pub fn print_insertion<R: Threads + Clock + Sync + Print>(
         operations,
         ..
     } = insertion.load;
-    let most = insertion.record_max;
-    println!(rt; "{keys} fresh keys, {words}, batches of {operations}, at most {most} records:")?;
+    let (most, workers) = (insertion.record_max, insertion.workers);
+    println!(rt;
+        "{keys} fresh keys, {words}, batches of {operations}, at most {most} records, workers {workers}:"
+    )?;
     let mut runs = Runs::new(alloc);
     insert(rt, alloc, insertion, &mut runs)?;
     print_runs(rt, &mut runs, insertion.load, is_timed)
@@ -53,7 +57,7 @@ fn insert<R: Threads + Clock + Sync>(
     insertion: Insertion,
     runs: &mut Runs,
 ) -> Result<()> {
-    let options = options(1, insertion.record_max)?;
+    let options = options(insertion.workers, insertion.record_max)?;
     let mut rivals = Rivals::new(one_heap(alloc), options)?;
     rivals.put(rt, alloc, insertion.order, insertion.load, runs)
 }
@@ -70,9 +74,9 @@ fn print_runs<R: Print>(rt: &R, runs: &mut Runs, load: Load, is_timed: bool) -> 
 /// Puts many keys in an empty index, in both orders.
 pub fn print_all_insertions<R: Threads + Clock + Sync + Print>(rt: &R, alloc: Alloc) -> Result<()> {
     for order in [Order::Rising, Order::Scattered] {
-        for record_max in [RECORDS, FEW_RECORDS] {
-            print_insertions(rt, alloc, order, record_max)?;
-        }
+        print_insertions(rt, alloc, order, RECORDS, 1)?;
+        print_insertions(rt, alloc, order, FEW_RECORDS, 1)?;
+        print_insertions(rt, alloc, order, RECORDS, 4)?;
     }
     Ok(())
 }
@@ -83,12 +87,14 @@ fn print_insertions<R: Threads + Clock + Sync + Print>(
     alloc: Alloc,
     order: Order,
     record_max: u64,
+    workers: u64,
 ) -> Result<()> {
     for load in [fresh(FRESH, BATCH), fresh(FRESH, 64)] {
         let insertion = Insertion {
             order,
             load,
             record_max,
+            workers,
         };
         print_insertion(rt, alloc, insertion, true)?;
     }

@@ -62,6 +62,7 @@ fn print_brief<R: Threads + Clock + Sync + Print>(rt: &R, alloc: Alloc) -> Resul
         order: Order::Scattered,
         load: fresh(1000, 64),
         record_max: RECORDS,
+        workers: 1,
     };
     print_insertion(rt, alloc, insertion, false)?;
     let drain = Drain {
