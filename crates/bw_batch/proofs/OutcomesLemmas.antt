@@ -6,6 +6,7 @@ use Rattle.std.proofs.lemmas.List.{take_more, map-append}
 use Rattle.bw_memory.specs.Alloc.{Vec}
 use Rattle.bw_key.specs.Order.{KeyBytes}
 use Rattle.bw_delta.specs.Batches.{stamped, write_of, writes_of}
+use Rattle.bw_delta.specs.Writes.{WriteView}
 use Rattle.bw_model.specs.Values.{ValueBytes}
 use Rattle.bw_model.specs.Contents.{Contents}
 use Rattle.bw_model.specs.Model.{replies_of, contents_after}
@@ -84,6 +85,14 @@ same_writes (op ∷ ops) i j =
       one_stamped (write_of op) i j,
       same_writes ops (i + 1) (j + 1),
     )
+
+-- a batch that has no write as of one stamp has none as of another
+pub no_writes : (ops : List Op) (i j : ℕ) → length (writes_of i ops) ≡ 0 → writes_of j ops ≡ []
+no_writes ops i j none = empty (writes_of j ops) (same_writes ops j i ∙ none)
+  where
+    empty : (ws : List WriteView) → length ws ≡ 0 → ws ≡ []
+    empty [] is = refl
+    empty (w ∷ ws) is = absurd (omega (arith, is))
 
 -- what `run` tells besides of a batch
 pub told_by : (settings : Settings) (ops : List Op) (next : ℕ) (outcome : Result Done Refusal) → IfOk outcome (λ done. done.lost ≤ most_lost settings (length (writes_of next ops))) → (settings.beside ≡ false → IfOk outcome (λ done. done.replaced ≡ 0)) → IsCounted settings ops outcome

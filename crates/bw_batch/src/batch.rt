@@ -3,7 +3,7 @@ ghost use Rattle.std.specs.Prelude.{◌≡◌, ℕ, ◌<◌, ◌≤◌, ◌+◌,
 ghost use Rattle.bw_delta.specs.Batches.{writes_of};
 ghost use Rattle.bw_model.specs.Model.{contents_after, replies_of};
 ghost use Rattle.bw_tree.specs.Beside.{IsAdoptedBeside};
-ghost use Rattle.bw_tree.specs.Stages.{is_adopted, undone_tree};
+ghost use Rattle.bw_tree.specs.Stages.{is_adopted, staged_on, undone_tree, IsReadInTurn};
 ghost use Rattle.bw_look.specs.Folding.{pages_of};
 ghost use Rattle.bw_look.specs.View.{contents_at, contents_with, staged_writes};
 ghost use Rattle.bw_look.specs.Words.{put_words};
@@ -73,9 +73,10 @@ pub(crate) fn run_batch<R: Threads + Sync, G: Gate>(
     ensures err { OnErr result (tree.new ≡ tree.old) }
     ensures due { OnErr result (due.new ≡ due.old) }
 {
-    let batch = Grouping::new(alloc, ops)?;
-    let staged = tree.stage(ops)?;
-    let looks = are_looked_at(&batch, staged.records, due, options.workers());
+    let workers = options.workers();
+    let batch = Grouping::new(rt, alloc, ops, workers)?;
+    stage(tree, ops, batch.writes())?;
+    let looks = are_looked_at(&batch, due, workers);
     let mut findings = Findings::new(alloc, options.limits(), looks);
     match answer_staged(rt, alloc, tree, due, &batch, options, gate, &mut findings) {
         Ok(answered) => {
@@ -93,11 +94,28 @@ pub(crate) fn run_batch<R: Threads + Sync, G: Gate>(
     }
 }
 
-// Whether leaves are looked at while a batch of so many records is answered: where that is done in several parts, or by one
-// worker alone. Else workers look at them behind it, and so they do where it only reads, or where leaves are due that were
-// consolidated before a stop.
-fn are_looked_at(batch: &Grouping<'_>, records: u64, due: &Due, workers: u64) -> bool {
-    if records == 0 || due.has_leaves_begun() {
+// Stages a batch of so many writes. The operations of one that only reads aren't passed for that.
+fn stage(tree: &mut Tree, ops: &[Op], writes: usize) -> Result<(), Memory>
+    requires none { tree.old.staged ≡ None }
+    requires fits { tree.old.next + length ops.now ≤ 2 ^ 40 }
+    requires writes { writes ≡ length (writes_of 0 ops.now) }
+    ensures ok { OnOk result (tree.new ≡ staged_on tree.old ops.now) }
+    ensures reads { OnOk result (IsReadInTurn tree.old tree.new ops.now) }
+    ensures err { OnErr result (tree.new ≡ tree.old) }
+{
+    if writes == 0 {
+        tree.stage_reads(ops);
+        return Ok(());
+    }
+    tree.stage(ops)?;
+    Ok(())
+}
+
+// Whether leaves are looked at while a batch is answered: where that is done in several parts, or by one worker alone. Else
+// workers look at them behind it, and so they do where it only reads, or where leaves are due that were consolidated before
+// a stop.
+fn are_looked_at(batch: &Grouping<'_>, due: &Due, workers: u64) -> bool {
+    if batch.writes() == 0 || due.has_leaves_begun() {
         return false;
     }
     let parts = count_parts(batch.points().len(), batch.scans().len(), workers);

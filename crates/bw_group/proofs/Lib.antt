@@ -9,3 +9,4 @@ pub mod HomeReads
 mod NumberLemmas
 pub mod SortedPoints
 mod RankLemmas
+mod WriteCounts

@@ -1,5 +1,5 @@
 -- The operations of a batch that read or write one key each, with their places in the batch.
-use Rattle.std.specs.Prelude.{◌≡◌, ℕ, ◌+◌, ◌-◌, ◌≤◌, true, List, [], ◌∷◌, ◌++◌, Option, Some, None, filter, map, slice_get, slice_index_or, take, drop}
+use Rattle.std.specs.Prelude.{◌≡◌, ℕ, ◌+◌, ◌-◌, ◌≤◌, true, List, [], ◌∷◌, ◌++◌, length, Option, Some, None, filter, map, slice_get, slice_index_or, take, drop}
 use Rattle.std.specs.List.{AllByRecursion}
 use Rattle.std.specs.Option.{option_map}
 use Rattle.std.specs.Ordering.{is_lt}
@@ -8,6 +8,7 @@ use Rattle.bw_key.specs.Order.{KeyBytes, key_cmp, key_eq}
 use Rattle.bw_model.specs.declared.operations.Op.{Op}
 use Rattle.bw_model.specs.Model.{key_of}
 use Rattle.bw_model.specs.Verbs.{verb_of}
+use Rattle.bw_delta.specs.Batches.{writes_of}
 use Rattle.bw_group.specs.declared.points.Point.{Point}
 
 -- a key, and the place of an operation on it
@@ -97,7 +98,8 @@ pub record AreGrouped (batch : GroupingView) : Type 0 where
   pub same : HaveSameOfKeys batch.points (entries_from 0 batch.ops)
   pub scans : batch.scans ≡ scans_from 0 batch.ops
 
--- a batch with its points and its scans
-pub record IsGrouping (ops : List Op) (points : List Point) (scans : List ℕ) : Type 0 where
+-- a batch with its points, its scans, and how many of its operations write
+pub record IsGrouping (ops : List Op) (points : List Point) (scans : List ℕ) (write_count : ℕ) : Type 0 where
   pub grouped : AreGrouped (grouping_view ops points scans)
   pub verbs : AllByRecursion (IsPointOf ops) points
+  pub writes : write_count ≡ length (writes_of 0 ops)

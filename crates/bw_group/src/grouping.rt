@@ -4,6 +4,7 @@ ghost use Rattle.std.specs.List.{AllByRecursion};
 ghost use Rattle.std.specs.List.Sorted.{IsSortedBy};
 ghost use Rattle.std.specs.Ordering.{is_lt};
 ghost use Rattle.bw_key.specs.Order.{key_cmp, key_eq};
+ghost use Rattle.bw_delta.specs.Batches.{stamped, write_of, writes_of};
 ghost use Rattle.bw_group.specs.Points.{AreGrouped, HasKey, HaveSameOfKeys, IsPointOf};
 ghost use Rattle.bw_group.specs.Points.{entries_from, entries_in, entries_of, key_at, scans_from};
 ghost use Rattle.bw_group.specs.declared.points.Point.{Point};
@@ -14,12 +15,15 @@ use bw_key::Memory;
 use bw_memory::Alloc;
 use bw_model::Op;
 use std::marker::Model;
+use std::thread::Threads;
 
 /// The operations of a batch, those on one key each grouped by key, and the scans.
 pub struct Grouping<'a> {
     pub(crate) ops: &'a [Op],
     pub(crate) points: Vec<Point<'a>, Alloc>,
     pub(crate) scans: Vec<usize, Alloc>,
+    // how many of the operations write
+    writes: usize,
 }
 
 // Not derived: whoever drops one calls this, and its proof is spared the parts.
@@ -29,6 +33,7 @@ impl Drop for Grouping<'_> {
             ops: _ops,
             points: _points,
             scans: _scans,
+            writes: _writes,
         } = self;
     }
 }
@@ -40,7 +45,7 @@ impl<'a> Model for Grouping<'a> {
 
     ghost view = { λ g. grouping_view g.ops.now g.points.items g.scans.items };
 
-    ghost invariant = { λ g. IsGrouping g.ops.now g.points.items g.scans.items };
+    ghost invariant = { λ g. IsGrouping g.ops.now g.points.items g.scans.items g.writes };
 }
 
 impl<'a> Grouping<'a> {
@@ -49,12 +54,30 @@ impl<'a> Grouping<'a> {
     /// next one, and those among each other whose six bytes are the same; else about n log2 n times, most of them by
     /// their first eight bytes alone. It copies no key. A batch has at most 2^32 operations here. `Memory` is answered
     /// where a list finds none.
-    pub fn new(alloc: Alloc, ops: &'a [Op]) -> Result<Grouping<'a>, Memory>
+    ///
+    /// The numbers of 16,384 operations or more on keys are sorted by up to `workers` threads side by side, those of a long
+    /// batch by as many as the greatest power of two within that number, and `rt` starts them. Of 0 and of 1 none is
+    /// started.
+    pub fn new<R: Threads + Sync>(
+        rt: &R,
+        alloc: Alloc,
+        ops: &'a [Op],
+        workers: u64,
+    ) -> Result<Grouping<'a>, Memory>
         requires { length ops.now ≤ 2 ^ 32 }
         ensures { IfOk result (λ grouping. grouping.ops ≡ ops.now) }
     {
-        let Lists { points, scans } = grouped_lists(alloc, ops)?;
-        Ok(Grouping { ops, points, scans })
+        let Lists {
+            points,
+            scans,
+            writes,
+        } = grouped_lists(rt, alloc, ops, workers)?;
+        Ok(Grouping {
+            ops,
+            points,
+            scans,
+            writes,
+        })
     }
 
     /// The operations of the batch, in its order.
@@ -80,28 +103,50 @@ impl<'a> Grouping<'a> {
     {
         &self.scans
     }
+
+    /// How many of the operations write. They were counted once, so this is a look at a number.
+    pub fn writes(&self) -> usize
+        ensures { result ≡ length (writes_of 0 self.now.ops) }
+    {
+        self.writes
+    }
 }
 
-// What a batch has: its points, and the places of its scans.
+// What a batch has: its points, the places of its scans, and how many of its operations write.
 #[derive(Drop)]
 struct Lists<'a> {
     points: Vec<Point<'a>, Alloc>,
     scans: Vec<usize, Alloc>,
+    writes: usize,
 }
 
 // What a batch has, its points in the order of their keys. Those of one key are in the order of the batch.
-fn grouped_lists<'a>(alloc: Alloc, ops: &'a [Op]) -> Result<Lists<'a>, Memory>
+fn grouped_lists<'a, R: Threads + Sync>(
+    rt: &R,
+    alloc: Alloc,
+    ops: &'a [Op],
+    workers: u64,
+) -> Result<Lists<'a>, Memory>
     requires { length ops.now ≤ 2 ^ 32 }
     ensures sorted { IfOk result (λ lists.
         IsSortedBy (λ d e. is_lt (key_cmp d.0 e.0)) (entries_of lists.points.items)) }
     ensures same { IfOk result (λ lists. HaveSameOfKeys (entries_of lists.points.items) (entries_from 0 ops.now)) }
     ensures verbs { IfOk result (λ lists. AllByRecursion (IsPointOf ops.now) lists.points.items) }
     ensures scans { IfOk result (λ lists. lists.scans.items ≡ scans_from 0 ops.now) }
+    ensures writes { IfOk result (λ lists. lists.writes ≡ length (writes_of 0 ops.now)) }
 {
-    let Lists { points, scans } = lists_of(alloc, ops)?;
-    let mut points = sorted_by_rank(alloc, points)?;
+    let Lists {
+        points,
+        scans,
+        writes,
+    } = lists_of(alloc, ops)?;
+    let mut points = sorted_by_rank(rt, alloc, points, workers)?;
     points.sort_unstable_by(|a, b| a.by_key_and_place(b));
-    Ok(Lists { points, scans })
+    Ok(Lists {
+        points,
+        scans,
+        writes,
+    })
 }
 
 // What a batch has, in its order. It passes the operations once: they are large, so a second look at each would wait for it
@@ -111,16 +156,33 @@ fn lists_of<'a>(alloc: Alloc, ops: &'a [Op]) -> Result<Lists<'a>, Memory>
     ensures entries { IfOk result (λ lists. entries_of lists.points.items ≡ entries_from 0 ops.now) }
     ensures verbs { IfOk result (λ lists. AllByRecursion (IsPointOf ops.now) lists.points.items) }
     ensures scans { IfOk result (λ lists. lists.scans.items ≡ scans_from 0 ops.now) }
+    ensures writes { IfOk result (λ lists. lists.writes ≡ length (writes_of 0 ops.now)) }
 {
     let mut points = Vec::with_capacity(alloc, ops.len())?;
     let mut scans = Vec::new(alloc);
+    let mut writes = 0;
     for (place, op) in ops.iter().enumerate() {
         match op.key() {
             Some(key) => points.push(Point::new(key, place, op.verb()))?,
             None => scans.push(place)?,
         }
+        writes += writes_by(op);
     }
-    Ok(Lists { points, scans })
+    Ok(Lists {
+        points,
+        scans,
+        writes,
+    })
+}
+
+// How many writes an operation is, one or none.
+fn writes_by(op: &Op) -> usize
+    ensures { result ≡ length (stamped 0 (write_of op.now)) }
+{
+    match op {
+        Op::Get(_) | Op::Scan { .. } | Op::Rscan { .. } => 0,
+        Op::Insert(..) | Op::Upsert(..) | Op::Update(..) | Op::Delete(_) | Op::SwapIf(..) => 1,
+    }
 }
 
 /// Where the group of points that begins at `start` ends: at the first point behind it with another key. It costs a

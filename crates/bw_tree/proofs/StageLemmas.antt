@@ -1,7 +1,7 @@
 -- Staging a batch.
-use Rattle.std.proofs.Common.{◌≡◌, ℕ, ◌+◌, ◌≤◌, ◌^◌, false, List, ◌++◌, length, map, take, drop, Option, Some, None, sym, ap, ◌∙◌, subst, arith, length-append}
+use Rattle.std.proofs.Common.{◌≡◌, ℕ, ◌+◌, ◌≤◌, ◌^◌, false, List, [], ◌++◌, length, map, take, drop, Option, Some, None, refl, sym, ap, ◌∙◌, subst, arith, length-append}
 use Rattle.std.specs.FinMap.{from_entries}
-use Rattle.std.proofs.lemmas.List.{length-map}
+use Rattle.std.proofs.lemmas.List.{append-nil, length-map}
 use Rattle.bw_model.specs.Model.{contents_after}
 use Rattle.bw_model.specs.declared.operations.Op.{Op}
 use Rattle.bw_delta.specs.Writes.{WriteView}
@@ -139,3 +139,11 @@ stage_on heads bases records root next (Some s) tree ops t is none fits bases' r
   where
     different : {x : StageView} → Some x ≡ None → ⊥
     different e = cc
+
+-- the same of a batch that only reads, which has no record
+pub stage_reads_on : (heads : List ℕ) (bases : Bases) (records : Records) (root next : ℕ) (staged : Option StageWords) (tree : TreeView) (ops : List Op) → IsTree heads bases records root next staged → view_of heads bases records root next staged ≡ tree → tree.staged ≡ None → tree.next + length ops ≤ 2 ^ 40 → writes_of tree.next ops ≡ [] →
+    (staged' : Option StageWords) (n m : ℕ) → staged' ≡ Some (record { records = n; ops = m; before = None }) → n ≡ length records → m ≡ length ops →
+    IsStagedOn heads bases records root next staged' tree ops
+stage_reads_on heads bases records root next staged tree ops t is none fits reads staged' n m replaced count length_is =
+    stage_on heads bases records root next staged tree ops t is none fits bases records staged' n m refl
+    (sym (ap (λ (v : TreeView). records ++ unlinked (writes_of v.next ops)) is ∙ ap (λ ws. records ++ unlinked ws) reads ∙ append-nil records)) t.now.few_records replaced count length_is

@@ -3,12 +3,13 @@ ghost use Rattle.std.specs.Prelude.{◌<◌};
 
 use super::making::memory;
 use crate::tests::assertions::{assert_equal, assert_that};
-use bw_fixtures::{key, was_refused};
+use bw_fixtures::{key, value, was_refused};
 use bw_group::{Grouping, Point};
 use bw_key::Memory;
 use bw_memory::Alloc;
 use bw_model::Op;
 use std::process::Abort;
+use std::thread::Threads;
 
 // Keys that rise: some have the same first eight bytes, or would have them with zeros behind their ends.
 const RISING: [&[u8]; 12] = [
@@ -45,13 +46,14 @@ fn is_point<R: Abort>(rt: &R, point: &Point<'_>, number: usize, time: usize) {
     assert_equal(rt, point.place(), place);
 }
 
-// Groups the gets, and looks at their keys and places.
-fn group_gets<R: Abort>(rt: &R, alloc: Alloc, times: usize)
+// Groups the gets by so many workers, and looks at their keys and places.
+fn group_gets<R: Abort + Threads + Sync>(rt: &R, alloc: Alloc, times: usize, workers: u64)
     requires { 0 < times }
 {
     let ops = falling_gets(alloc, times).expect(rt, "memory");
-    assert!(rt; ops.len() < 1000);
-    let batch = Grouping::new(alloc, &ops).expect(rt, "memory");
+    assert!(rt; ops.len() < 100000);
+    let batch = Grouping::new(rt, alloc, &ops, workers).expect(rt, "memory");
+    assert_equal(rt, batch.writes(), 0);
     assert_equal(rt, batch.points().len(), ops.len());
     for (at, point) in batch.points().iter().enumerate() {
         is_point(rt, point, at / times, at % times);
@@ -60,13 +62,57 @@ fn group_gets<R: Abort>(rt: &R, alloc: Alloc, times: usize)
 
 #[test]
 fn keys_that_begin_alike_are_in_order(rt: HostRuntime) {
-    group_gets(&rt, memory(&rt, rt.alloc()), 2);
+    group_gets(&rt, memory(&rt, rt.alloc()), 2, 1);
 }
 
 // From 256 operations on they are sorted by rank first.
 #[test]
 fn many_keys_that_begin_alike_are_in_order(rt: HostRuntime) {
-    group_gets(&rt, memory(&rt, rt.alloc()), 25);
+    group_gets(&rt, memory(&rt, rt.alloc()), 25, 1);
+}
+
+// 65,532 operations have their ranks parted once and more, and the sides sorted side by side.
+#[test]
+fn keys_are_in_order_that_several_workers_sort(rt: HostRuntime) {
+    for workers in [1, 2, 4, 64u64] {
+        group_gets(&rt, memory(&rt, rt.alloc()), 5461, workers);
+    }
+}
+
+// An operation of each kind.
+fn one_of_each(alloc: Alloc) -> Result<Vec<Op, Alloc>, Memory> {
+    let mut ops = Vec::new(alloc);
+    ops.push(Op::Get(key(alloc, b"a")?))?;
+    ops.push(Op::Insert(key(alloc, b"a")?, value(alloc, b"1")?))?;
+    ops.push(Op::Upsert(key(alloc, b"a")?, value(alloc, b"1")?))?;
+    ops.push(Op::Update(key(alloc, b"a")?, value(alloc, b"1")?))?;
+    ops.push(Op::Delete(key(alloc, b"a")?))?;
+    let swapped = value(alloc, b"2")?;
+    ops.push(Op::SwapIf(key(alloc, b"a")?, value(alloc, b"1")?, swapped))?;
+    let (from, most) = (key(alloc, b"a")?, 1);
+    ops.push(Op::Scan {
+        from,
+        to: None,
+        most,
+    })?;
+    let from = key(alloc, b"a")?;
+    ops.push(Op::Rscan {
+        from,
+        to: None,
+        most,
+    })?;
+    Ok(ops)
+}
+
+#[test]
+fn all_but_gets_and_scans_write(rt: HostRuntime) {
+    let alloc = memory(&rt, rt.alloc());
+    let ops = one_of_each(alloc).expect(&rt, "memory");
+    assert!(rt; ops.len() < 1000);
+    let batch = Grouping::new(&rt, alloc, &ops, 1).expect(&rt, "memory");
+    assert_equal(&rt, batch.writes(), 5);
+    assert_equal(&rt, batch.points().len(), 6);
+    assert_equal(&rt, batch.scans(), &[6, 7]);
 }
 
 #[test]
@@ -76,7 +122,7 @@ fn each_growth_of_a_large_grouping_is_refused(rt: HostRuntime) {
     assert!(rt; ops.len() < 1000);
     for growth in 1..100 {
         alloc.refuse(growth);
-        let batch = Grouping::new(alloc, &ops);
+        let batch = Grouping::new(&rt, alloc, &ops, 1);
         if !was_refused(alloc, growth) {
             assert_that(&rt, batch.is_ok());
             assert_that(&rt, growth > 3);

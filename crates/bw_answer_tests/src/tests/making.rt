@@ -162,7 +162,7 @@ pub fn replies_by_workers<R: Threads + Sync>(
     requires reads { AllByRecursion (λ op. write_of op ≡ None) ops.now }
     requires few { length ops.now ≤ 20000 }
 {
-    let batch = Grouping::new(alloc, ops)?;
+    let batch = Grouping::new(rt, alloc, ops, 1)?;
     let homes = find_homes(rt, alloc, tree, &batch, workers)?;
     replies(
         rt,
@@ -189,7 +189,7 @@ pub fn replies_by_parts<R: Threads + Sync>(
     requires few { length ops.now ≤ 20000 }
     requires count { 0 < count }
 {
-    let batch = Grouping::new(alloc, ops)?;
+    let batch = Grouping::new(rt, alloc, ops, 1)?;
     let homes = find_homes(rt, alloc, tree, &batch, 1)?;
     replies_in_parts(
         rt,
@@ -219,6 +219,6 @@ pub fn homes_of<R: Threads + Sync>(
     requires { length ops.now ≤ 5000 }
     ensures { IfOk result (AreHomes tree.now ops.now) }
 {
-    let batch = Grouping::new(alloc, ops)?;
+    let batch = Grouping::new(rt, alloc, ops, 1)?;
     find_homes(rt, alloc, tree, &batch, workers)
 }

@@ -25,7 +25,7 @@ fn post<R: Abort + Threads + Sync>(rt: &R, alloc: Alloc, tree: &mut Tree, ops: &
 {
     assert!(rt; ops.len() <= 65536 && tree.next_stamp() <= 1000);
     tree.stage(ops).expect(rt, "memory");
-    let grouping = Grouping::new(alloc, ops).expect(rt, "memory");
+    let grouping = Grouping::new(rt, alloc, ops, 1).expect(rt, "memory");
     let posting = post_beside(rt, alloc, tree, &grouping, 1, 1, &OpenGate, 2);
     posting.expect(rt, "memory")
 }
@@ -147,7 +147,7 @@ fn is_refused<R: Abort + Threads + Sync>(rt: &R, alloc: Alloc, tree: &mut Tree, 
     let ops = batch(rt, alloc, ONE_PUT);
     assert!(rt; ops.len() == 1 && tree.next_stamp() == 3);
     tree.stage(&ops).expect(rt, "memory");
-    let grouping = Grouping::new(alloc, &ops).expect(rt, "memory");
+    let grouping = Grouping::new(rt, alloc, &ops, 1).expect(rt, "memory");
     alloc.refuse(growth);
     let posted = post_beside(rt, alloc, tree, &grouping, 1, 1, &OpenGate, 2);
     let met = alloc.left() == 0;

@@ -114,7 +114,7 @@ pub fn post<R: Abort + Threads + Sync>(
 {
     assert!(rt; ops.len() <= 65536 && tree.next_stamp() <= 1000);
     tree.stage(ops).expect(rt, "memory");
-    let grouping = Grouping::new(alloc, ops).expect(rt, "memory");
+    let grouping = Grouping::new(rt, alloc, ops, 1).expect(rt, "memory");
     let posting = post_all(rt, alloc, tree, &grouping, piece, 1, &OpenGate);
     posting.expect(rt, "memory")
 }

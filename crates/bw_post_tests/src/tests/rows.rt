@@ -346,7 +346,7 @@ fn is_refused<R: Abort + Threads + Sync>(
     let ops = batch(rt, alloc, BATCH);
     assert!(rt; ops.len() == 3 && tree.next_stamp() == 0);
     tree.stage(&ops).expect(rt, "memory");
-    let grouping = Grouping::new(alloc, &ops).expect(rt, "memory");
+    let grouping = Grouping::new(rt, alloc, &ops, 1).expect(rt, "memory");
     alloc.refuse(growth);
     let posting = post_all(rt, alloc, tree, &grouping, 1, workers, &OpenGate);
     alloc.refuse(0);

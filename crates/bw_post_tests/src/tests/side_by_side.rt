@@ -88,7 +88,7 @@ fn adopt<R: Abort + Threads + Sync, G: Gate>(
 {
     assert!(rt; ops.len() <= 65536 && tree.next_stamp() == 0);
     tree.stage(ops).expect(rt, "memory");
-    let grouping = Grouping::new(alloc, ops).expect(rt, "memory");
+    let grouping = Grouping::new(rt, alloc, ops, 1).expect(rt, "memory");
     let posting = post_all(rt, alloc, tree, &grouping, piece, workers, gate);
     let Posting {
         pages,

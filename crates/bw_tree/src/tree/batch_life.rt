@@ -1,5 +1,5 @@
 // The life of a batch: staged, adopted, and then accepted or undone.
-ghost use Rattle.std.specs.Prelude.{◌≡◌, ℕ, ◌<◌, ◌≤◌, ◌+◌, ◌^◌, true, None, Some, length, IfOk, OnOk, OnErr};
+ghost use Rattle.std.specs.Prelude.{◌≡◌, ℕ, ◌<◌, ◌≤◌, ◌+◌, ◌^◌, [], true, None, Some, length, IfOk, OnOk, OnErr};
 ghost use Rattle.std.specs.List.{AllByRecursion};
 ghost use Rattle.bw_core.specs.World.{times};
 ghost use Rattle.bw_level.specs.Slots.{slot_at};
@@ -55,6 +55,35 @@ impl Tree {
             floor: FLOOR + records as u64,
             records: (self.chains.len() - records) as u64,
         })
+    }
+
+    /// Stages a batch that only reads, as one whose operations a `Grouping` counted no write among: no record is made, and the
+    /// operation at place i has the stamp `base + i`. No batch is staged, and the stamps stay within 2^40.
+    ///
+    /// It looks at none of the operations, takes no memory, and is never refused.
+    pub fn stage_reads(&mut self, ops: &[Op]) -> Staged
+        requires none { self.old.staged ≡ None }
+        requires fits { self.old.next + length ops.now ≤ 2 ^ 40 }
+        requires reads { writes_of self.old.next ops.now ≡ [] }
+        ensures tree { self.new ≡ staged_on self.old ops.now }
+        ensures base { result.base ≡ self.old.next }
+        ensures floor { result.floor ≡ 2 ^ 32 + self.old.records }
+        ensures records { result.records ≡ 0 }
+
+        // A read as of the stamp of an operation sees the map before it.
+        ensures reads { IsReadInTurn self.old self.new ops.now }
+    {
+        let (records, stamps) = (self.chains.len(), ops.len() as u64);
+        self.staged.replace(Stage {
+            records,
+            ops: stamps,
+            before: None,
+        });
+        Staged {
+            base: self.next,
+            floor: FLOOR + records as u64,
+            records: 0,
+        }
     }
 
     /// Takes the words that a board was closed with, on which each staged record was posted to the page of its key: its

@@ -1,5 +1,7 @@
 // Trees of one leaf and of three, and a batch that is staged and undone.
-use super::making::{empty, has, heap, key, leaf_of_key, one, stage, stands, three_leaves, value};
+use super::making::{
+    empty, has, has_no_batch, heap, key, leaf_of_key, one, stage, stands, three_leaves, value,
+};
 use crate::tests::assertions::{assert_equal, assert_that};
 use bw_delta::{Action, Write};
 use bw_memory::Alloc;
@@ -162,6 +164,36 @@ fn a_batch_of_reads_has_no_record(rt: HostRuntime) {
         }),
     );
     stands(&rt, &tree, 3, &[0, 1, 2, 3], 0);
+}
+
+// Stages a get as a batch that only reads, and sees that no memory is asked for.
+fn stage_get<R: Abort>(rt: &R, alloc: Alloc, tree: &mut Tree) -> Staged {
+    has_no_batch(rt, tree);
+    assert!(rt; tree.next_stamp() == 0);
+    let ops = [Op::Get(key(rt, alloc, b"a"))];
+    alloc.refuse(1);
+    let staged = tree.stage_reads(&ops);
+    assert_equal(rt, alloc.left(), 1);
+    alloc.refuse(0);
+    staged
+}
+
+#[test]
+fn a_batch_of_reads_is_staged_without_memory(rt: HostRuntime) {
+    let alloc = heap(&rt, rt.alloc());
+    let mut tree = three_leaves(&rt, alloc);
+    let staged = stage_get(&rt, alloc, &mut tree);
+    let nothing = Staged {
+        base: 0,
+        floor: 4294967296,
+        records: 0,
+    };
+    assert_equal(&rt, staged, nothing);
+    assert_equal(&rt, tree.staged(), Some(nothing));
+    stands(&rt, &tree, 3, &[0, 1, 2, 3], 0);
+    has(&rt, alloc, &tree, 1, AT_FIRST);
+    tree.undo();
+    assert_that(&rt, tree.staged().is_none());
 }
 
 #[test]

@@ -6,7 +6,7 @@ use Rattle.bw_group.proofs.SortedPoints.{entry_at_point, is_before, ranks, same_
 use Rattle.bw_group.proofs.grouping.grouped_lists.Goals as goal
 
 pub returns-clause-same : goal.returns-clause-same
-returns-clause-same c =
+returns-clause-same g c =
     let first = c.in_ok-points.field-0.points.items in
     let old = c.in_ok-points-2.points.items in
     let new = c.sort_unstable_by.new.self.items in
@@ -14,10 +14,10 @@ returns-clause-same c =
     (c.sort_unstable_by.ensures.sorted (is_before entry_at_point) (ranks entry_at_point) (answers_always _ _ _ (λ f a r f' k. search rules)))
 
 pub returns-clause-sorted : goal.returns-clause-sorted
-returns-clause-sorted c = sorted_by_key c.sort_unstable_by.new.self.items (c.sort_unstable_by.ensures.sorted (is_before entry_at_point) (ranks entry_at_point) (answers_always _ _ _ (λ f a r f' k. search rules)))
+returns-clause-sorted g c = sorted_by_key c.sort_unstable_by.new.self.items (c.sort_unstable_by.ensures.sorted (is_before entry_at_point) (ranks entry_at_point) (answers_always _ _ _ (λ f a r f' k. search rules)))
 
 pub returns-clause-verbs : goal.returns-clause-verbs
-returns-clause-verbs c =
+returns-clause-verbs g c =
     let is_point = IsPointOf c.args.ops.now in
     let first = c.in_ok-points.field-0.points.items in
     let old = c.in_ok-points-2.points.items in

@@ -1,5 +1,6 @@
-use Rattle.std.proofs.Common.{◌≡◌, take}
+use Rattle.std.proofs.Common.{◌≡◌, ◌≤◌, length, take}
 use Rattle.std.specs.List.{AllByRecursion}
+use Rattle.bw_delta.specs.Batches.{writes_of}
 use Rattle.bw_group.specs.Points.{IsPointOf, entries_from, entries_of, scans_from}
 use Rattle.bw_group.proofs.grouping.lists_of.Given as goal
 
@@ -8,4 +9,6 @@ invariant-loop-place l = record {
   entries : entries_of l.points.items ≡ entries_from 0 (take l.place l.ops);
   verbs : AllByRecursion (IsPointOf l.ops) l.points.items;
   scans : l.scans.items ≡ scans_from 0 (take l.place l.ops);
+  writes : l.writes ≡ length (writes_of 0 (take l.place l.ops));
+  few : l.writes ≤ l.place;
 }
