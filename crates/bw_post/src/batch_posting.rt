@@ -18,6 +18,10 @@ use bw_page::PageId;
 use bw_tree::{Folded, Tree};
 use std::thread::Threads;
 
+// Workers who post to one page meet there: they lose exchanges, and its records don't stand in the order of the batch, which a
+// sort of them pays for. Of so many records to each page that costs more than the posting takes.
+const CROWD: u64 = 4096;
+
 /// What posting leaves.
 #[derive(Drop)]
 pub struct Posting {
@@ -35,8 +39,9 @@ pub struct Posting {
 }
 
 /// Posts each record of the staged batch to the page of its key, over a board of the mapping words of the batch's pages. So
-/// many workers, and no more than there are pieces, claim pieces of so many records side by side, each in a thread of its
-/// own where one can be made. `gate` is called round the posting of each record.
+/// many workers, and no more than there are pieces, nor than there are pages where these get 4,096 records each, claim pieces
+/// of so many records side by side, each in a thread of its own where one can be made. `gate` is called round the posting
+/// of each record.
 ///
 /// The batch is staged and not adopted. It costs a search for each leaf that has a key of the batch, an exchange for each
 /// record and for each that is lost, and some copies of the words of these leaves: nothing that grows with the index but the
@@ -136,7 +141,7 @@ fn post_over<R: Threads + Sync, G: Gate>(
     let heads = heads_of(alloc, tree, homes.pages())?;
     let (board, seat) = Board::open(alloc, &heads, staged.floor, staged.records, piece, spares)?;
     let ripe = spares.iter().filter(|spare| spare.is_some()).count() as u64;
-    let tasks = staged.records.div_ceil(piece).max(ripe);
+    let tasks = tasks_of(staged.records, homes.pages().len() as u64, piece).max(ripe);
     let mut crew = seat_workers(alloc, &board, seat, workers.min(tasks) as usize)?;
     post_side_by_side(rt, tree, &homes, &board, spares, gate, &mut crew);
     let Worker { seat, lost, folded } = join_workers(tree, &homes, &board, crew)?;
@@ -149,6 +154,19 @@ fn post_over<R: Threads + Sync, G: Gate>(
         lost,
         folded,
     })
+}
+
+// How many workers there is work for who post so many records to so many pages: one for each piece, and where pages have many
+// records each, one for each page.
+fn tasks_of(records: u64, pages: u64, piece: u64) -> u64
+    requires { 0 < piece }
+{
+    let pieces = records.div_ceil(piece);
+    if records / pages.max(1) < CROWD {
+        pieces
+    } else {
+        pieces.min(pages)
+    }
 }
 
 // The spares of these pages, or none at all where no leaf among them has one.

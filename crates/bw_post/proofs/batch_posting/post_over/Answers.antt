@@ -69,7 +69,7 @@ returns-clause-posted g c =
     let worked = c.in_ok-seat.ensures.finished.worked in
     let over = subst (IsOver tree pages) (sym worked.board_is) (is_over tree pages c.args.spares.now c.in_ok-board.board c.unwrap-staged.result told c.requires.pages c.requires.spares first opened.same_records opened.same_spares) in
     let folded = subst (λ (b : BoardView). HasFolded tree pages b.spares leaves seat.book.swaps) (sym worked.board_is) worked.folded in
-    subst (λ (l : List ℕ). IsPostedBeside tree leaves l c.in_ok-closed.closed.heads c.in_ok-closed.closed.links) (sym (c.in_ok-pages.ensures.items ∙ c.pages-2.ensures))
+    subst (λ (l : List ℕ). IsPostedBeside tree leaves l c.in_ok-closed.closed.heads c.in_ok-closed.closed.links) (sym (c.in_ok-pages.ensures.items ∙ c.pages-3.ensures))
     (posted_stage tree seat pages c.in_ok-closed.closed.heads c.in_ok-closed.closed.links c.in_ok-closed.closed.swapped leaves c.unwrap-staged.result c.requires.waiting told
     (ap (λ (b : BoardView). b.floor) worked.board_is ∙ opened.same_floor) over worked.homes folded c.in_ok-closed.ensures.closed)
 
