@@ -24,10 +24,10 @@ fn upsert<R: Abort>(rt: &R, alloc: Alloc, number: u64) -> Op {
     )
 }
 
-// A batch that puts 0, 1, 2 and so on at one key.
-fn batch<R: Abort>(rt: &R, alloc: Alloc) -> Vec<Op, Alloc> {
+// A batch of so many writes that puts 0, 1, 2 and so on at one key.
+fn batch<R: Abort>(rt: &R, alloc: Alloc, writes: u64) -> Vec<Op, Alloc> {
     let mut ops = Vec::new(alloc);
-    for number in 0..WRITES {
+    for number in 0..writes {
         ops.push(upsert(rt, alloc, number)).expect(rt, "memory");
     }
     ops
@@ -70,10 +70,24 @@ fn storm<R: Abort + Threads + Sync>(rt: &R, alloc: Alloc, ops: &[Op], options: O
 #[test]
 fn writes_of_one_key_are_answered_in_their_order(rt: HostRuntime) {
     let alloc = heap(rt.alloc()).expect(&rt, "a heap");
-    let ops = batch(&rt, alloc);
+    let ops = batch(&rt, alloc, WRITES);
     for &workers in WORKERS {
         storm(&rt, alloc, &ops, options(&rt, workers, 1));
         storm(&rt, alloc, &ops, options(&rt, workers, 64));
+    }
+}
+
+// One worker posts them, since a page gets 4,096 of them or more: so no exchange is lost.
+#[test]
+fn a_crowd_of_writes_of_one_key_is_posted_by_one_worker(rt: HostRuntime) {
+    let alloc = heap(rt.alloc()).expect(&rt, "a heap");
+    let ops = batch(&rt, alloc, 4096);
+    for &workers in WORKERS {
+        let options = options(&rt, workers, 1);
+        let mut index = Index::new(alloc, options).expect(&rt, "an index");
+        let done = index.run(&rt, &ops, &OpenGate).expect(&rt, "memory");
+        assert_equal(&rt, done.lost, 0);
+        holds(&rt, &index, &[("a", "4095")]);
     }
 }
 
@@ -97,7 +111,7 @@ fn storm_beside<R: Abort + Threads + Sync>(rt: &R, alloc: Alloc, ops: &[Op], opt
 #[test]
 fn writes_of_one_key_are_answered_beside_a_consolidation(rt: HostRuntime) {
     let alloc = heap(rt.alloc()).expect(&rt, "a heap");
-    let ops = batch(&rt, alloc);
+    let ops = batch(&rt, alloc, WRITES);
     for &workers in WORKERS {
         storm_beside(&rt, alloc, &ops, options(&rt, workers, 1));
         storm_beside(&rt, alloc, &ops, options(&rt, workers, 64));
