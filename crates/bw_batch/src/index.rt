@@ -160,13 +160,14 @@ impl Index {
     /// the batch it consolidates every page that has records, and starts records and stamps over. Behind the batch leaves with
     /// few pairs are merged, those that it doesn't write to among them.
     ///
-    /// Of 16,384 operations on keys and more the sorting by key is shared out among up to `workers` threads, which `rt` starts.
-    /// The writes are posted by as many side by side, and `gate` is called round the posting of each. They are numbered in the order of the batch, from 0. Where the options ask for it
-    /// (`Options::with_beside`), leaves of the batch are consolidated beside that. The replies are made in up to `workers`
-    /// parts side by side. Of a batch with writes that is answered in several parts, or by one worker and has 64 operations at
-    /// the least, leaves that are over a limit are consolidated meanwhile, and stand beside the old ones until it is
-    /// accepted. Then the pages of the batch at which there is more to do are tidied, and those that an earlier stop left:
-    /// where no memory is left for it, the rest of them stay due.
+    /// Of 16,384 operations on keys and more the sorting by key is shared out among up to `workers` threads, which `rt`
+    /// starts. The writes are posted by up to as many side by side, and `gate` is called round the posting of each.
+    /// They are numbered in the order of the batch, from 0. Where the options ask for it (`Options::with_beside`),
+    /// leaves of the batch are consolidated beside that. The replies are made in up to `workers` parts side by side. Of
+    /// a batch with writes that is answered in several parts, or by one worker and has 64 operations at the least,
+    /// leaves that are over a limit are consolidated meanwhile, and stand beside the old ones until it is accepted.
+    /// Then the pages of the batch at which there is more to do are tidied, and those that an earlier stop left: where
+    /// no memory is left for it, the rest of them stay due.
     pub fn run<R: Threads + Sync, G: Gate>(
         &mut self,
         rt: &R,
