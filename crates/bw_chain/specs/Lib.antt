@@ -3,6 +3,7 @@ pub mod Records
 pub mod LeafChains
 pub mod Supports
 pub mod Placing
+pub mod PlacedWrites
 pub mod Removed
 pub mod Vacancy
 pub mod Restructuring

@@ -1,10 +1,11 @@
 // Base pages and the chains of delta records over them.
 ghost use Rattle.std.specs.Prelude.{◌≡◌, ℕ, ◌+◌, ◌<◌, ◌≤◌, ◌^◌, ◌++◌, length, take, drop, slice_get, Some, OnOk, OnErr};
+ghost use Rattle.std.specs.List.{AllByRecursion};
 ghost use Rattle.std.specs.Option.{option_map};
 ghost use Rattle.bw_delta.specs.Arenas.{deltas_of, links_of};
-ghost use Rattle.bw_delta.specs.Batches.{writes_of};
 ghost use Rattle.bw_level.specs.Changes.{based};
 ghost use Rattle.bw_chain.specs.Chains.{IsChain, chains_over, floor_word, link_of, page_at, record_at};
+ghost use Rattle.bw_chain.specs.PlacedWrites.{writes_at_places};
 ghost use Rattle.bw_chain.specs.Records.{IsWrite, IsWriteAt, unlinked};
 ghost use Rattle.bw_chain.specs.Removed.{HasNoRemoved};
 ghost use Rattle.bw_level.specs.Turns.{IsNoWrite, slot_without_writes, over, plain_at};
@@ -61,19 +62,22 @@ impl Chains {
         self.arena.len()
     }
 
-    /// Appends the writes of a batch, each with its stamp and with no link yet: that of the operation at place i is
-    /// `base + i`. Each key and value that is written is copied, with the allocator of the base pages.
+    /// Appends the writes of a batch, those of the operations at these places in their order, each with its stamp and with no
+    /// link yet: that of the operation at place i is `base + i`. Each key and value that is written is copied, with the
+    /// allocator of the base pages.
     ///
     /// `Memory` is answered where one finds none, and where there would be more than 2^32 records; all is as before.
-    pub fn append_writes(&mut self, ops: &[Op], base: u64) -> Result<(), Memory>
+    pub fn append_writes(&mut self, ops: &[Op], base: u64, places: &[u32]) -> Result<(), Memory>
+        requires there { AllByRecursion (λ p. p < length ops.now) places.now }
         requires fits { base + length ops.now ≤ 2 ^ 40 }
         requires few { length self.old.records ≤ 2 ^ 32 }
         ensures bases { self.new.bases ≡ self.old.bases }
-        ensures ok { OnOk result (self.new.records ≡ self.old.records ++ unlinked (writes_of base ops.now)) }
+        ensures ok { OnOk result
+            (self.new.records ≡ self.old.records ++ unlinked (writes_at_places base ops.now places.now)) }
         ensures err { OnErr result (self.new.records ≡ self.old.records) }
         ensures few { length self.new.records ≤ 2 ^ 32 }
     {
-        append_writes(self.bases.allocator(), &mut self.arena, ops, base)
+        append_writes(self.bases.allocator(), &mut self.arena, ops, base, places)
     }
 
     /// Gives the records from place `start` on these link words. It takes no memory.

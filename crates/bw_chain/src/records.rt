@@ -1,9 +1,11 @@
 // Records that are appended.
 ghost use Rattle.std.specs.Prelude.{◌≡◌, ◌+◌, ◌^◌, ◌≤◌, ◌<◌, ◌++◌, [], ◌∷◌, length, take, IfOk, OnOk, OnErr};
-ghost use Rattle.bw_delta.specs.Batches.{stamped, write_of, writes_of};
+ghost use Rattle.std.specs.List.{AllByRecursion};
+ghost use Rattle.bw_delta.specs.Batches.{stamped, write_of};
 ghost use Rattle.bw_delta.specs.Writes.{WriteView};
 ghost use Rattle.bw_delta.specs.declared.deltas.Delta.TheVariants.{Put};
 ghost use Rattle.bw_chain.specs.Records.{IsPut, unlinked};
+ghost use Rattle.bw_chain.specs.PlacedWrites.{writes_at_places};
 
 use crate::chains::FLOOR;
 use bw_delta::{Arena, Delta, Write};
@@ -22,38 +24,50 @@ pub(crate) fn put_write(delta: &Delta) -> &Write
     }
 }
 
-/// Appends the writes of a batch, each with its stamp and with no link yet, and with `alloc` for the memory of its key and
-/// value. After `Memory` the records are as before.
+/// Appends the writes of a batch, those of the operations at these places in their order, each with its stamp and with no link
+/// yet, and with `alloc` for the memory of its key and value. After `Memory` the records are as before.
 pub(crate) fn append_writes(
     alloc: Alloc,
     arena: &mut Arena,
     ops: &[Op],
     base: u64,
+    places: &[u32],
 ) -> Result<(), Memory>
+    requires there { AllByRecursion (λ p. p < length ops.now) places.now }
     requires fits { base + length ops.now ≤ 2 ^ 40 }
     requires few { length arena.old.records ≤ 2 ^ 32 }
-    ensures ok { OnOk result (arena.new.records ≡ arena.old.records ++ unlinked (writes_of base ops.now)) }
+    ensures ok { OnOk result
+        (arena.new.records ≡ arena.old.records ++ unlinked (writes_at_places base ops.now places.now)) }
     ensures err { OnErr result (arena.new.records ≡ arena.old.records) }
     ensures few { length arena.new.records ≤ 2 ^ 32 }
 {
     let before = arena.len();
-    let appended = append_all(alloc, arena, ops, base);
+    let appended = append_all(alloc, arena, ops, base, places);
     if appended.is_err() {
         arena.truncate(before);
     }
     appended
 }
 
-// Appends the writes of a batch, or some of them.
-fn append_all(alloc: Alloc, arena: &mut Arena, ops: &[Op], base: u64) -> Result<(), Memory>
+// Appends the writes of a batch at these places, or some of them.
+fn append_all(
+    alloc: Alloc,
+    arena: &mut Arena,
+    ops: &[Op],
+    base: u64,
+    places: &[u32],
+) -> Result<(), Memory>
+    requires there { AllByRecursion (λ p. p < length ops.now) places.now }
     requires fits { base + length ops.now ≤ 2 ^ 40 }
     requires few { length arena.old.records ≤ 2 ^ 32 }
-    ensures ok { OnOk result (arena.new.records ≡ arena.old.records ++ unlinked (writes_of base ops.now)) }
+    ensures ok { OnOk result
+        (arena.new.records ≡ arena.old.records ++ unlinked (writes_at_places base ops.now places.now)) }
     ensures others { take (length arena.old.records) arena.new.records ≡ arena.old.records }
     ensures few { length arena.new.records ≤ 2 ^ 32 }
 {
-    for (place, op) in ops.iter().enumerate() {
-        append_op(alloc, arena, op, base + place as u64)?;
+    for place in places {
+        let op = &ops[*place as usize];
+        append_op(alloc, arena, op, base + u64::from(*place))?;
     }
     Ok(())
 }

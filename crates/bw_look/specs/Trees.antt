@@ -4,7 +4,6 @@ use Rattle.std.specs.List.{AllByRecursion}
 use Rattle.std.specs.Option.{option_map}
 use Rattle.bw_delta.specs.Writes.{WriteView}
 use Rattle.bw_delta.specs.History.{HasDistinctStamps}
-use Rattle.bw_delta.specs.Rising.{HasRisingStamps}
 use Rattle.bw_level.specs.Slots.{Slot}
 use Rattle.bw_level.specs.Levels.{AreLevels, row, levels_under}
 use Rattle.bw_level.specs.Entries.{AreExact}
@@ -88,7 +87,12 @@ levels_before stage heads bases records root =
     let words = words_before stage.before heads in
     levels_under (slots_of words (bases_before stage.before bases) (take stage.records records)) root
 
--- The records behind the earlier ones are the writes of a batch, in its order, with stamps from the next one on. What
+-- no two of the stamps are one, and each is from low on
+pub record AreStampedFrom (low : ℕ) (writes : List WriteView) : Type 0 where
+  pub distinct : HasDistinctStamps writes
+  pub from : AllByRecursion (λ w. low ≤ w.stamp) writes
+
+-- The records behind the earlier ones are the writes of a batch, in some order, with stamps from the next one on. What
 -- stood before is a tree, with the same levels.
 pub record IsStaged (heads : List ℕ) (bases : Bases) (records : Records) (root next : ℕ)
     (stage : StageWords) : Type 0 where
@@ -97,7 +101,7 @@ pub record IsStaged (heads : List ℕ) (bases : Bases) (records : Records) (root
   pub parts : records ≡ take stage.records records ++ put_records writes links
   pub linked : length links ≡ length writes
   pub earlier : stage.records ≤ length records
-  pub rising : HasRisingStamps next writes
+  pub stamped : AreStampedFrom next writes
   pub below : AllByRecursion (λ w. w.stamp < next + stage.ops) writes
   pub before : IsStanding (words_before stage.before heads) (bases_before stage.before bases)
       (take stage.records records) root next

@@ -19,14 +19,13 @@ use Rattle.bw_core.specs.World.{Meets, times}
 use Rattle.bw_delta.specs.Arenas.{deltas_of, links_of}
 use Rattle.bw_delta.specs.Writes.{WriteView}
 use Rattle.bw_delta.specs.History.{HasDistinctStamps}
-use Rattle.bw_delta.specs.Rising.{HasRisingStamps}
 use Rattle.bw_delta.specs.ContentsAsOf.{contents_as_of}
 use Rattle.bw_delta.specs.declared.deltas.Delta.{Delta}
 use Rattle.bw_delta.specs.declared.deltas.Delta.TheVariants.{Put}
 use Rattle.bw_delta.proofs.ContentsAsOf.{same_as_of}
 use Rattle.bw_delta.proofs.Filters.{same_filtered}
 use Rattle.bw_delta.proofs.Orders.{distinct_permuted}
-use Rattle.bw_delta.proofs.Stagings.{AreBelow, below_all, distinct_over}
+use Rattle.bw_delta.proofs.Stagings.{AreBelow, below_all}
 use Rattle.bw_key.specs.Order.{key_eq}
 use Rattle.bw_page.proofs.Truths.{holds, true_holds, left_of, right_of, both_of}
 use Rattle.bw_level.specs.Slots.{Slot, PageState, Live, Free, slot_at, has_key, is_leaf}
@@ -37,13 +36,14 @@ use Rattle.bw_level.specs.Entries.{AreExact}
 use Rattle.bw_level.specs.Changes.{Bases}
 use Rattle.bw_chain.specs.Chains.{Records, Ends, floor_word, slot_of_word, slots_of}
 use Rattle.bw_level.specs.Searches.{AllStand, IsInLevels}
-use Rattle.bw_look.specs.Trees.{ArePlaced, IsStanding}
+use Rattle.bw_look.specs.Trees.{ArePlaced, AreStampedFrom, IsStanding}
 use Rattle.bw_chain.specs.Records.{put_records}
 use Rattle.bw_chain.specs.Supports.{base_under}
 use Rattle.bw_tree.proofs.TreeAlikeLemmas.{IsPutOver, AreInside, exact_written, levels_written, pairs_alike, put_bare, stand_written}
 use Rattle.bw_chain.proofs.GrowthLemmas.{take_front}
 use Rattle.bw_level.proofs.LevelLemmas.{levels_now}
 use Rattle.bw_tree.proofs.PlacedLemmas.{named_are, named_pass}
+use Rattle.bw_tree.proofs.StampedLemmas.{stamped_over}
 use Rattle.bw_tree.proofs.PostedLemmas.{chain_posted, named, put_over}
 use Rattle.bw_look.proofs.RoutingLemmas.{slot_past}
 use Rattle.bw_look.proofs.StagedLemmas.{read_both}
@@ -128,7 +128,7 @@ home_from slots levels key p s some has is inside = record {
 }
 
 module _ (heads heads' : List ℕ) (bases : Bases) (first : Records) (root next bound : ℕ) (ws : List WriteView) (links : List ℕ) (linked : length links ≡ length ws) (pages : length heads' ≡ length heads)
-    (rising : HasRisingStamps next ws) (below : AreBelow bound ws) (le : next ≤ bound) (t : IsStanding heads bases first root next)
+    (stamped : AreStampedFrom next ws) (below : AreBelow bound ws) (le : next ≤ bound) (t : IsStanding heads bases first root next)
     (chains : (p : ℕ) → p < length heads → ChainOf (slots_of heads bases first) (levels_under (slots_of heads bases first) root) (floor_word + length first) ws links (slice_index heads' p) (slice_index heads p) p) where
   abbrev old_slots : List Slot
   old_slots = slots_of heads bases first
@@ -155,8 +155,8 @@ module _ (heads heads' : List ℕ) (bases : Bases) (first : Records) (root next 
         record {
           writes = named ws c.chain;
           is = slot_of_head bases after heads' p 0 (omega (arith, lt, pages)) ∙ (chain_is p lt).1 ∙ ap (put_over bases (named ws c.chain)) (sym (slot_of_head bases first heads p 0 lt));
-          inside = λ s is. named_pass next ws rising (λ w. T (is_in_range s.low s.high w.key)) c.chain (λ r w at some. home_inside old_slots old_levels w.key p s is (c.only r w at some));
-          are = λ s is has. named_are next ws rising (λ w. is_in_range s.low s.high w.key) c.chain c.once
+          inside = λ s is. named_pass ws stamped.distinct (λ w. T (is_in_range s.low s.high w.key)) c.chain (λ r w at some. home_inside old_slots old_levels w.key p s is (c.only r w at some));
+          are = λ s is has. named_are ws stamped.distinct (λ w. is_in_range s.low s.high w.key) c.chain c.once
               (λ r w at pass. c.here r w at (home_from old_slots old_levels w.key p s t.lawful.some has is pass))
               (λ r w at some. holds _ (home_inside old_slots old_levels w.key p s is (c.only r w at some)));
         }
@@ -186,7 +186,7 @@ module _ (heads heads' : List ℕ) (bases : Bases) (first : Records) (root next 
   moved = row_has_all bases ws old_slots new_slots leaves (t.lawful.rows 0 t.lawful.some) (λ p has. let o = placed p in record { writes = o.writes; is = o.is; are = λ s is. o.are s is has })
 
   whole_distinct : HasDistinctStamps (ws ++ row_writes old_slots leaves)
-  whole_distinct = distinct_over next next ws (row_writes old_slots leaves) (omega arith) rising t.past t.distinct
+  whole_distinct = stamped_over next ws (row_writes old_slots leaves) stamped t.past t.distinct
 
   new_distinct : HasDistinctStamps (row_writes new_slots leaves)
   new_distinct = distinct_permuted (ws ++ row_writes old_slots leaves) (row_writes new_slots leaves) moved whole_distinct

@@ -93,7 +93,7 @@ module _ (heads heads' : List ℕ) (bases : Bases) (records : Records) (root nex
     last_same = ap (λ k. writes_in (drop k after)) (sym count) ∙ ap writes_in (drop_front earlier (put_records ws links)) ∙ writes_put_in ws links linked
 
     levels_now : levels_under (slots_of heads' bases after) root ≡ levels_under (slots_of heads bases earlier) root
-    levels_now = levels_after heads heads' bases earlier root next (next + ops) ws links linked p.pages t.stage.rising t.stage.below (omega arith) t.stage.before chains
+    levels_now = levels_after heads heads' bases earlier root next (next + ops) ws links linked p.pages t.stage.stamped t.stage.below (omega arith) t.stage.before chains
 
     pub adopt_fits : n + length links ≤ length records
     adopt_fits = omega (arith, linked, count, posted_length bases earlier ws t.stage.links t.stage.linked, ap length t.stage.parts)
@@ -114,14 +114,14 @@ module _ (heads heads' : List ℕ) (bases : Bases) (records : Records) (root nex
 
       adopted_tree : IsTree heads' bases after root next (Some stage')
       adopted_tree = record {
-        now = standing_after heads heads' bases earlier root next (next + ops) ws links linked p.pages t.stage.rising t.stage.below (omega arith) t.stage.before chains t.now.fits (omega (arith, t.now.few_records, length_same));
+        now = standing_after heads heads' bases earlier root next (next + ops) ws links linked p.pages t.stage.stamped t.stage.below (omega arith) t.stage.before chains t.now.fits (omega (arith, t.now.few_records, length_same));
         stage = record {
           writes = ws;
           links = links;
           parts = ap (λ (r : Records). r ++ put_records ws links) (sym first_same);
           linked = linked;
           earlier = omega (arith, t.stage.earlier, length_same);
-          rising = t.stage.rising;
+          stamped = t.stage.stamped;
           below = t.stage.below;
           before =
               subst (λ (h : List ℕ). IsStanding h put_back (take n after) root next) (sym back)
@@ -144,16 +144,16 @@ module _ (heads heads' : List ℕ) (bases : Bases) (records : Records) (root nex
       adopt_all = record {
         tree_is = adopted_tree;
         contents = λ stamp.
-            contents_after_it heads heads' bases earlier root next (next + ops) ws links linked p.pages t.stage.rising t.stage.below (omega arith) t.stage.before chains stamp
+            contents_after_it heads heads' bases earlier root next (next + ops) ws links linked p.pages t.stage.stamped t.stage.below (omega arith) t.stage.before chains stamp
             ∙ ap (λ (s : List Slot). contents_as_of (from_entries (row_pairs s (row (levels_under s root) 0))) (ws ++ row_writes s (row (levels_under s root) 0)) stamp) (sym slots_same)
             ∙ ap (λ (l : List WriteView). let s = slots_of heads bases records in contents_as_of (from_entries (row_pairs s (row (levels_under s root) 0))) (l ++ row_writes s (row (levels_under s root) 0)) stamp) (sym writes_are);
         levels = levels_now ∙ ap (λ (s : List Slot). levels_under s root) (sym slots_same);
         pages = λ q.
-            pages_after heads heads' bases earlier root next (next + ops) ws links linked p.pages t.stage.rising t.stage.below (omega arith) t.stage.before chains q ∙ ap (λ (s : List Slot). slot_without_writes (slot_at s q)) (sym slots_same);
+            pages_after heads heads' bases earlier root next (next + ops) ws links linked p.pages t.stage.stamped t.stage.below (omega arith) t.stage.before chains q ∙ ap (λ (s : List Slot). slot_without_writes (slot_at s q)) (sym slots_same);
         writes = λ q has.
             subst (λ (s : List Slot). IsPermutation (filter (λ w. has_key (slot_at s q) w.key) (writes_in (drop n records)) ++ writes_over (slot_at s q)) (writes_over (slot_at (slots_of heads' bases after) q))) (sym slots_same)
             (subst (λ (l : List WriteView). IsPermutation (filter (λ w. has_key (slot_at (slots_of heads bases earlier) q) w.key) l ++ writes_over (slot_at (slots_of heads bases earlier) q)) (writes_over (slot_at (slots_of heads' bases after) q))) (sym writes_are)
-            (writes_after heads heads' bases earlier root next (next + ops) ws links linked p.pages t.stage.rising t.stage.below (omega arith) t.stage.before chains q
+            (writes_after heads heads' bases earlier root next (next + ops) ws links linked p.pages t.stage.stamped t.stage.below (omega arith) t.stage.before chains q
             (subst (λ (s : List Slot). Contains (row (levels_under s root) 0) q) slots_same has)));
         staged_is =
             ap (λ h. Some (stage_with h put_back (take n after) (writes_in (drop n after)))) back

@@ -15,7 +15,6 @@ use Rattle.bw_model.specs.Contents.{Contents, pairs_of_range}
 use Rattle.bw_model.specs.Values.{ValueBytes}
 use Rattle.bw_delta.specs.Arenas.{deltas_of, links_of}
 use Rattle.bw_delta.specs.ContentsAsOf.{contents_as_of, then_written, write_at}
-use Rattle.bw_delta.specs.Rising.{HasRisingStamps}
 use Rattle.bw_delta.specs.Writes.{WriteView}
 use Rattle.bw_delta.proofs.Stagings.{AreBelow}
 use Rattle.bw_page.specs.Leaves.{LeafView}
@@ -177,11 +176,11 @@ same_write [] (w ∷ old) n t below le =
 same_write (w ∷ ws) old n t below le = ap (λ o. cond (nat_eq w.stamp t) (Some w) o) (same_write ws old n t below le)
 
 -- writes from a stamp on change nothing below it
-none_yet : (low : ℕ) (ws old : List WriteView) (t : ℕ) → HasRisingStamps low ws → t < low → write_at (ws ++ old) t ≡ write_at old t
-none_yet low [] old t rising lt = refl
-none_yet low (w ∷ ws) old t rising lt =
-    let later : nat_eq w.stamp t ≡ false = grind (arith, nat_tests, rising.0, lt) in
-    ap (λ b. cond b (Some w) (write_at (ws ++ old) t)) later ∙ none_yet (w.stamp + 1) ws old t rising.1 (omega (arith, rising.0, lt))
+none_yet : (low : ℕ) (ws old : List WriteView) (t : ℕ) → AllByRecursion (λ w. low ≤ w.stamp) ws → t < low → write_at (ws ++ old) t ≡ write_at old t
+none_yet low [] old t from lt = refl
+none_yet low (w ∷ ws) old t from lt =
+    let later : nat_eq w.stamp t ≡ false = grind (arith, nat_tests, from.0, lt) in
+    ap (λ b. cond b (Some w) (write_at (ws ++ old) t)) later ∙ none_yet low ws old t from.1 lt
 
 same_before : (m : Contents ValueBytes) (xs ys : List WriteView) (n : ℕ) → ((t : ℕ) → t < n → write_at xs t ≡ write_at ys t) → contents_as_of m xs n ≡ contents_as_of m ys n
 unfolding contents_as_of
@@ -198,11 +197,11 @@ same_behind m o xs ys n (suc k) same at =
     subst (λ (t : ℕ). contents_as_of m xs t ≡ contents_as_of o ys t) on (ap (λ w. then_written w (contents_as_of m xs (k + n))) (same (k + n) (omega arith)) ∙ ap (then_written (write_at ys (k + n))) (same_behind m o xs ys n k same at))
 
 -- the same writes over two maps that were one as of the first of their stamps
-pub same_from : (m o : Contents ValueBytes) (ws old new : List WriteView) (n stamp : ℕ) → HasRisingStamps n ws → AreBelow n old → AreBelow n new → contents_as_of m old n ≡ contents_as_of o new n → n ≤ stamp → contents_as_of m (ws ++ old) stamp ≡ contents_as_of o (ws ++ new) stamp
-same_from m o ws old new n stamp rising old_below new_below at le =
+pub same_from : (m o : Contents ValueBytes) (ws old new : List WriteView) (n stamp : ℕ) → AllByRecursion (λ w. n ≤ w.stamp) ws → AreBelow n old → AreBelow n new → contents_as_of m old n ≡ contents_as_of o new n → n ≤ stamp → contents_as_of m (ws ++ old) stamp ≡ contents_as_of o (ws ++ new) stamp
+same_from m o ws old new n stamp from old_below new_below at le =
     subst (λ (k : ℕ). contents_as_of m (ws ++ old) k ≡ contents_as_of o (ws ++ new) k) (omega (arith, le))
     (same_behind m o (ws ++ old) (ws ++ new) n (stamp - n) (λ t above. same_write ws old n t old_below above ∙ sym (same_write ws new n t new_below above))
-    (same_before m (ws ++ old) old n (λ t lt. none_yet n ws old t rising lt) ∙ at ∙ sym (same_before o (ws ++ new) new n (λ t lt. none_yet n ws new t rising lt))))
+    (same_before m (ws ++ old) old n (λ t lt. none_yet n ws old t from lt) ∙ at ∙ sym (same_before o (ws ++ new) new n (λ t lt. none_yet n ws new t from lt))))
 
 module _ (heads : List ℕ) (bases : Bases) (records : Records) (root next n ops : ℕ) (fs : List Folded) (heads' links : List ℕ) where
   abbrev waiting : StageWords
@@ -255,7 +254,7 @@ module _ (heads : List ℕ) (bases : Bases) (records : Records) (root next n ops
         parts = t.stage.parts;
         linked = t.stage.linked;
         earlier = t.stage.earlier;
-        rising = t.stage.rising;
+        stamped = t.stage.stamped;
         below = t.stage.below;
         before = folded.standing;
         same = sym (ap (λ (s : List Slot). levels_under s root) after);
@@ -284,7 +283,7 @@ module _ (heads : List ℕ) (bases : Bases) (records : Records) (root next n ops
         let old = slots_of heads bases earlier in
         ap (read stamp) after
         ∙ same_from (from_entries (row_pairs new (leaves new))) (from_entries (row_pairs old (leaves old))) waits (row_writes new (leaves new)) (row_writes old (leaves old)) next stamp
-        (subst (HasRisingStamps next) (sym (writes_staged heads bases records root next waiting t.stage)) t.stage.rising)
+        (subst (AllByRecursion (λ w. next ≤ w.stamp)) (sym (writes_staged heads bases records root next waiting t.stage)) t.stage.stamped.from)
         folded.standing.past t.stage.before.past folded.contents le
         ∙ sym (ap (read stamp) before)
 

@@ -1,5 +1,7 @@
 pub mod MakingLemmas
 pub mod OverLemmas
+pub mod StampedLemmas
+pub mod PlaceLists
 pub mod StageLemmas
 pub mod PostedLemmas
 pub mod PlacedLemmas

@@ -1,20 +1,18 @@
 -- The staged writes, page by page.
-use Rattle.std.proofs.Common.{◌≡◌, ◌≢◌, ℕ, zero, suc, ◌+◌, ◌<◌, ◌≤◌, Bool, true, false, List, [], ◌∷◌, map, nat_eq, Option, Some, None, inl, inr, refl, sym, ap, ◌∙◌, subst, arith}
+use Rattle.std.proofs.Common.{◌≡◌, ◌≢◌, ℕ, zero, suc, ◌<◌, ◌≤◌, Bool, true, false, List, [], ◌∷◌, map, nat_eq, Option, Some, None, inl, inr, refl, sym, ap, ◌∙◌, subst, arith}
 use Rattle.std.specs.Prelude.{filter, slice_get}
 use Rattle.std.specs.List.{Contains, AllByRecursion, IsDistinct}
 use Rattle.std.specs.List.Sorted.{IsPermutation}
-use Rattle.std.proofs.lemmas.Bool.{cases_eq, cases_lt}
-use Rattle.std.proofs.lemmas.Bool.Decides.{nat_tests}
+use Rattle.std.proofs.lemmas.Bool.{cases_eq}
 use Rattle.std.proofs.lemmas.Map.Keys.{IsDistinct-cons}
 use Rattle.bw_core.specs.World.{times}
 use Rattle.bw_core.proofs.Lists.{one_same, one_other}
 use Rattle.bw_delta.specs.Writes.{WriteView}
 use Rattle.bw_delta.specs.History.{HasDistinctStamps}
-use Rattle.bw_delta.specs.Rising.{HasRisingStamps}
 use Rattle.bw_delta.proofs.Filters.{kept, was_there, distinct_filter}
 use Rattle.bw_delta.proofs.Orders.{same_members}
-use Rattle.bw_delta.proofs.Stagings.{rising_distinct}
 use Rattle.bw_tree.proofs.PostedLemmas.{named, write_before}
+use Rattle.bw_tree.proofs.StampedLemmas.{stamps_differ}
 use Rattle.bw_chain.proofs.ReadingLemmas.{read_is}
 
 no_write : {w : WriteView} → None ≡ Some w → ⊥
@@ -23,38 +21,12 @@ no_write e = cc
 one_write : {v w : WriteView} → Some v ≡ Some w → v ≡ w
 one_write e = cc
 
-differs : (m n : ℕ) → m < n → nat_eq m n ≡ false
-differs m n lt = grind (arith, nat_tests)
-
-differs_back : (m n : ℕ) → n < m → nat_eq m n ≡ false
-differs_back m n lt = grind (arith, nat_tests)
-
--- the stamp at a place is from the lower bound on
-stamp_from : (low : ℕ) (ws : List WriteView) (j : ℕ) (w : WriteView) → HasRisingStamps low ws → slice_get ws j ≡ Some w → low ≤ w.stamp
-stamp_from low [] j w rising e = absurd (no_write e)
-stamp_from low (v ∷ ws) zero w rising e = omega (arith, rising.0, ap (λ (x : WriteView). x.stamp) (one_write e))
-stamp_from low (v ∷ ws) (suc j) w rising e = let more = stamp_from (v.stamp + 1) ws j w rising.1 e in omega (arith, more, rising.0)
-
--- a later place has a greater stamp
-stamps_rise : (low : ℕ) (ws : List WriteView) (i j : ℕ) (v w : WriteView) → HasRisingStamps low ws → slice_get ws i ≡ Some v → slice_get ws j ≡ Some w → i < j → v.stamp < w.stamp
-stamps_rise low [] i j v w rising e f lt = absurd (no_write e)
-stamps_rise low (x ∷ ws) zero zero v w rising e f lt = absurd (omega arith)
-stamps_rise low (x ∷ ws) zero (suc j) v w rising e f lt = let more = stamp_from (x.stamp + 1) ws j w rising.1 f in omega (arith, more, ap (λ (y : WriteView). y.stamp) (one_write e))
-stamps_rise low (x ∷ ws) (suc i) zero v w rising e f lt = absurd (omega arith)
-stamps_rise low (x ∷ ws) (suc i) (suc j) v w rising e f lt = stamps_rise (x.stamp + 1) ws i j v w rising.1 e f (omega arith)
-
-stamps_differ : (low : ℕ) (ws : List WriteView) (i j : ℕ) (v w : WriteView) → HasRisingStamps low ws → slice_get ws i ≡ Some v → slice_get ws j ≡ Some w → i ≢ j → nat_eq v.stamp w.stamp ≡ false
-stamps_differ low ws i j v w rising e f other = elim (cases_lt i j) [
-  | inl lt ↦ differs v.stamp w.stamp (stamps_rise low ws i j v w rising e f lt)
-  | inr ge ↦ differs_back v.stamp w.stamp (stamps_rise low ws j i w v rising f e (grind (arith, ge, other)))
-]
-
 there_is : (ws : List WriteView) (r : ℕ) (v : WriteView) → slice_get ws r ≡ Some v → Contains ws v
 there_is [] r v e = absurd (no_write e)
 there_is (w ∷ ws) zero v e = (0, omega arith, one_write e)
 there_is (w ∷ ws) (suc r) v e = let more = there_is ws r v e in (suc more.0, omega (arith, more.1), more.2)
 
-module _ (low : ℕ) (ws : List WriteView) (rising : HasRisingStamps low ws) where
+module _ (ws : List WriteView) (distinct : HasDistinctStamps ws) where
   -- a write whose record isn't among others has a stamp of its own
   apart : (r : ℕ) (v : WriteView) (rs : List ℕ) → slice_get ws r ≡ Some v → times r rs ≡ 0 → AllByRecursion (λ y. nat_eq v.stamp y ≡ false) (map (λ (w : WriteView). w.stamp) (named ws rs))
   apart r v [] at none = tt
@@ -65,7 +37,7 @@ module _ (low : ℕ) (ws : List WriteView) (rising : HasRisingStamps low ws) whe
 
       by : (o : Option WriteView) → slice_get ws q ≡ o → AllByRecursion (λ y. nat_eq v.stamp y ≡ false) (map (λ (w : WriteView). w.stamp) (named ws rs)) → AllByRecursion (λ y. nat_eq v.stamp y ≡ false) (map (λ (w : WriteView). w.stamp) (write_before o (named ws rs)))
       by None e rest = rest
-      by (Some w) e rest = (stamps_differ low ws r q v w rising at e other, rest)
+      by (Some w) e rest = (stamps_differ ws r q v w distinct at e other, rest)
 
   named_distinct : (rs : List ℕ) → ((x : ℕ) → times x rs ≤ 1) → HasDistinctStamps (named ws rs)
   unfolding IsDistinct
@@ -105,7 +77,7 @@ module _ (low : ℕ) (ws : List WriteView) (rising : HasRisingStamps low ws) whe
   -- Records that are those of the writes that pass a test, each once, name these writes.
   pub named_are : (f : WriteView → Bool) (rs : List ℕ) → ((x : ℕ) → times x rs ≤ 1) → ((r : ℕ) (w : WriteView) → slice_get ws r ≡ Some w → f w ≡ true → 0 < times r rs) → ((r : ℕ) (w : WriteView) → slice_get ws r ≡ Some w → 0 < times r rs → f w ≡ true) → IsPermutation (filter f ws) (named ws rs)
   named_are f rs once here only =
-      same_members (filter f ws) (named ws rs) (distinct_filter f ws (rising_distinct low ws rising)) (named_distinct rs once)
+      same_members (filter f ws) (named ws rs) (distinct_filter f ws distinct) (named_distinct rs once)
       (λ v has.
       let was = was_there f ws v has in
       let at : slice_get ws was.0.0 ≡ Some v = read_is ws was.0.0 v was.0.1 (sym was.0.2) in

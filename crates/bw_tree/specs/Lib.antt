@@ -7,6 +7,7 @@ pub use Rattle.bw_level.specs.Walk
 pub use Rattle.bw_level.specs.Slots
 pub use Rattle.bw_level.specs.Changes
 pub use Rattle.bw_chain.specs.Chains
+pub use Rattle.bw_chain.specs.PlacedWrites
 pub use Rattle.bw_chain.specs.Records
 pub use Rattle.bw_level.specs.Turns
 pub use Rattle.bw_level.specs.Reading

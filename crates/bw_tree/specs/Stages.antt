@@ -8,15 +8,15 @@ use Rattle.bw_model.specs.declared.operations.Op.{Op}
 use Rattle.bw_core.specs.World.{Meets, times}
 use Rattle.bw_delta.specs.Writes.{WriteView}
 use Rattle.bw_delta.specs.Batches.{writes_of}
+use Rattle.bw_chain.specs.PlacedWrites.{writes_at_places}
 use Rattle.bw_level.specs.Levels.{IsHome, row}
 use Rattle.bw_level.specs.Reading.{writes_over}
 use Rattle.bw_level.specs.Slots.{slot_at, has_key}
 use Rattle.bw_look.specs.View.{TreeView, StageView, contents_at, contents_with, staged_writes}
 
--- the tree with a batch staged: there are records for its writes, and all else is as before
-abbrev pub staged_on : TreeView → List Op → TreeView
-staged_on tree ops =
-    let writes = writes_of tree.next ops in
+-- the tree with a batch staged, of so many operations: there are records for these writes, and all else is as before
+abbrev pub staged_with : TreeView → ℕ → List WriteView → TreeView
+staged_with tree count writes =
     record tree {
       records = tree.records + length writes;
       staged = Some (record {
@@ -24,11 +24,25 @@ staged_on tree ops =
         levels = tree.levels;
         heads = tree.heads;
         records = tree.records;
-        ops = length ops;
+        ops = count;
         writes = writes;
         adopted = false;
       });
     }
+
+-- the same with the writes of these operations, in their order
+abbrev pub staged_on : TreeView → List Op → TreeView
+staged_on tree ops = staged_with tree (length ops) (writes_of tree.next ops)
+
+-- each operation that writes is at one of these places, and at no other of them; those that read may be among them, too
+abbrev pub AreAllWritePlaces : List Op → List ℕ → Type 0
+AreAllWritePlaces ops places = (base : ℕ) → IsPermutation (writes_of base ops) (writes_at_places base ops places)
+
+-- the second tree is the first with the writes of a batch staged, in some order
+pub record IsStagedFor (old new : TreeView) (ops : List Op) : Type 0 where
+  pub writes : List WriteView
+  pub same : IsPermutation (writes_of old.next ops) writes
+  pub is : new ≡ staged_with old (length ops) writes
 
 abbrev pub is_adopted : Option StageView → Bool
 is_adopted None = false

@@ -5,11 +5,12 @@ ghost use Rattle.bw_core.specs.World.{times};
 ghost use Rattle.bw_level.specs.Slots.{slot_at};
 ghost use Rattle.bw_level.specs.Turns.{slot_without_writes};
 ghost use Rattle.bw_delta.specs.Batches.{writes_of};
+ghost use Rattle.bw_chain.specs.PlacedWrites.{writes_at_places};
 ghost use Rattle.bw_look.specs.Folding.{pages_of};
 ghost use Rattle.bw_look.specs.View.{contents_at, contents_with};
 ghost use Rattle.bw_tree.specs.Beside.{AreFolded, IsAdoptedBeside, with_own_words};
-ghost use Rattle.bw_tree.specs.Stages.{IsPostedStage, IsReadInTurn, LeavesHaveAll};
-ghost use Rattle.bw_tree.specs.Stages.{accepted_tree, adopted_stage, is_adopted, staged_on, undone_tree};
+ghost use Rattle.bw_tree.specs.Stages.{AreAllWritePlaces, IsPostedStage, IsReadInTurn, LeavesHaveAll};
+ghost use Rattle.bw_tree.specs.Stages.{accepted_tree, adopted_stage, is_adopted, staged_on, staged_with, undone_tree};
 ghost use Rattle.bw_tree.specs.PageWords.{IsPostedStageOn};
 ghost use Rattle.bw_look.specs.Words.{put_words};
 
@@ -29,8 +30,9 @@ impl Tree {
     /// Stages a batch: each of its writes becomes a record, in the order of the batch, and the operation at place i has
     /// the stamp `base + i`. No batch is staged, and the stamps stay within 2^40.
     ///
-    /// A write without an effect is a record too. It costs a copy of each key and value that is written. After `Memory`
-    /// the tree is as before, and nothing is staged.
+    /// A write without an effect is a record too. It costs a copy of each key and value that is written, and a list of the
+    /// operations' places. `Memory` is answered where one of them finds none, where there would be more than 2^32 records, and
+    /// for more than 2^32 operations. The tree is as before then, and nothing is staged.
     pub fn stage(&mut self, ops: &[Op]) -> Result<Staged, Memory>
         requires none { self.old.staged ≡ None }
         requires fits { self.old.next + length ops.now ≤ 2 ^ 40 }
@@ -43,8 +45,28 @@ impl Tree {
         // With the staged writes among them, a read as of the stamp of an operation sees the map before it.
         ensures reads { OnOk result (IsReadInTurn self.old self.new ops.now) }
     {
+        let places = places_of(*self.heads.allocator(), ops)?;
+        self.stage_in_order(ops, &places)
+    }
+
+    /// The same with the records in another order: that of these places of operations, among which each operation that writes
+    /// is once, so that no list of them is made here. Whoever gives them in the order of their keys has the records of a page
+    /// lie side by side, so that its chain is read as one piece.
+    pub fn stage_in_order(&mut self, ops: &[Op], places: &[u32]) -> Result<Staged, Memory>
+        requires none { self.old.staged ≡ None }
+        requires fits { self.old.next + length ops.now ≤ 2 ^ 40 }
+        requires there { AllByRecursion (λ p. p < length ops.now) places.now }
+        requires all { AreAllWritePlaces ops.now places.now }
+        ensures ok { let writes = writes_at_places self.old.next ops.now places.now in
+            OnOk result (self.new ≡ staged_with self.old (length ops.now) writes) }
+        ensures err { OnErr result (self.new ≡ self.old) }
+        ensures base { IfOk result (λ staged. staged.base ≡ self.old.next) }
+        ensures floor { IfOk result (λ staged. staged.floor ≡ 2 ^ 32 + self.old.records) }
+        ensures records { IfOk result (λ staged. staged.records ≡ length (writes_of self.old.next ops.now)) }
+        ensures reads { OnOk result (IsReadInTurn self.old self.new ops.now) }
+    {
         let records = self.chains.len();
-        self.chains.append_writes(ops, self.next)?;
+        self.chains.append_writes(ops, self.next, places)?;
         self.staged.replace(Stage {
             records,
             ops: ops.len() as u64,
@@ -193,4 +215,20 @@ impl Tree {
             }
         }
     }
+}
+
+// The places of the operations of a batch, in its order. `Memory` is answered, too, for more than 2^32 of them.
+fn places_of(alloc: Alloc, ops: &[Op]) -> Result<Vec<u32, Alloc>, Memory>
+    ensures there { IfOk result (λ places. AllByRecursion (λ p. p < length ops.now) places.items) }
+    ensures writes { IfOk result (λ places. (base : ℕ) →
+        writes_at_places base ops.now places.items ≡ writes_of base ops.now) }
+{
+    let mut places = Vec::with_capacity(alloc, ops.len())?;
+    for place in 0..ops.len() {
+        match u32::try_from(place) {
+            Ok(place) => places.push(place)?,
+            Err(_) => return Err(Memory),
+        }
+    }
+    Ok(places)
 }

@@ -1,18 +1,17 @@
-use Rattle.std.proofs.Common.{refl}
-use Rattle.bw_tree.proofs.StageLemmas.{stage_on}
+use Rattle.std.proofs.Common.{◌≡◌, OnOk, length, ap, subst, ◌∙◌}
+use Rattle.bw_chain.specs.PlacedWrites.{writes_at_places}
+use Rattle.bw_tree.specs.Stages.{staged_with}
+use Rattle.bw_tree.proofs.PlaceLists.{all_places}
 use Rattle.bw_tree.proofs.tree.Tree.stage.Goals as goal
 
-pub invariant_of-self-2 : goal.invariant_of-self-2
-invariant_of-self-2 c =
-    (stage_on c.self.inside.heads.items c.self.inside.chains.bases c.self.inside.chains.records c.self.inside.root c.self.inside.next c.self.inside.staged _ c.args.ops.now c.self.invariant c.self.view_is c.requires.none c.requires.fits
-    _ _ _ _ _ c.append_writes.ensures.bases c.in_ok-append_writes.ensures.ok c.append_writes.ensures.few c.replace.ensures.after c.len-records.ensures refl).tree_is
+pub stage_in_order-requires-clause-all : goal.stage_in_order-requires-clause-all
+stage_in_order-requires-clause-all c =
+    let ops = c.args.ops.now in
+    all_places ops c.deref.result.now (λ base. ap (writes_at_places base ops) c.deref.ensures.value ∙ c.in_ok-places.ensures.writes base)
 
 pub returns-clause-ok : goal.returns-clause-ok
 returns-clause-ok c =
-    (stage_on c.self.inside.heads.items c.self.inside.chains.bases c.self.inside.chains.records c.self.inside.root c.self.inside.next c.self.inside.staged _ c.args.ops.now c.self.invariant c.self.view_is c.requires.none c.requires.fits
-    _ _ _ _ _ c.append_writes.ensures.bases c.in_ok-append_writes.ensures.ok c.append_writes.ensures.few c.replace.ensures.after c.len-records.ensures refl).view
-
-pub returns-clause-reads : goal.returns-clause-reads
-returns-clause-reads c =
-    (stage_on c.self.inside.heads.items c.self.inside.chains.bases c.self.inside.chains.records c.self.inside.root c.self.inside.next c.self.inside.staged _ c.args.ops.now c.self.invariant c.self.view_is c.requires.none c.requires.fits
-    _ _ _ _ _ c.append_writes.ensures.bases c.in_ok-append_writes.ensures.ok c.append_writes.ensures.few c.replace.ensures.after c.len-records.ensures refl).reads
+    let ops = c.args.ops.now in
+    let next = c.args.self.now.next in
+    subst (λ ws. OnOk c.stage_in_order.result (c.stage_in_order.new.self ≡ staged_with c.args.self.now (length ops) ws))
+    (ap (writes_at_places next ops) c.deref.ensures.value ∙ c.in_ok-places.ensures.writes next) c.stage_in_order.ensures.ok
