@@ -1,11 +1,12 @@
 -- A batch on a tree, from its staging to its end.
 use Rattle.std.proofs.Common.{◌≡◌, ℕ, ◌+◌, ◌≤◌, true, false, List, [], length, take, Option, Some, None, refl, sym, ap, ◌∙◌, subst, arith}
 use Rattle.std.proofs.lemmas.List.{take_all}
+use Rattle.std.proofs.lemmas.List.Sorted.{length_permutation}
 use Rattle.bw_model.specs.Model.{contents_after}
 use Rattle.bw_model.specs.declared.operations.Op.{Op}
 use Rattle.bw_delta.specs.Batches.{writes_of}
-use Rattle.bw_tree.specs.Stages.{accepted_tree, adopted_stage, is_adopted, staged_on, undone_tree}
-use Rattle.bw_look.specs.View.{TreeView, StageView, contents_at, contents_with}
+use Rattle.bw_tree.specs.Stages.{IsStagedFor, accepted_tree, adopted_stage, is_adopted, undone_tree}
+use Rattle.bw_look.specs.View.{TreeView, StageView, contents_at, contents_with, staged_writes}
 use Rattle.bw_look.specs.declared.folded.Folded.{Folded}
 use Rattle.bw_tree.specs.PageWords.{IsPostedStageOn}
 use Rattle.bw_post.specs.Posting.{IsPostedBeside, IsWaiting}
@@ -13,12 +14,16 @@ use Rattle.bw_shape.specs.Sweeps.{HoldsSame}
 use Rattle.bw_batch.specs.IndexStages.{operations_staged}
 
 -- a batch that was staged waits to be posted
-pub staged_waits : (before tree : TreeView) (ops : List Op) → tree ≡ staged_on before ops → IsWaiting tree tree.staged ops
-staged_waits before tree ops is = subst (λ (t : TreeView). IsWaiting t t.staged ops) (sym is) (refl, refl)
+pub staged_waits : (before tree : TreeView) (ops : List Op) → IsStagedFor before tree ops → IsWaiting tree tree.staged ops
+staged_waits before tree ops staged = subst (λ (t : TreeView). IsWaiting t t.staged ops) (sym staged.is) (refl, staged.same)
 
-module _ (before tree : TreeView) (ops : List Op) (is : tree ≡ staged_on before ops) (reads : (i : ℕ) → contents_with tree (before.next + i) ≡ contents_after (take i ops) (contents_at before before.next)) where
+-- it has a record for each of its writes
+pub staged_count : (before tree : TreeView) (ops : List Op) → IsStagedFor before tree ops → length (staged_writes tree.staged) ≡ length (writes_of before.next ops)
+staged_count before tree ops staged = ap (λ (t : TreeView). length (staged_writes t.staged)) staged.is ∙ length_permutation (writes_of before.next ops) staged.writes staged.same
+
+module _ (before tree : TreeView) (ops : List Op) (staged : IsStagedFor before tree ops) (reads : (i : ℕ) → contents_with tree (before.next + i) ≡ contents_after (take i ops) (contents_at before before.next)) where
   next_is : tree.next ≡ before.next
-  next_is = ap (λ (t : TreeView). t.next) is
+  next_is = ap (λ (t : TreeView). t.next) staged.is
 
   -- as of the first stamp of the batch nothing is changed
   pub first_read : contents_with tree tree.next ≡ contents_at before before.next
@@ -28,10 +33,10 @@ module _ (before tree : TreeView) (ops : List Op) (is : tree ≡ staged_on befor
   reads_on i = ap (λ n. contents_with tree (n + i)) next_is ∙ reads i ∙ ap (contents_after (take i ops)) (sym first_read)
 
 -- with the batch undone the tree is as before
-pub undone_is : (before tree after : TreeView) (ops : List Op) → before.staged ≡ None → tree ≡ staged_on before ops → undone_tree after after.staged ≡ undone_tree tree tree.staged → undone_tree after after.staged ≡ before
-undone_is before tree after ops none is same =
+pub undone_is : (before tree after : TreeView) (ops : List Op) → before.staged ≡ None → IsStagedFor before tree ops → undone_tree after after.staged ≡ undone_tree tree tree.staged → undone_tree after after.staged ≡ before
+undone_is before tree after ops none staged same =
     same
-    ∙ ap (λ (t : TreeView). undone_tree t t.staged) is
+    ∙ ap (λ (t : TreeView). undone_tree t t.staged) staged.is
     ∙ ap (λ (o : Option StageView). record before { staged = o }) (sym none)
 
 -- an adopted batch is undone like a staged one
@@ -84,10 +89,10 @@ pub record IsAccepted (before after : TreeView) (ops : List Op) : Type 0 where
   pub records : after.records ≡ before.records + length (writes_of before.next ops)
   pub contents : contents_at after after.next ≡ contents_after ops (contents_at before before.next)
 
-pub accepted_as : (before tree now after : TreeView) (ops : List Op) → tree ≡ staged_on before ops → ((i : ℕ) → contents_with tree (before.next + i) ≡ contents_after (take i ops) (contents_at before before.next)) →
+pub accepted_as : (before tree now after : TreeView) (ops : List Op) → IsStagedFor before tree ops → ((i : ℕ) → contents_with tree (before.next + i) ≡ contents_after (take i ops) (contents_at before before.next)) →
     now.next ≡ tree.next → now.records ≡ tree.records → ReadsOn tree now → is_adopted now.staged ≡ true → operations_staged now.staged ≡ operations_staged tree.staged → after ≡ accepted_tree now now.staged →
     IsAccepted before after ops
-accepted_as before tree now after ops is reads next records same so count accepted_is = by now.staged so count accepted_is
+accepted_as before tree now after ops staged reads next records same so count accepted_is = by now.staged so count accepted_is
   where
     different : false ≡ true → ⊥
     different e = cc
@@ -95,15 +100,16 @@ accepted_as before tree now after ops is reads next records same so count accept
     by : (o : Option StageView) → is_adopted o ≡ true → operations_staged o ≡ operations_staged tree.staged → after ≡ accepted_tree now o → IsAccepted before after ops
     by None none count is' = absurd (different none)
     by (Some stage) adopted count is' =
-        let ops_are : stage.ops ≡ length ops = count ∙ ap (λ (t : TreeView). operations_staged t.staged) is in
-        let now_is : now.next ≡ before.next = next ∙ ap (λ (t : TreeView). t.next) is in
+        let ops_are : stage.ops ≡ length ops = count ∙ ap (λ (t : TreeView). operations_staged t.staged) staged.is in
+        let now_is : now.next ≡ before.next = next ∙ ap (λ (t : TreeView). t.next) staged.is in
         let next_is : now.next + stage.ops ≡ before.next + length ops = omega (arith, ops_are, now_is) in
         record {
           next = ap (λ (t : TreeView). t.next) is' ∙ next_is;
           none = ap (λ (t : TreeView). t.staged) is';
-          records = ap (λ (t : TreeView). t.records) is' ∙ records ∙ ap (λ (t : TreeView). t.records) is;
+          records = ap (λ (t : TreeView). t.records) is' ∙ records ∙ ap (λ (t : TreeView). t.records) staged.is
+              ∙ ap (λ n. before.records + n) (length_permutation (writes_of before.next ops) staged.writes staged.same);
           contents =
-              ap (λ (t : TreeView). contents_at t t.next) is' ∙ ap (contents_at now) next_is ∙ same (before.next + length ops) (omega (arith, ap (λ (t : TreeView). t.next) is)) ∙ reads (length ops)
+              ap (λ (t : TreeView). contents_at t t.next) is' ∙ ap (contents_at now) next_is ∙ same (before.next + length ops) (omega (arith, ap (λ (t : TreeView). t.next) staged.is)) ∙ reads (length ops)
               ∙ ap (λ (l : List Op). contents_after l (contents_at before before.next)) (take_all (length ops) ops (omega arith));
         }
 

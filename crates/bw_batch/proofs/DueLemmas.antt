@@ -17,7 +17,7 @@ use Rattle.bw_level.specs.Reading.{pairs_under, writes_over}
 use Rattle.bw_level.specs.Slots.{Slot, Body, Pairs, Children, Free, Gone, Live, slot_at, has_key}
 use Rattle.bw_level.specs.Turns.{slot_without_writes}
 use Rattle.bw_model.specs.declared.operations.Op.{Op}
-use Rattle.bw_tree.specs.Stages.{LeavesHaveAll, accepted_tree, staged_on}
+use Rattle.bw_tree.specs.Stages.{LeavesHaveAll, IsStagedFor, accepted_tree}
 use Rattle.bw_look.specs.View.{StageView, TreeView, staged_writes}
 use Rattle.bw_tree.specs.PageWords.{IsPostedStageOn}
 use Rattle.bw_tree.specs.Beside.{folded_tree, with_own_words}
@@ -149,10 +149,10 @@ pub has_both : (pages due : List ℕ) → HasBoth pages due (pages ++ due)
 has_both pages due = record { left = Contains-append_left pages due; right = Contains-append_right pages due; only = Contains-append_cases pages due }
 
 -- and so behind the batch: to stage it and to accept it moves no page
-pub within_batch : (limits : LimitsView) (before tree now after : TreeView) (ops : List Op) (due due' : List ℕ) → tree ≡ staged_on before ops → after ≡ accepted_tree now now.staged →
+pub within_batch : (limits : LimitsView) (before tree now after : TreeView) (ops : List Op) (due due' : List ℕ) → IsStagedFor before tree ops → after ≡ accepted_tree now now.staged →
     (AreWithinBut limits tree due → AreWithinBut limits now due') → AreWithinBut limits before due → AreWithinBut limits after due'
 within_batch limits before tree now after ops due due' staged accepted kept but =
-    accepted_within (kept (subst (λ (t : TreeView). AreWithinBut limits t due) (sym staged) but))
+    accepted_within (kept (subst (λ (t : TreeView). AreWithinBut limits t due) (sym staged.is) but))
   where
     accepted_within : AreWithinBut limits now due' → AreWithinBut limits after due'
     accepted_within but = subst (λ (t : TreeView). AreWithinBut limits t due') (sym accepted) (by now.staged)

@@ -6,7 +6,7 @@ use Rattle.std.proofs.lemmas.List.{append-nil}
 use Rattle.bw_level.specs.Levels.{row}
 use Rattle.bw_level.specs.Slots.{slot_at}
 use Rattle.bw_look.specs.Shapes.{level_shape, levels_shape, page_shape, shape_of}
-use Rattle.bw_tree.specs.Stages.{accepted_tree, staged_on}
+use Rattle.bw_tree.specs.Stages.{IsStagedFor, accepted_tree}
 use Rattle.bw_look.specs.View.{StageView, TreeView}
 use Rattle.bw_look.specs.declared.look.shape.PageShape.{PageShape}
 use Rattle.bw_model.specs.declared.operations.Op.{Op}
@@ -62,8 +62,8 @@ pub wide_leaves : (old new : TreeView) → new.levels ≡ old.levels → ((p : �
 wide_leaves old new levels wide = same_leaves old new (same_row old new levels) (λ p has. record { low = (wide p).low; high = (wide p).high })
 
 -- to stage a batch and to accept it moves no page
-pub batch_leaves : (before tree now after : TreeView) (ops : List Op) → tree ≡ staged_on before ops → after ≡ accepted_tree now now.staged → leaf_ranges now ≡ leaf_ranges tree → leaf_ranges after ≡ leaf_ranges before
-batch_leaves before tree now after ops staged accepted same = ap leaf_ranges accepted ∙ by now.staged ∙ same ∙ ap leaf_ranges staged
+pub batch_leaves : (before tree now after : TreeView) (ops : List Op) → IsStagedFor before tree ops → after ≡ accepted_tree now now.staged → leaf_ranges now ≡ leaf_ranges tree → leaf_ranges after ≡ leaf_ranges before
+batch_leaves before tree now after ops staged accepted same = ap leaf_ranges accepted ∙ by now.staged ∙ same ∙ ap leaf_ranges staged.is
   where
     by : (o : Option StageView) → leaf_ranges (accepted_tree now o) ≡ leaf_ranges now
     by None = refl

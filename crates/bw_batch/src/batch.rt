@@ -3,7 +3,7 @@ ghost use Rattle.std.specs.Prelude.{◌≡◌, ℕ, ◌<◌, ◌≤◌, ◌+◌,
 ghost use Rattle.bw_delta.specs.Batches.{writes_of};
 ghost use Rattle.bw_model.specs.Model.{contents_after, replies_of};
 ghost use Rattle.bw_tree.specs.Beside.{IsAdoptedBeside};
-ghost use Rattle.bw_tree.specs.Stages.{is_adopted, staged_on, undone_tree, IsReadInTurn};
+ghost use Rattle.bw_tree.specs.Stages.{is_adopted, undone_tree, IsReadInTurn, IsStagedFor};
 ghost use Rattle.bw_look.specs.Folding.{pages_of};
 ghost use Rattle.bw_look.specs.View.{contents_at, contents_with, staged_writes};
 ghost use Rattle.bw_look.specs.Words.{put_words};
@@ -75,7 +75,7 @@ pub(crate) fn run_batch<R: Threads + Sync, G: Gate>(
 {
     let workers = options.workers();
     let batch = Grouping::new(rt, alloc, ops, workers)?;
-    stage(tree, ops, batch.writes())?;
+    stage(alloc, tree, ops, &batch)?;
     let looks = are_looked_at(&batch, due, workers);
     let mut findings = Findings::new(alloc, options.limits(), looks);
     match answer_staged(rt, alloc, tree, due, &batch, options, gate, &mut findings) {
@@ -94,20 +94,22 @@ pub(crate) fn run_batch<R: Threads + Sync, G: Gate>(
     }
 }
 
-// Stages a batch of so many writes. The operations of one that only reads aren't passed for that.
-fn stage(tree: &mut Tree, ops: &[Op], writes: usize) -> Result<(), Memory>
+// Stages a batch, its records in the order of their keys: so those of a leaf lie side by side, and its chain is read as one
+// piece. The operations of a batch that only reads aren't passed for that.
+fn stage(alloc: Alloc, tree: &mut Tree, ops: &[Op], batch: &Grouping<'_>) -> Result<(), Memory>
+    requires batch { batch.now.ops ≡ ops.now }
     requires none { tree.old.staged ≡ None }
     requires fits { tree.old.next + length ops.now ≤ 2 ^ 40 }
-    requires writes { writes ≡ length (writes_of 0 ops.now) }
-    ensures ok { OnOk result (tree.new ≡ staged_on tree.old ops.now) }
+    ensures ok { OnOk result (IsStagedFor tree.old tree.new ops.now) }
     ensures reads { OnOk result (IsReadInTurn tree.old tree.new ops.now) }
     ensures err { OnErr result (tree.new ≡ tree.old) }
 {
-    if writes == 0 {
+    if batch.writes() == 0 {
         tree.stage_reads(ops);
         return Ok(());
     }
-    tree.stage(ops)?;
+    let places = batch.write_places(alloc)?;
+    tree.stage_in_order(ops, &places)?;
     Ok(())
 }
 

@@ -162,7 +162,8 @@ impl Index {
     ///
     /// Of 16,384 operations on keys and more the sorting by key is shared out among up to `workers` threads, which `rt`
     /// starts. The writes are posted by up to as many side by side, and `gate` is called round the posting of each.
-    /// They are numbered in the order of the batch, from 0. Where the options ask for it (`Options::with_beside`),
+    /// They are numbered from 0 in the order of their keys, those on one key in the order of the batch. Where the options
+    /// ask for it (`Options::with_beside`),
     /// leaves of the batch are consolidated beside that. The replies are made in up to `workers` parts side by side. Of
     /// a batch with writes that is answered in several parts, or by one worker and has 64 operations at the least,
     /// leaves that are over a limit are consolidated meanwhile, and stand beside the old ones until it is accepted.

@@ -10,3 +10,5 @@ mod NumberLemmas
 pub mod SortedPoints
 mod RankLemmas
 mod WriteCounts
+mod FlatPermutations
+mod WritePlaces

@@ -3,7 +3,7 @@ use Rattle.std.specs.Prelude.{◌≡◌, ℕ, ◌+◌, ◌-◌, ◌≤◌, true,
 use Rattle.std.specs.List.{AllByRecursion}
 use Rattle.std.specs.Option.{option_map}
 use Rattle.std.specs.Ordering.{is_lt}
-use Rattle.std.specs.List.Sorted.{IsSortedBy}
+use Rattle.std.specs.List.Sorted.{IsPermutation, IsSortedBy}
 use Rattle.bw_key.specs.Order.{KeyBytes, key_cmp, key_eq}
 use Rattle.bw_model.specs.declared.operations.Op.{Op}
 use Rattle.bw_model.specs.Model.{key_of}
@@ -101,5 +101,6 @@ pub record AreGrouped (batch : GroupingView) : Type 0 where
 -- a batch with its points, its scans, and how many of its operations write
 pub record IsGrouping (ops : List Op) (points : List Point) (scans : List ℕ) (write_count : ℕ) : Type 0 where
   pub grouped : AreGrouped (grouping_view ops points scans)
+  pub permuted : IsPermutation (entries_from 0 ops) (entries_of points)
   pub verbs : AllByRecursion (IsPointOf ops) points
   pub writes : write_count ≡ length (writes_of 0 ops)

@@ -1,10 +1,11 @@
 // The operations of a batch, and those that read or write one key each.
 ghost use Rattle.std.specs.Prelude.{◌≡◌, ◌<◌, ◌≤◌, ◌^◌, false, length, IfOk};
 ghost use Rattle.std.specs.List.{AllByRecursion};
-ghost use Rattle.std.specs.List.Sorted.{IsSortedBy};
+ghost use Rattle.std.specs.List.Sorted.{IsPermutation, IsSortedBy};
 ghost use Rattle.std.specs.Ordering.{is_lt};
 ghost use Rattle.bw_key.specs.Order.{key_cmp, key_eq};
 ghost use Rattle.bw_delta.specs.Batches.{stamped, write_of, writes_of};
+ghost use Rattle.bw_tree.specs.Stages.{AreAllWritePlaces};
 ghost use Rattle.bw_group.specs.Points.{AreGrouped, HasKey, HaveSameOfKeys, IsPointOf};
 ghost use Rattle.bw_group.specs.Points.{entries_from, entries_in, entries_of, key_at, scans_from};
 ghost use Rattle.bw_group.specs.declared.points.Point.{Point};
@@ -110,6 +111,22 @@ impl<'a> Grouping<'a> {
     {
         self.writes
     }
+
+    /// The places of the operations that write, in the order of their keys; those on one key are in the order of the batch.
+    /// `Memory` is answered where the list finds none.
+    pub fn write_places(&self, alloc: Alloc) -> Result<Vec<u32, Alloc>, Memory>
+        ensures there { IfOk result (λ places. AllByRecursion (λ p. p < length self.now.ops) places.items) }
+        ensures all { IfOk result (λ places. AreAllWritePlaces self.now.ops places.items) }
+    {
+        let points = self.points();
+        let mut places = Vec::with_capacity(alloc, self.writes)?;
+        for point in points {
+            if !point.is_get() {
+                places.push(point.place)?;
+            }
+        }
+        Ok(places)
+    }
 }
 
 // What a batch has: its points, the places of its scans, and how many of its operations write.
@@ -131,6 +148,7 @@ fn grouped_lists<'a, R: Threads + Sync>(
     ensures sorted { IfOk result (λ lists.
         IsSortedBy (λ d e. is_lt (key_cmp d.0 e.0)) (entries_of lists.points.items)) }
     ensures same { IfOk result (λ lists. HaveSameOfKeys (entries_of lists.points.items) (entries_from 0 ops.now)) }
+    ensures permuted { IfOk result (λ lists. IsPermutation (entries_from 0 ops.now) (entries_of lists.points.items)) }
     ensures verbs { IfOk result (λ lists. AllByRecursion (IsPointOf ops.now) lists.points.items) }
     ensures scans { IfOk result (λ lists. lists.scans.items ≡ scans_from 0 ops.now) }
     ensures writes { IfOk result (λ lists. lists.writes ≡ length (writes_of 0 ops.now)) }

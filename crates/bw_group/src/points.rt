@@ -1,10 +1,11 @@
 // Operations on one key each.
-ghost use Rattle.std.specs.Prelude.{◌≡◌, ◌<◌, ◌≤◌, ◌^◌, length, not, Decides, IfSome};
+ghost use Rattle.std.specs.Prelude.{◌≡◌, ◌<◌, ◌≤◌, ◌^◌, true, Some, length, not, Decides, IfSome};
 ghost use Rattle.std.specs.Option.{option_copied};
 ghost use Rattle.std.specs.Ordering.{nat_cmp, ordering_then};
 ghost use Rattle.bw_key.specs.Order.{key_cmp, key_eq};
 ghost use Rattle.bw_key.specs.Prefixes.{key_prefix, IsBytes};
 ghost use Rattle.bw_model.specs.Contents.{is_below_end};
+ghost use Rattle.bw_model.specs.declared.verbs.Verb.TheVariants.{Get};
 
 use bw_key::{Key, compare_prefixed};
 use bw_model::Verb;
@@ -59,6 +60,13 @@ impl<'a> Point<'a> {
         ensures { result ≡ self.now.verb }
     {
         self.verb
+    }
+
+    /// Whether the operation is a get, which writes nothing.
+    pub(crate) fn is_get(&self) -> bool
+        ensures { result ≡ true → self.now.verb ≡ Some Get }
+    {
+        matches!(self.verb, Some(Verb::Get))
     }
 
     /// Whether the prefix has all bytes of the key.

@@ -1,7 +1,9 @@
 -- The place of a staged write's operation, and its home.
 use Rattle.std.proofs.Common.{◌≡◌, ℕ, zero, suc, ◌+◌, ◌-◌, ◌<◌, ◌≤◌, List, [], ◌∷◌, ◌++◌, length, Option, Some, None, refl, sym, ap, ◌∙◌, subst, arith}
+use Rattle.std.specs.List.{Contains}
 use Rattle.std.specs.Prelude.{slice_get}
-use Rattle.std.proofs.lemmas.Option.{slice_get_within}
+use Rattle.std.proofs.lemmas.List.Sorted.{Contains-permutation, IsPermutation-sym}
+use Rattle.std.proofs.lemmas.Option.{get_or_from_slice_get, slice_get-get_or, slice_get_within}
 use Rattle.std.specs.Option.{option_map}
 use Rattle.bw_key.specs.Order.{KeyBytes}
 use Rattle.bw_model.specs.declared.operations.Action.{Action}
@@ -70,7 +72,10 @@ staged_homes tree ops homes waiting are r w at = by tree.staged waiting at
     by : (o : Option StageView) → IsWaiting tree o ops → slice_get (staged_writes o) r ≡ Some w → (tree.next ≤ w.stamp) × HasHome tree homes (w.stamp - tree.next) w.key
     by None none at = absurd none
     by (Some stage) is at =
-        let p = placed ops tree.next r w (ap (λ (l : List WriteView). slice_get l r) (sym is.1) ∙ at) in
+        let writes = writes_of tree.next ops in
+        let has : Contains stage.writes w = (r, slice_get_within stage.writes r w at, get_or_from_slice_get stage.writes r w w at) in
+        let was = Contains-permutation stage.writes writes w (IsPermutation-sym writes stage.writes is.1) has in
+        let p = placed ops tree.next was.0 w (slice_get-get_or writes was.0 w was.1 ∙ ap Some was.2) in
         let less : p.place ≡ w.stamp - tree.next = omega (arith, p.stamp) in
         (omega (arith, p.stamp), subst (λ n. HasHome tree homes n w.key) less (are.each p.place w.key p.key))
 

@@ -2,6 +2,7 @@
 use Rattle.std.specs.Prelude.{◌≡◌, ℕ, ◌-◌, ◌^◌, ◌<◌, ◌≤◌, true, false, List, [], length}
 use Rattle.std.specs.Prelude.{Option, Some, None, slice_get, slice_index, slice_index_or}
 use Rattle.std.specs.List.{AllByRecursion, Contains}
+use Rattle.std.specs.List.Sorted.{IsPermutation}
 use Rattle.bw_core.specs.World.{posts_at, times, wins_in}
 use Rattle.bw_core.specs.declared.Swap.{Swap}
 use Rattle.bw_board.specs.Plays.{lost_in}
@@ -19,10 +20,10 @@ use Rattle.bw_tree.specs.Levels.{row}
 use Rattle.bw_look.specs.View.{TreeView, StageView, staged_writes}
 use Rattle.bw_tree.specs.PageWords.{IsPostedStageOn, words_of}
 
--- the writes of these operations are staged, and not adopted
+-- the writes of these operations are staged, in some order, and not adopted
 abbrev pub IsWaiting : TreeView → Option StageView → List Op → Type 0
 IsWaiting tree None ops = ⊥
-IsWaiting tree (Some stage) ops = (stage.adopted ≡ false) × (stage.writes ≡ writes_of tree.next ops)
+IsWaiting tree (Some stage) ops = (stage.adopted ≡ false) × IsPermutation (writes_of tree.next ops) stage.writes
 
 -- a batch is staged, and not adopted
 abbrev pub IsUnadopted : Option StageView → Type 0

@@ -18,8 +18,8 @@ use bw_page::PageId;
 use bw_tree::{Folded, Tree};
 use std::thread::Threads;
 
-// Workers who post to one page meet there: they lose exchanges, and its records don't stand in the order of the batch, which a
-// sort of them pays for. Of so many records to each page that costs more than the posting takes.
+// Workers who post to one page meet there: they lose exchanges, and its records don't stand in the order in which they were
+// staged, which a sort of them pays for. Of so many records to each page that costs more than the posting takes.
 const CROWD: u64 = 4096;
 
 /// What posting leaves.

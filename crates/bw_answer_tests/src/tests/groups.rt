@@ -1,13 +1,14 @@
-// Operations in the order of their keys, where keys begin alike.
+// Operations in the order of their keys, where keys begin alike, and writes that are staged in it.
 ghost use Rattle.std.specs.Prelude.{◌<◌};
 
-use super::making::memory;
+use super::making::{memory, three};
 use crate::tests::assertions::{assert_equal, assert_that};
 use bw_fixtures::{key, value, was_refused};
 use bw_group::{Grouping, Point};
 use bw_key::Memory;
 use bw_memory::Alloc;
 use bw_model::Op;
+use bw_tree::{Staged, Tree};
 use std::process::Abort;
 use std::thread::Threads;
 
@@ -113,6 +114,96 @@ fn all_but_gets_and_scans_write(rt: HostRuntime) {
     assert_equal(&rt, batch.writes(), 5);
     assert_equal(&rt, batch.points().len(), 6);
     assert_equal(&rt, batch.scans(), &[6, 7]);
+}
+
+// Four writes to two keys, with a get and a scan among them.
+fn writes_to_two_keys(alloc: Alloc) -> Result<Vec<Op, Alloc>, Memory> {
+    let mut ops = Vec::new(alloc);
+    ops.push(Op::Upsert(key(alloc, b"b")?, value(alloc, b"1")?))?;
+    ops.push(Op::Get(key(alloc, b"a")?))?;
+    ops.push(Op::Delete(key(alloc, b"a")?))?;
+    ops.push(Op::Scan {
+        from: key(alloc, b"a")?,
+        to: None,
+        most: 1,
+    })?;
+    ops.push(Op::Insert(key(alloc, b"b")?, value(alloc, b"2")?))?;
+    ops.push(Op::Update(key(alloc, b"a")?, value(alloc, b"3")?))?;
+    Ok(ops)
+}
+
+#[test]
+fn the_places_of_writes_are_in_the_order_of_their_keys(rt: HostRuntime) {
+    let alloc = memory(&rt, rt.alloc());
+    let ops = writes_to_two_keys(alloc).expect(&rt, "memory");
+    assert!(rt; ops.len() < 1000);
+    let batch = Grouping::new(&rt, alloc, &ops, 1).expect(&rt, "memory");
+    let places = batch.write_places(alloc).expect(&rt, "memory");
+    assert_equal(&rt, places.as_slice(), &[2, 5, 0, 4]);
+    alloc.refuse(1);
+    assert_that(&rt, batch.write_places(alloc).is_err());
+    alloc.refuse(0);
+}
+
+// Stages these writes in the order of their keys.
+fn stage_by_key<R: Abort + Threads + Sync>(
+    rt: &R,
+    alloc: Alloc,
+    tree: &mut Tree,
+) -> Result<Staged, Memory> {
+    let ops = writes_to_two_keys(alloc)?;
+    assert!(rt; ops.len() < 1000);
+    assert!(rt; tree.next_stamp() == 0);
+    if let Some(_) = tree.staged() {
+        panic!(rt; "a batch is staged");
+    }
+    let batch = Grouping::new(rt, alloc, &ops, 1)?;
+    let places = batch.write_places(alloc)?;
+    tree.stage_in_order(&ops, &places)
+}
+
+// Whether these writes are staged where the growth with this number is refused: a tree with no batch is as before then.
+fn is_staged<R: Abort + Threads + Sync>(rt: &R, alloc: Alloc, growth: u64) -> bool {
+    let mut tree = three(rt, alloc);
+    alloc.refuse(growth);
+    let staged = stage_by_key(rt, alloc, &mut tree);
+    alloc.refuse(0);
+    assert_equal(rt, tree.staged().is_some(), staged.is_ok());
+    staged.is_ok()
+}
+
+#[test]
+fn each_growth_of_a_batch_that_is_staged_by_key_is_refused(rt: HostRuntime) {
+    let alloc = memory(&rt, rt.alloc());
+    for growth in 1..20u64 {
+        if is_staged(&rt, alloc, growth) {
+            assert_that(&rt, growth > 4);
+            return;
+        }
+    }
+    panic!(rt; "no batch was staged")
+}
+
+// The stamp of a staged record.
+fn stamp_at<R: Abort>(rt: &R, tree: &Tree, record: u64) -> u64 {
+    let Some(staged) = tree.staged() else {
+        panic!(rt; "no batch is staged");
+    };
+    assert!(rt; record < staged.records);
+    tree.staged_write(record).stamp
+}
+
+#[test]
+fn records_are_staged_in_the_order_of_their_keys(rt: HostRuntime) {
+    let alloc = memory(&rt, rt.alloc());
+    let mut tree = three(&rt, alloc);
+    let staged = stage_by_key(&rt, alloc, &mut tree).expect(&rt, "memory");
+    assert_equal(&rt, staged.base, 0);
+    assert_equal(&rt, staged.floor, 4294967296);
+    assert_equal(&rt, staged.records, 4);
+    for (record, stamp) in [2, 5, 0, 4u64].iter().enumerate() {
+        assert_equal(&rt, stamp_at(&rt, &tree, record as u64), *stamp);
+    }
 }
 
 #[test]

@@ -46,6 +46,19 @@ fn writes_stand_in_the_chain(rt: HostRuntime) {
     stands(&rt, index.tree(), &[SECOND], 2, 3);
 }
 
+// The first record of a batch is that of its least key, which stands last in it.
+#[test]
+fn records_are_made_in_the_order_of_their_keys(rt: HostRuntime) {
+    let alloc = heap(rt.alloc()).expect(&rt, "a heap");
+    let mut index = limited(&rt, alloc, (16, 4), (65536, 1048576));
+    insert(&rt, alloc, &mut index, 17);
+    let before = index.tree().records() as u64;
+    let batch = [Upsert("q", "9"), Upsert("a", "9")];
+    run(&rt, alloc, &mut index, &batch);
+    let first = (1u64 << 32).saturating_add(before);
+    assert_equal(&rt, index.tree().heads().first().copied(), Some(first));
+}
+
 // An empty index with these limits, for batches of any length, and with so many records until a sweep.
 fn limited<R: Abort>(
     rt: &R,

@@ -1,12 +1,12 @@
 use Rattle.std.proofs.Common.{◌≡◌, ◌≤◌, ◌+◌, ℕ, List, length, sym, ap, take, subst, ◌∙◌, arith}
 use Rattle.bw_model.specs.Model.{contents_after, replies_of}
 use Rattle.bw_model.specs.declared.operations.Op.{Op}
-use Rattle.bw_look.specs.View.{TreeView, contents_with, staged_writes}
+use Rattle.bw_look.specs.View.{TreeView, contents_with}
 use Rattle.bw_batch.specs.Settings.{limits_of, most_lost}
 use Rattle.bw_shape.specs.Limits.{AreWithinBut}
 use Rattle.bw_tidy.specs.Findings.{AreFindings}
 use Rattle.bw_shape.proofs.TidyLemmas.{holds_same}
-use Rattle.bw_batch.proofs.BatchLemmas.{accepted_as, accepted_still, first_read, reads_on}
+use Rattle.bw_batch.proofs.BatchLemmas.{accepted_as, accepted_still, first_read, reads_on, staged_count}
 use Rattle.bw_batch.proofs.DueLemmas.{findings_accepted, within_batch}
 use Rattle.bw_batch.proofs.LeavesLemmas.{batch_leaves}
 use Rattle.bw_batch.proofs.batch.run_batch.Goals as goal
@@ -23,7 +23,7 @@ returns-in-Ok-clause-replies g c =
     ∙ ap (replies_of c.args.ops.now) (first_read c.args.tree.now c.stage.new.tree c.args.ops.now c.in_ok-stage.ensures.ok c.in_ok-stage.ensures.reads)
 
 pub returns-in-Ok-clause-lost : goal.returns-in-Ok-clause-lost
-returns-in-Ok-clause-lost g c = subst (λ n. c.in-Ok.answered.lost ≤ most_lost c.args.options.now n) (ap (λ (t : TreeView). length (staged_writes t.staged)) c.in_ok-stage.ensures.ok) c.in-Ok.ensures.lost
+returns-in-Ok-clause-lost g c = subst (λ n. c.in-Ok.answered.lost ≤ most_lost c.args.options.now n) (staged_count c.args.tree.now c.stage.new.tree c.args.ops.now c.in_ok-stage.ensures.ok) c.in-Ok.ensures.lost
 
 pub put_findings-requires-clause-none : goal.put_findings-requires-clause-none
 put_findings-requires-clause-none g c =
@@ -40,7 +40,7 @@ put_findings-requires-clause-found g c =
       arith,
       (accepted_as c.args.tree.now c.stage.new.tree c.answer_staged.new.tree c.accept.new.self c.args.ops.now c.in_ok-stage.ensures.ok c.in_ok-stage.ensures.reads c.in-Ok.ensures.next
           c.in-Ok.ensures.recorded c.in-Ok.ensures.contents c.in-Ok.ensures.adopted c.in-Ok.ensures.count c.accept.ensures).next,
-      ap (λ (t : TreeView). t.next) c.in_ok-stage.ensures.ok,
+      ap (λ (t : TreeView). t.next) c.in_ok-stage.ensures.ok.is,
       ap (λ (l : List Op). length l) c.in_ok-batch.ensures,
     ))
     (findings_accepted now c.accept.new.self stamp findings c.accept.ensures (c.in-Ok.ensures.found.found (c.new-findings.ensures.found now stamp)))
