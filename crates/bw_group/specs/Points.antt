@@ -1,5 +1,6 @@
 -- The operations of a batch that read or write one key each, with their places in the batch.
-use Rattle.std.specs.Prelude.{◌≡◌, ℕ, ◌+◌, ◌-◌, ◌≤◌, true, List, [], ◌∷◌, ◌++◌, length, Option, Some, None, filter, map, slice_get, slice_index_or, take, drop}
+use Rattle.std.specs.Prelude.{◌≡◌, ℕ, ◌+◌, ◌-◌, ◌≤◌, Bool, true, false, List, [], ◌∷◌, ◌++◌, length, take, drop}
+use Rattle.std.specs.Prelude.{Option, Some, None, is_some, filter, map, slice_get, slice_index_or}
 use Rattle.std.specs.List.{AllByRecursion}
 use Rattle.std.specs.Option.{option_map}
 use Rattle.std.specs.Ordering.{is_lt}
@@ -8,7 +9,7 @@ use Rattle.bw_key.specs.Order.{KeyBytes, key_cmp, key_eq}
 use Rattle.bw_model.specs.declared.operations.Op.{Op}
 use Rattle.bw_model.specs.Model.{key_of}
 use Rattle.bw_model.specs.Verbs.{verb_of}
-use Rattle.bw_delta.specs.Batches.{writes_of}
+use Rattle.bw_delta.specs.Batches.{write_of, writes_of}
 use Rattle.bw_group.specs.declared.points.Point.{Point}
 
 -- a key, and the place of an operation on it
@@ -61,6 +62,15 @@ entries_at key es = filter (λ e. key_eq key e.0) es
 -- an entry of this key
 abbrev pub HasKey : KeyBytes → Entry → Type 0
 HasKey key e = key_eq key e.0 ≡ true
+
+-- whether an operation, if there is one, writes
+abbrev pub is_write : Option Op → Bool
+is_write None = false
+is_write (Some op) = is_some (write_of op)
+
+-- of these places those of operations that write
+abbrev pub writing : List Op → List ℕ → List ℕ
+writing ops = filter (λ place. is_write (slice_get ops place))
 
 -- the same entries of each key, in the same order
 abbrev pub HaveSameOfKeys : List Entry → List Entry → Type 0

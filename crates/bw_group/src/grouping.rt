@@ -7,7 +7,7 @@ ghost use Rattle.bw_key.specs.Order.{key_cmp, key_eq};
 ghost use Rattle.bw_delta.specs.Batches.{stamped, write_of, writes_of};
 ghost use Rattle.bw_tree.specs.Stages.{AreAllWritePlaces};
 ghost use Rattle.bw_group.specs.Points.{AreGrouped, HasKey, HaveSameOfKeys, IsPointOf};
-ghost use Rattle.bw_group.specs.Points.{entries_from, entries_in, entries_of, key_at, scans_from};
+ghost use Rattle.bw_group.specs.Points.{entries_from, entries_in, entries_of, key_at, places_of, scans_from, writing};
 ghost use Rattle.bw_group.specs.declared.points.Point.{Point};
 
 use crate::points::Point;
@@ -115,6 +115,7 @@ impl<'a> Grouping<'a> {
     /// The places of the operations that write, in the order of their keys; those on one key are in the order of the batch.
     /// `Memory` is answered where the list finds none.
     pub fn write_places(&self, alloc: Alloc) -> Result<Vec<u32, Alloc>, Memory>
+        ensures places { IfOk result (λ places. places.items ≡ writing self.now.ops (places_of self.now.points)) }
         ensures there { IfOk result (λ places. AllByRecursion (λ p. p < length self.now.ops) places.items) }
         ensures all { IfOk result (λ places. AreAllWritePlaces self.now.ops places.items) }
     {

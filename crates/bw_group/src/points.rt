@@ -1,5 +1,5 @@
 // Operations on one key each.
-ghost use Rattle.std.specs.Prelude.{◌≡◌, ◌<◌, ◌≤◌, ◌^◌, true, Some, length, not, Decides, IfSome};
+ghost use Rattle.std.specs.Prelude.{◌≡◌, ◌<◌, ◌≤◌, ◌^◌, Some, length, not, Decides, IfSome};
 ghost use Rattle.std.specs.Option.{option_copied};
 ghost use Rattle.std.specs.Ordering.{nat_cmp, ordering_then};
 ghost use Rattle.bw_key.specs.Order.{key_cmp, key_eq};
@@ -64,7 +64,7 @@ impl<'a> Point<'a> {
 
     /// Whether the operation is a get, which writes nothing.
     pub(crate) fn is_get(&self) -> bool
-        ensures { result ≡ true → self.now.verb ≡ Some Get }
+        ensures { Decides result (self.now.verb ≡ Some Get) }
     {
         matches!(self.verb, Some(Verb::Get))
     }
