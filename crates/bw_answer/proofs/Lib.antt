@@ -4,6 +4,8 @@ pub mod ReplyLemmas
 mod ScanLemmas
 mod PartPlaces
 mod Gathered
+mod PlacedFrom
+mod Shared
 mod Placed
 mod Replied
 mod GroupReads

@@ -1,17 +1,17 @@
 -- Answers that are put at their places.
 use Rattle.std.proofs.Common.{◌≡◌, inl, inr, ℕ, zero, suc, ◌-◌, ◌<◌, ◌≤◌, take, drop, List, [], ◌∷◌, ◌++◌, length, get_or, slice_get, slice_set, Some, refl, sym, ap, ◌∙◌, subst, arith}
-use Rattle.std.specs.List.{AllByRecursion, flat_map}
+use Rattle.std.specs.List.{AllByRecursion}
 use Rattle.std.proofs.lemmas.Bool.{cases_eq}
-use Rattle.std.proofs.lemmas.List.{length-set, map-append, take-append-drop}
+use Rattle.std.proofs.lemmas.List.{length-set, length-take, map-append, take-append-drop}
 use Rattle.bw_model.specs.declared.operations.Reply.{Reply}
 use Rattle.bw_model.specs.declared.operations.Reply.TheVariants.{Absent}
-use Rattle.bw_answer.specs.declared.batch_reader.Answer.{Answer}
-use Rattle.bw_answer.specs.declared.batch_reader.PartAnswers.{PartAnswers}
 use Rattle.bw_group.specs.Points.{Entry, entries_of, places_of}
 use Rattle.bw_group.specs.declared.points.Point.{Point}
-use Rattle.bw_answer.specs.Replies.{ReaderView, answer_to, answers_to, contents_before, point_places, replies_to, with_answers}
+use Rattle.bw_answer.specs.Replies.{ReaderView, answer_to, answers_to, contents_before, point_places, replies_to}
+use Rattle.bw_answer.specs.Shares.{IsAnswerFrom, with_answers_from}
 use Rattle.bw_group.proofs.ListParts.{get_other, get_set}
 use Rattle.bw_answer.proofs.ListLemmas.{all_back, all_front, same_list}
+use Rattle.bw_answer.proofs.PlacedFrom.{append_from, length_from}
 use Rattle.bw_answer.proofs.ReplyLemmas.{replies_length}
 
 -- the reply at this place is the one that the batch wants there
@@ -21,14 +21,10 @@ IsAnswered batch replies place = slice_get replies place ≡ slice_get (replies_
 abbrev pub IsPlace : ReaderView → ℕ → Type 0
 IsPlace batch place = place < length (replies_to batch)
 
-pub placed_length : (replies : List Reply) (answers : List Answer) → length (with_answers replies answers) ≡ length replies
-placed_length replies [] = refl
-placed_length replies (a ∷ rest) = placed_length (slice_set replies a.place a.reply) rest ∙ length-set replies a.place a.reply
-
 -- the answers to places are at these places
-pub all_within : (batch : ReaderView) (n : ℕ) (places : List ℕ) → AllByRecursion (λ place. place < n) places → AllByRecursion (λ (a : Answer). a.place < n) (answers_to batch places)
+pub all_within : (batch : ReaderView) (n : ℕ) (places : List ℕ) → AllByRecursion (λ place. place < n) places → AllByRecursion (IsAnswerFrom 0 n) (answers_to batch places)
 all_within batch n [] all = tt
-all_within batch n (place ∷ places) all = (all.0, all_within batch n places all.1)
+all_within batch n (place ∷ places) all = let lt = all.0 in ((omega arith, omega (arith, lt)), all_within batch n places all.1)
 
 module _ (batch : ReaderView) where
   there : (rs : List Reply) (i : ℕ) → i < length rs → slice_get rs i ≡ Some (get_or rs i Absent)
@@ -36,11 +32,11 @@ module _ (batch : ReaderView) where
   there (r ∷ rs) zero lt = refl
   there (r ∷ rs) (suc i) lt = there rs i (omega arith)
 
-  answered : (replies : List Reply) (place : ℕ) → length replies ≡ length (replies_to batch) → IsPlace batch place → IsAnswered batch (slice_set replies place (get_or (replies_to batch) place Absent)) place
+  answered : (replies : List Reply) (place : ℕ) → length (replies_to batch) ≤ length replies → IsPlace batch place → IsAnswered batch (slice_set replies place (get_or (replies_to batch) place Absent)) place
   answered replies place len lt = get_set replies place (get_or (replies_to batch) place Absent) (omega (arith, len, lt)) ∙ sym (there (replies_to batch) place lt)
 
   -- an answer leaves the others
-  still : (replies : List Reply) (place other : ℕ) → length replies ≡ length (replies_to batch) → IsPlace batch place → IsAnswered batch replies other → IsAnswered batch (slice_set replies place (get_or (replies_to batch) place Absent)) other
+  still : (replies : List Reply) (place other : ℕ) → length (replies_to batch) ≤ length replies → IsPlace batch place → IsAnswered batch replies other → IsAnswered batch (slice_set replies place (get_or (replies_to batch) place Absent)) other
   still replies place other len lt old =
       let reply = get_or (replies_to batch) place Absent in
       elim (cases_eq place other) [
@@ -48,72 +44,54 @@ module _ (batch : ReaderView) where
         | inr apart ↦ get_other replies place other reply apart ∙ old
       ]
 
-  kept : (places : List ℕ) (replies : List Reply) (other : ℕ) → length replies ≡ length (replies_to batch) → AllByRecursion (IsPlace batch) places → IsAnswered batch replies other → IsAnswered batch (with_answers replies (answers_to batch places)) other
+  -- the replies with one more answer
+  abbrev next_replies : List Reply → ℕ → List Reply
+  next_replies replies place = slice_set replies (place - 0) (get_or (replies_to batch) place Absent)
+
+  at_first : (P : List Reply → Type 0) (replies : List Reply) (place : ℕ) → P (slice_set replies place (get_or (replies_to batch) place Absent)) → P (next_replies replies place)
+  at_first P replies place is = subst (λ (k : ℕ). P (slice_set replies k (get_or (replies_to batch) place Absent))) (same place) is
+    where
+      same : (n : ℕ) → n ≡ n - 0
+      same n = omega arith
+
+  as_long : (replies : List Reply) (place : ℕ) → length (replies_to batch) ≤ length replies → length (replies_to batch) ≤ length (next_replies replies place)
+  as_long replies place len = subst (λ (n : ℕ). length (replies_to batch) ≤ n) (sym (length-set replies (place - 0) (get_or (replies_to batch) place Absent))) len
+
+  kept : (places : List ℕ) (replies : List Reply) (other : ℕ) → length (replies_to batch) ≤ length replies → AllByRecursion (IsPlace batch) places → IsAnswered batch replies other → IsAnswered batch (with_answers_from 0 replies (answers_to batch places)) other
   kept [] replies other len all old = old
   kept (place ∷ places) replies other len all old =
-      let reply = get_or (replies_to batch) place Absent in
-      kept places (slice_set replies place reply) other (length-set replies place reply ∙ len) all.1 (still replies place other len all.0 old)
+      kept places (next_replies replies place) other (as_long replies place len) all.1 (at_first (λ l. IsAnswered batch l other) replies place (still replies place other len all.0 old))
 
-  pub all_placed : (places : List ℕ) (replies : List Reply) → length replies ≡ length (replies_to batch) → AllByRecursion (IsPlace batch) places → AllByRecursion (IsAnswered batch (with_answers replies (answers_to batch places))) places
+  pub all_placed : (places : List ℕ) (replies : List Reply) → length (replies_to batch) ≤ length replies → AllByRecursion (IsPlace batch) places → AllByRecursion (IsAnswered batch (with_answers_from 0 replies (answers_to batch places))) places
   all_placed [] replies len all = tt
   all_placed (place ∷ places) replies len all =
-      let reply = get_or (replies_to batch) place Absent in
-      let next = slice_set replies place reply in
-      let size = length-set replies place reply ∙ len in
-      (kept places next place size all.1 (answered replies place len all.0), all_placed places next size all.1)
+      let next = next_replies replies place in
+      let size = as_long replies place len in
+      (kept places next place size all.1 (at_first (λ l. IsAnswered batch l place) replies place (answered replies place len all.0)), all_placed places next size all.1)
+
+  front : (replies : List Reply) (n i : ℕ) → i < n → slice_get (take n replies) i ≡ slice_get replies i
+  front replies zero i lt = absurd (omega arith)
+  front [] (suc n) i lt = refl
+  front (r ∷ replies) (suc n) zero lt = refl
+  front (r ∷ replies) (suc n) (suc i) lt = front replies n i (omega arith)
 
   -- where each place is answered, the batch is
-  pub all_replied : (replies : List Reply) → length replies ≡ length (replies_to batch) → ((place : ℕ) → place < length batch.ops → IsAnswered batch replies place) → replies ≡ replies_to batch
+  pub all_replied : (replies : List Reply) → length (replies_to batch) ≤ length replies → ((place : ℕ) → place < length batch.ops → IsAnswered batch replies place) → take (length batch.ops) replies ≡ replies_to batch
   all_replied replies len each =
+      let n = length batch.ops in
       let size = replies_length batch.ops (contents_before batch) in
-      same_list replies (replies_to batch) len (λ i lt. each i (omega (arith, lt, len, size)))
-
--- one answer further
-pub next_placed : (replies : List Reply) (rest rest' : List Answer) (a : Answer) → rest ≡ a ∷ rest' → AllByRecursion (λ (b : Answer). b.place < length replies) rest →
-    (a.place < length replies) × (with_answers (slice_set replies a.place a.reply) rest' ≡ with_answers replies rest) × AllByRecursion (λ (b : Answer). b.place < length (slice_set replies a.place a.reply)) rest'
-next_placed replies rest rest' a is within =
-    let all = subst (AllByRecursion (λ (b : Answer). b.place < length replies)) is within in (
-      all.0,
-      sym (ap (with_answers replies) is),
-      subst (λ (n : ℕ). AllByRecursion (λ (b : Answer). b.place < n) rest') (sym (length-set replies a.place a.reply)) all.1,
-    )
-
-pub none_left : (replies : List Reply) (rest : List Answer) → length rest ≡ 0 → replies ≡ with_answers replies rest
-none_left replies [] none = refl
-none_left replies (a ∷ rest) none = absurd (omega (arith, none))
-
-placed_append : (replies : List Reply) (xs ys : List Answer) → with_answers replies (xs ++ ys) ≡ with_answers (with_answers replies xs) ys
-placed_append replies [] ys = refl
-placed_append replies (x ∷ xs) ys = placed_append (slice_set replies x.place x.reply) xs ys
-
--- one list further
-pub list_placed : (replies replies' : List Reply) (rest rest' : List PartAnswers) (list : PartAnswers) → rest ≡ list ∷ rest' → replies' ≡ with_answers replies list.answers.items →
-    AllByRecursion (λ (b : Answer). b.place < length replies) (flat_map (λ list. list.answers.items) rest) →
-    AllByRecursion (λ (b : Answer). b.place < length replies) list.answers.items × (with_answers replies' (flat_map (λ list. list.answers.items) rest') ≡ with_answers replies (flat_map (λ list. list.answers.items) rest))
-    × AllByRecursion (λ (b : Answer). b.place < length replies') (flat_map (λ list. list.answers.items) rest')
-list_placed replies replies' rest rest' list is placed within =
-    let more = flat_map (λ (l : PartAnswers). l.answers.items) rest' in
-    let all : AllByRecursion (λ (b : Answer). b.place < length replies) (list.answers.items ++ more) =
-    subst (λ (l : List PartAnswers). AllByRecursion (λ (b : Answer). b.place < length replies) (flat_map (λ l. l.answers.items) l)) is within in
-    let size : length replies ≡ length replies' = sym (ap length placed ∙ placed_length replies list.answers.items) in (
-      all_front (λ (b : Answer). b.place < length replies) list.answers.items more all,
-      ap (λ r. with_answers r more) placed ∙ sym (placed_append replies list.answers.items more) ∙ sym (ap (λ (l : List PartAnswers). with_answers replies (flat_map (λ l. l.answers.items) l)) is),
-      subst (λ (n : ℕ). AllByRecursion (λ (b : Answer). b.place < n) more) size (all_back (λ (b : Answer). b.place < length replies) list.answers.items more all),
-    )
-
-pub none_listed : (replies : List Reply) (rest : List PartAnswers) → length rest ≡ 0 → replies ≡ with_answers replies (flat_map (λ list. list.answers.items) rest)
-none_listed replies [] none = refl
-none_listed replies (l ∷ rest) none = absurd (omega (arith, none))
+      let cut = length-take n replies in
+      same_list (take n replies) (replies_to batch) (omega (arith, len, size, cut)) (λ i lt. let within : i < n = omega (arith, lt, cut) in front replies n i within ∙ each i within)
 
 -- the answers to some places, and then those to the others
-pub both_placed : (batch : ReaderView) (replies replies' : List Reply) (here more : List ℕ) → replies' ≡ with_answers replies (answers_to batch here) →
+pub both_placed : (batch : ReaderView) (replies replies' : List Reply) (here more : List ℕ) → replies' ≡ with_answers_from 0 replies (answers_to batch here) →
     AllByRecursion (λ place. place < length replies) (here ++ more) →
-    (with_answers replies' (answers_to batch more) ≡ with_answers replies (answers_to batch (here ++ more))) × AllByRecursion (λ place. place < length replies') more
+    (with_answers_from 0 replies' (answers_to batch more) ≡ with_answers_from 0 replies (answers_to batch (here ++ more))) × AllByRecursion (λ place. place < length replies') more
 both_placed batch replies replies' here more placed within =
-    let size : length replies ≡ length replies' = sym (ap length placed ∙ placed_length replies (answers_to batch here)) in (
-      ap (λ r. with_answers r (answers_to batch more)) placed
-          ∙ sym (placed_append replies (answers_to batch here) (answers_to batch more))
-          ∙ ap (with_answers replies) (sym (map-append (answer_to batch) here more)),
+    let size : length replies ≡ length replies' = sym (ap length placed ∙ length_from 0 replies (answers_to batch here)) in (
+      ap (λ r. with_answers_from 0 r (answers_to batch more)) placed
+          ∙ sym (append_from 0 replies (answers_to batch here) (answers_to batch more))
+          ∙ ap (with_answers_from 0 replies) (sym (map-append (answer_to batch) here more)),
       subst (λ (m : ℕ). AllByRecursion (λ place. place < m) more) size (all_back (λ place. place < length replies) here more within),
     )
 
@@ -142,21 +120,21 @@ places_parted points n m le =
         both_less n m = omega arith
 
 -- the answers to some points further
-pub points_placed : (batch : ReaderView) (points : List Point) (n m : ℕ) (replies replies' : List Reply) → n ≤ m → replies' ≡ with_answers replies (answers_to batch (point_places (take (m - n) (drop n points)))) →
+pub points_placed : (batch : ReaderView) (points : List Point) (n m : ℕ) (replies replies' : List Reply) → n ≤ m → replies' ≡ with_answers_from 0 replies (answers_to batch (point_places (take (m - n) (drop n points)))) →
     AllByRecursion (λ place. place < length replies) (point_places (drop n points)) →
-    (with_answers replies' (answers_to batch (point_places (drop m points))) ≡ with_answers replies (answers_to batch (point_places (drop n points)))) × AllByRecursion (λ place. place < length replies') (point_places (drop m points))
+    (with_answers_from 0 replies' (answers_to batch (point_places (drop m points))) ≡ with_answers_from 0 replies (answers_to batch (point_places (drop n points)))) × AllByRecursion (λ place. place < length replies') (point_places (drop m points))
 points_placed batch points n m replies replies' le placed within =
     let parted = places_parted points n m le in
     let both = both_placed batch replies replies' (point_places (take (m - n) (drop n points))) (point_places (drop m points)) placed (subst (AllByRecursion (λ place. place < length replies)) parted within) in
-    (both.0 ∙ ap (λ (l : List ℕ). with_answers replies (answers_to batch l)) (sym parted), both.1)
+    (both.0 ∙ ap (λ (l : List ℕ). with_answers_from 0 replies (answers_to batch l)) (sym parted), both.1)
 
 pub points_within : (batch : ReaderView) (points : List Point) (n m size : ℕ) → n ≤ m → AllByRecursion (λ place. place < size) (point_places (drop n points)) →
-    AllByRecursion (λ (a : Answer). a.place < size) (answers_to batch (point_places (take (m - n) (drop n points))))
+    AllByRecursion (IsAnswerFrom 0 size) (answers_to batch (point_places (take (m - n) (drop n points))))
 points_within batch points n m size le within =
     let here = point_places (take (m - n) (drop n points)) in
     all_within batch size here (all_front (λ place. place < size) here (point_places (drop m points)) (subst (AllByRecursion (λ place. place < size)) (places_parted points n m le) within))
 
-pub no_points : (batch : ReaderView) (points : List Point) (n : ℕ) (replies : List Reply) → length points ≤ n → replies ≡ with_answers replies (answers_to batch (point_places (drop n points)))
+pub no_points : (batch : ReaderView) (points : List Point) (n : ℕ) (replies : List Reply) → length points ≤ n → replies ≡ with_answers_from 0 replies (answers_to batch (point_places (drop n points)))
 no_points batch [] zero replies past = refl
 no_points batch [] (suc n) replies past = refl
 no_points batch (p ∷ points) zero replies past = absurd (omega (arith, past))

@@ -1,6 +1,6 @@
 -- A batch whose writes stand in a tree, and the replies to it.
-use Rattle.std.specs.Prelude.{◌≡◌, ℕ, ◌+◌, ◌≤◌, ◌^◌, List, [], ◌∷◌, length, map, take, Option, Some, slice_get, slice_index_or}
-use Rattle.std.specs.List.{AllByRecursion, slice_set}
+use Rattle.std.specs.Prelude.{◌≡◌, ℕ, ◌+◌, ◌≤◌, ◌^◌, List, length, map, take, Option, Some, slice_get, slice_index_or}
+use Rattle.std.specs.List.{AllByRecursion}
 use Rattle.std.specs.List.Sorted.{IsSortedBy}
 use Rattle.std.specs.Ordering.{is_lt}
 use Rattle.std.specs.FinMap.{get}
@@ -63,11 +63,6 @@ abbrev pub answer_of : BatchScan → Answer
 answer_of scan =
     let contents = contents_at scan.cursor.tree scan.cursor.stamp in
     record { place = scan.place; reply = reply_of scan.cursor.op contents }
-
--- the replies with each answer at its place
-abbrev pub with_answers : List Reply → List Answer → List Reply
-with_answers replies [] = replies
-with_answers replies (a ∷ rest) = with_answers (slice_set replies a.place a.reply) rest
 
 -- as of each stamp the tree has at the key what these writes make of this value
 abbrev pub IsReadBy : TreeView → Option ValueBytes → List WriteView → KeyBytes → Type 0

@@ -7,10 +7,13 @@ ghost use Rattle.bw_group.specs.Homes.{AreHomes};
 ghost use Rattle.bw_group.specs.Points.{IsScanOf};
 ghost use Rattle.bw_tidy.specs.Findings.{GoOn};
 ghost use Rattle.bw_answer.specs.Replies.{ArePointsOf, GoesOnTo, HasContentsInTurn};
-ghost use Rattle.bw_answer.specs.Replies.{answers_to, point_places, replies_to, with_answers};
+ghost use Rattle.bw_answer.specs.Replies.{answers_to, point_places, replies_to};
+ghost use Rattle.bw_answer.specs.Shares.{with_answers_from};
 
-use crate::batch_reader::{Answer, BatchReader, PartAnswers};
+use crate::answers::{absent_replies, place_answers};
+use crate::batch_reader::BatchReader;
 use crate::parts::{count_parts, parts};
+use crate::shares::Sharing;
 use bw_group::{Grouping, Homes, Point};
 use bw_key::Memory;
 use bw_memory::Alloc;
@@ -83,34 +86,70 @@ pub fn replies_in_parts<R: Threads + Sync>(
         base,
         homes,
     };
-    let mut replies = absent_replies(alloc, batch.ops().len())?;
-    place_replies(rt, alloc, &reader, batch, count, &mut replies, findings)?;
+    let replies = if count > 1 {
+        replies_side_by_side(rt, alloc, &reader, batch, count, findings)?
+    } else {
+        replies_in_turn(alloc, &reader, batch, findings)?
+    };
     Ok(Replies::from_vec(replies))
 }
 
-// Puts the reply to each operation at its place.
-fn place_replies<R: Threads + Sync>(
+// The replies, answered in at most so many parts, and made of their answers in as many shares.
+fn replies_side_by_side<R: Threads + Sync>(
     rt: &R,
     alloc: Alloc,
     reader: &BatchReader<'_>,
     batch: &Grouping<'_>,
     count: usize,
+    findings: &mut Findings,
+) -> Result<Vec<Reply, Alloc>, Memory>
+    requires ops { reader.now.ops ≡ batch.now.ops }
+    requires few { length batch.now.ops ≤ 2 ^ 40 }
+    requires count { 0 < count }
+    ensures findings { GoesOnTo reader.now findings.old findings.new }
+    ensures replies { IfOk result (λ replies. replies.items ≡ replies_to reader.now) }
+{
+    let (points, scans) = (batch.points(), batch.scans());
+    let len = batch.ops().len();
+    let parts = parts(alloc, points.len(), scans.len(), count)?;
+    let sharing = Sharing::new(len, count);
+    let answers = reader.answer_parts(rt, alloc, points, scans, &parts, sharing, findings)?;
+    let shares = sharing.gather(alloc, answers, findings)?;
+    let mut replies = sharing.replies(rt, alloc, shares)?;
+    replies.truncate(len);
+    Ok(replies)
+}
+
+// The replies, answered by one thread.
+fn replies_in_turn(
+    alloc: Alloc,
+    reader: &BatchReader<'_>,
+    batch: &Grouping<'_>,
+    findings: &mut Findings,
+) -> Result<Vec<Reply, Alloc>, Memory>
+    requires ops { reader.now.ops ≡ batch.now.ops }
+    ensures findings { GoesOnTo reader.now findings.old findings.new }
+    ensures replies { IfOk result (λ replies. replies.items ≡ replies_to reader.now) }
+{
+    let mut replies = absent_replies(alloc, batch.ops().len())?;
+    place_replies(alloc, reader, batch, &mut replies, findings)?;
+    Ok(replies)
+}
+
+// Puts the reply to each operation at its place, those to operations on one key each before those to scans.
+fn place_replies(
+    alloc: Alloc,
+    reader: &BatchReader<'_>,
+    batch: &Grouping<'_>,
     replies: &mut [Reply],
     findings: &mut Findings,
 ) -> Result<(), Memory>
     requires ops { reader.now.ops ≡ batch.now.ops }
     requires size { length replies.old ≡ length batch.now.ops }
-    requires count { 0 < count }
     ensures findings { GoesOnTo reader.now findings.old findings.new }
     ensures replies { OnOk result (replies.new ≡ replies_to reader.now) }
 {
     let (points, scans) = (batch.points(), batch.scans());
-    if count > 1 {
-        let parts = parts(alloc, points.len(), scans.len(), count)?;
-        let lists = reader.answer_parts(rt, alloc, points, scans, &parts, findings)?;
-        place_lists(replies, findings, lists);
-        return Ok(());
-    }
     place_points(alloc, reader, points, replies, findings)?;
     place_scans(alloc, reader, scans, replies)?;
     Ok(())
@@ -128,14 +167,14 @@ fn place_points(
     requires there { AllByRecursion (λ place. place < length replies.old) (point_places points.now) }
     ensures findings { GoesOnTo reader.now findings.old findings.new }
     ensures replies { let answers = answers_to reader.now (point_places points.now) in
-        OnOk result (replies.new ≡ with_answers replies.old answers) }
+        OnOk result (replies.new ≡ with_answers_from 0 replies.old answers) }
 {
     let mut start = 0;
     while start < points.len() {
         let end = reader.turn_end(points, start);
         let mut answers = Vec::with_capacity(alloc, end - start)?;
         reader.answer_points(alloc, &points[start..end], &mut answers, findings)?;
-        place_answers(replies, answers);
+        place_answers(0, answers, replies);
         start = end;
     }
     Ok(())
@@ -150,48 +189,10 @@ fn place_scans(
 ) -> Result<(), Memory>
     requires scans { AllByRecursion (IsScanOf reader.now.ops) scans.now }
     requires there { AllByRecursion (λ place. place < length replies.old) scans.now }
-    ensures { OnOk result (replies.new ≡ with_answers replies.old (answers_to reader.now scans.now)) }
+    ensures { OnOk result (replies.new ≡ with_answers_from 0 replies.old (answers_to reader.now scans.now)) }
 {
     let mut answers = Vec::with_capacity(alloc, scans.len())?;
     reader.answer_scans(alloc, scans, &mut answers)?;
-    place_answers(replies, answers);
+    place_answers(0, answers, replies);
     Ok(())
-}
-
-// So many replies in whose places those of the batch are to be put.
-fn absent_replies(alloc: Alloc, len: usize) -> Result<Vec<Reply, Alloc>, Memory>
-    ensures { IfOk result (λ replies. length replies.items ≡ len) }
-{
-    let mut replies = Vec::with_capacity(alloc, len)?;
-    for _ in 0..len {
-        replies.push(Reply::Absent)?;
-    }
-    Ok(replies)
-}
-
-// Puts the answers of each part at their places, and adds what was found of leaves.
-fn place_lists(replies: &mut [Reply], findings: &mut Findings, lists: Vec<PartAnswers, Alloc>)
-    requires there { let answers = flat_map (λ list. list.answers.items) lists.items in
-        AllByRecursion (λ a. a.place < length replies.old) answers }
-    requires limits { AllByRecursion (λ list. list.findings.limits ≡ findings.old.limits) lists.items }
-    ensures replies { let answers = flat_map (λ list. list.answers.items) lists.entry.items in
-        replies.new ≡ with_answers replies.old answers }
-    ensures findings { (tree : TreeView) (stamp : ℕ) →
-        AllByRecursion (λ list. GoOn tree stamp findings.old list.findings) lists.entry.items →
-        GoOn tree stamp findings.old findings.new }
-{
-    for list in lists {
-        place_answers(replies, list.answers);
-        findings.append(list.findings);
-    }
-}
-
-// Puts answers at their places.
-fn place_answers(replies: &mut [Reply], answers: Vec<Answer, Alloc>)
-    requires { AllByRecursion (λ a. a.place < length replies.old) answers.items }
-    ensures { replies.new ≡ with_answers replies.old answers.entry.items }
-{
-    for answer in answers {
-        replies[answer.place] = answer.reply;
-    }
 }

@@ -5,10 +5,12 @@
 //! are answered side by side.
 #![tactic(auto)]
 
+mod answers;
 mod batch_reader;
 mod batch_replies;
 mod parts;
 mod shared_leaves;
+mod shares;
 mod write_groups;
 
 pub use batch_replies::{replies, replies_in_parts};

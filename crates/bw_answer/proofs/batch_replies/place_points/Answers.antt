@@ -1,6 +1,6 @@
-use Rattle.std.proofs.Common.{◌-◌, ◌+◌, ◌<◌, ◌++◌, length, take, drop, sym, subst, ◌∙◌, ap, arith}
-use Rattle.std.specs.List.{AllByRecursion}
-use Rattle.bw_answer.specs.Replies.{answers_to, point_places, with_answers}
+use Rattle.std.proofs.Common.{◌-◌, ◌+◌, ◌++◌, length, take, drop, sym, subst, ◌∙◌, ap, arith}
+use Rattle.bw_answer.specs.Replies.{answers_to, point_places}
+use Rattle.bw_answer.specs.Shares.{with_answers_from, ArePlacesFrom}
 use Rattle.bw_tidy.proofs.FindingsLemmas.{go_on}
 use Rattle.bw_answer.proofs.GroupReads.{points_part}
 use Rattle.bw_answer.proofs.Placed.{no_points, points_placed, points_within}
@@ -17,7 +17,7 @@ place_answers-requires c =
     let start = c.loop-start.start in
     let end = c.turn_end-end.result in
     let answered = c.in_ok-answer_points.ensures.answers ∙ ap (λ l. l ++ answers_to c.args.reader.now (point_places (take (end - start) (drop start points)))) c.in_ok-answers.ensures.items in
-    subst (AllByRecursion (λ a. a.place < length c.loop-start.replies)) (sym answered)
+    subst (ArePlacesFrom 0 c.loop-start.replies) (sym answered)
     (points_within c.args.reader.now points start end (length c.loop-start.replies) (omega (arith, c.turn_end-end.ensures.more)) c.loop-start.invariant.within)
 
 pub loop-start-preserved : goal.loop-start-preserved
@@ -27,7 +27,7 @@ loop-start-preserved c =
     let end = c.turn_end-end.result in
     let answered = c.in_ok-answer_points.ensures.answers ∙ ap (λ l. l ++ answers_to c.args.reader.now (point_places (take (end - start) (drop start points)))) c.in_ok-answers.ensures.items in
     let next = points_placed c.args.reader.now points start end c.loop-start.replies c.place_answers.new.replies (omega (arith, c.turn_end-end.ensures.more))
-    (c.place_answers.ensures ∙ ap (with_answers c.loop-start.replies) answered) c.loop-start.invariant.within in
+    (c.place_answers.ensures ∙ ap (with_answers_from 0 c.loop-start.replies) answered) c.loop-start.invariant.within in
     record {
       same = next.0 ∙ c.loop-start.invariant.same;
       within = next.1;
