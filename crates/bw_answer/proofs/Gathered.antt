@@ -10,8 +10,8 @@ use Rattle.bw_model.specs.declared.operations.Op.{Op}
 use Rattle.bw_answer.specs.Parts.{places_in, elements_in}
 use Rattle.bw_group.specs.Points.{Entry, entries_of, places_of, IsScanOf}
 use Rattle.bw_answer.specs.Replies.{ArePointsOf, GoesOnTo, ReaderView, answer_to, answers_to, point_places}
-use Rattle.bw_answer.specs.Shares.{answers_in, ArePartsOf}
-use Rattle.bw_answer.specs.declared.shares.Sharing.{Sharing}
+use Rattle.bw_answer.specs.Sections.{answers_in, AreBySection}
+use Rattle.bw_answer.specs.declared.sections.Cut.{Cut}
 use Rattle.bw_answer.specs.declared.parts.Part.{Part}
 use Rattle.bw_answer.specs.declared.parts.Span.{Span}
 use Rattle.bw_group.specs.declared.points.Point.{Point}
@@ -52,15 +52,15 @@ part_within ops points scans part n points_are scans_are le =
     all_same P (λ place. place < n) (λ place lt. omega (arith, lt, le)) (ours ++ others)
     (all_append P ours others (spanned_holds P part.points (point_places points) at_points) (spanned_holds P part.scans scans at_scans))
 
-module _ (batch : ReaderView) (points scans : List ℕ) (sharing : Sharing) (first : Findings) where
+module _ (batch : ReaderView) (points scans : List ℕ) (cut : Cut) (first : Findings) where
   -- the part was answered, by share, and what was found of its leaves goes on from the first findings
   abbrev IsAnswered : Part → PartAnswers → Type 0
-  IsAnswered part answers = IsPermutation (answers_to batch (places_in points scans part)) (answers_in answers) × ArePartsOf sharing answers.lists.items × GoesOnTo batch first answers.findings
+  IsAnswered part answers = IsPermutation (answers_to batch (places_in points scans part)) (answers_in answers) × AreBySection cut answers.lists.items × GoesOnTo batch first answers.findings
 
   gathered : (E : Type 0) (parts : List Part) (all : List PartAnswers) →
       AllZip (λ part (r : Result PartAnswers E). IfOk r (IsAnswered part)) parts (map Ok all) →
       IsPermutation (answers_to batch (flat_map (places_in points scans) parts)) (flat_map answers_in all)
-      × AllByRecursion (λ (answers : PartAnswers). ArePartsOf sharing answers.lists.items) all
+      × AllByRecursion (λ (answers : PartAnswers). AreBySection cut answers.lists.items) all
       × AllByRecursion (λ (answers : PartAnswers). GoesOnTo batch first answers.findings) all
   gathered E [] [] answered = (IsPermutation-refl [], tt, tt)
   gathered E [] (answers ∷ all) answered = absurd answered
@@ -80,12 +80,12 @@ module _ (batch : ReaderView) (points scans : List ℕ) (sharing : Sharing) (fir
       AllZip (λ part (r : Result PartAnswers E). IfOk r (IsAnswered part)) parts rs →
       MatchResult r (λ v. (all : List PartAnswers) × (rs ≡ map Ok all) × (v.items ≡ all)) (λ e. Contains rs (Err e)) →
       IfOk r (λ v. IsPermutation (answers_to batch (flat_map (places_in points scans) parts)) (flat_map answers_in v.items))
-      × IfOk r (λ v. AllByRecursion (λ (answers : PartAnswers). ArePartsOf sharing answers.lists.items) v.items)
+      × IfOk r (λ v. AllByRecursion (λ (answers : PartAnswers). AreBySection cut answers.lists.items) v.items)
       × IfOk r (λ v. AllByRecursion (λ (answers : PartAnswers). GoesOnTo batch first answers.findings) v.items)
   all_gathered {W} {E} parts rs (Ok v) all h =
       let all_of = gathered E parts h.0 (subst (AllZip (λ part (r : Result PartAnswers E). IfOk r (IsAnswered part)) parts) h.1 all) in (
         subst (λ l. IsPermutation (answers_to batch (flat_map (places_in points scans) parts)) (flat_map answers_in l)) (sym h.2) all_of.0,
-        subst (AllByRecursion (λ (answers : PartAnswers). ArePartsOf sharing answers.lists.items)) (sym h.2) all_of.1,
+        subst (AllByRecursion (λ (answers : PartAnswers). AreBySection cut answers.lists.items)) (sym h.2) all_of.1,
         subst (AllByRecursion (λ (answers : PartAnswers). GoesOnTo batch first answers.findings)) (sym h.2) all_of.2,
       )
   all_gathered parts rs (Err e) all h = (tt, tt, tt)

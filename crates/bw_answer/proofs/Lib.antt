@@ -5,7 +5,7 @@ mod ScanLemmas
 mod PartPlaces
 mod Gathered
 mod PlacedFrom
-mod Shared
+mod Sectioned
 mod Placed
 mod Replied
 mod GroupReads

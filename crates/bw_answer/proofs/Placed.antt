@@ -8,7 +8,7 @@ use Rattle.bw_model.specs.declared.operations.Reply.TheVariants.{Absent}
 use Rattle.bw_group.specs.Points.{Entry, entries_of, places_of}
 use Rattle.bw_group.specs.declared.points.Point.{Point}
 use Rattle.bw_answer.specs.Replies.{ReaderView, answer_to, answers_to, contents_before, point_places, replies_to}
-use Rattle.bw_answer.specs.Shares.{IsAnswerFrom, with_answers_from}
+use Rattle.bw_answer.specs.Sections.{IsAnswerFrom, with_answers_from}
 use Rattle.bw_group.proofs.ListParts.{get_other, get_set}
 use Rattle.bw_answer.proofs.ListLemmas.{all_back, all_front, same_list}
 use Rattle.bw_answer.proofs.PlacedFrom.{append_from, length_from}

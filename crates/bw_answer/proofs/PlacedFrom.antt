@@ -4,7 +4,7 @@ use Rattle.std.specs.List.{AllByRecursion, flat_map}
 use Rattle.std.proofs.lemmas.List.{length-set, set-append_right}
 use Rattle.bw_model.specs.declared.operations.Reply.{Reply}
 use Rattle.bw_answer.specs.declared.batch_reader.Answer.{Answer}
-use Rattle.bw_answer.specs.Shares.{ArePlacesFrom, IsAnswerFrom, with_answers_from}
+use Rattle.bw_answer.specs.Sections.{ArePlacesFrom, IsAnswerFrom, with_answers_from}
 use Rattle.bw_answer.proofs.ListLemmas.{all_back, all_front}
 
 pub length_from : (start : ℕ) (replies : List Reply) (answers : List Answer) → length (with_answers_from start replies answers) ≡ length replies

@@ -13,7 +13,7 @@ use Rattle.bw_answer.specs.Parts.{Cover, places_in, elements_in}
 use Rattle.bw_group.specs.Points.{Entry, entries_at, entries_from, entries_of, places_of, scans_from, AreGrouped, GroupingView, HasRisingPlaces, IsPointOf, IsScanOf}
 use Rattle.bw_group.specs.declared.points.Point.{Point}
 use Rattle.bw_answer.specs.Replies.{ArePointsOf, ReaderView, answer_to, contents_before, replies_to, answers_to, point_places}
-use Rattle.bw_answer.specs.Shares.{with_answers_from}
+use Rattle.bw_answer.specs.Sections.{with_answers_from}
 use Rattle.bw_answer.specs.declared.batch_reader.Answer.{Answer}
 use Rattle.bw_answer.specs.declared.parts.Part.{Part}
 use Rattle.bw_group.proofs.PointGroups.{entries_rise, places_length, places_within, rising_at, scan_within}

@@ -1,4 +1,4 @@
 pub mod Parts
 pub mod Replies
-pub mod Shares
+pub mod Sections
 pub mod WriteGroups

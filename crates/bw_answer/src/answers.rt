@@ -1,7 +1,7 @@
 // Answers, and replies to whose places they are put.
 ghost use Rattle.std.specs.Prelude.{◌≡◌, flat_map, replicate, IfOk};
 ghost use Rattle.bw_model.specs.declared.operations.Reply.TheVariants.{Absent};
-ghost use Rattle.bw_answer.specs.Shares.{with_answers_from, ArePlacesFrom};
+ghost use Rattle.bw_answer.specs.Sections.{with_answers_from, ArePlacesFrom};
 
 use crate::batch_reader::Answer;
 use bw_key::Memory;

@@ -9,12 +9,12 @@ ghost use Rattle.bw_delta.specs.Rising.{HasRisingStamps};
 ghost use Rattle.bw_tree.specs.Levels.{IsHome, row};
 ghost use Rattle.bw_group.specs.Points.{entries_of, HasRisingPlaces, IsEntryOf, IsPointOf, IsScanOf};
 ghost use Rattle.bw_answer.specs.Parts.{IsPartOf, places_in};
-ghost use Rattle.bw_answer.specs.Shares.{answers_in, ArePartsOf, IsSharingOf};
+ghost use Rattle.bw_answer.specs.Sections.{answers_in, AreBySection, IsCutOf};
 ghost use Rattle.bw_answer.specs.Replies.{answer_of, answers_to, point_places, ArePointsOf, GoesOnTo, IsReadBy, IsReplyThere};
 
 use crate::parts::Part;
+use crate::sections::Cut;
 use crate::shared_leaves::{BatchScan, finish_scans, share_leaves};
-use crate::shares::Sharing;
 use crate::write_groups::group_of;
 use bw_delta::{Reading, Write, writes_by_key};
 use bw_group::{Homes, Point, group_end};
@@ -65,7 +65,8 @@ pub(crate) struct Answer {
     pub(crate) reply: Reply,
 }
 
-/// The answers to a part of a batch, a list for each share of the batch, and what was found of the leaves of its points.
+/// The answers to a part of a batch, a list for each section of the batch, and what was found of the leaves of its
+/// points.
 #[derive(Drop)]
 pub(crate) struct PartAnswers {
     pub(crate) lists: Vec<Vec<Answer, Alloc>, Alloc>,
@@ -73,8 +74,8 @@ pub(crate) struct PartAnswers {
 }
 
 impl<'a> BatchReader<'a> {
-    /// The answers to the points and scans of each part, by the shares of the batch in which their places are. The parts are
-    /// shared out among threads. `findings` has the limits of the leaves.
+    /// The answers to the points and scans of each part, by the sections of the batch in which their places are. The
+    /// parts are shared out among threads. `findings` has the limits of the leaves.
     pub(crate) fn answer_parts<R: Threads + Sync>(
         &self,
         rt: &R,
@@ -82,16 +83,16 @@ impl<'a> BatchReader<'a> {
         points: &[Point<'_>],
         scans: &[usize],
         parts: &[Part],
-        sharing: Sharing,
+        cut: Cut,
         findings: &Findings,
     ) -> Result<Vec<PartAnswers, Alloc>, Memory>
         requires points { ArePointsOf self.now.ops points.now }
         requires scans { AllByRecursion (IsScanOf self.now.ops) scans.now }
         requires within { AllByRecursion (IsPartOf (length points.now) (length scans.now)) parts.now }
-        requires sharing { IsSharingOf (length self.now.ops) sharing }
+        requires cut { IsCutOf (length self.now.ops) cut }
         ensures answers { let places = flat_map (places_in (point_places points.now) scans.now) parts.now in
             IfOk result (λ all. IsPermutation (answers_to self.now places) (flat_map answers_in all.items)) }
-        ensures lists { IfOk result (λ all. AllByRecursion (λ part. ArePartsOf sharing part.lists.items) all.items) }
+        ensures lists { IfOk result (λ all. AllByRecursion (λ part. AreBySection cut part.lists.items) all.items) }
         ensures findings { IfOk result (λ all.
             AllByRecursion (λ part. GoesOnTo self.now findings.now part.findings) all.items) }
     {
@@ -103,12 +104,12 @@ impl<'a> BatchReader<'a> {
                     requires { ArePointsOf self.now.ops points.now
                         × AllByRecursion (IsScanOf self.now.ops) scans.now
                         × IsPartOf (length points.now) (length scans.now) part.now
-                        × IsSharingOf (length self.now.ops) sharing }
+                        × IsCutOf (length self.now.ops) cut }
                     ensures { let places = places_in (point_places points.entry.now) scans.entry.now part.entry.now in
                         IfOk result (λ answers. IsPermutation (answers_to self.entry.now places) (answers_in answers)
-                        × ArePartsOf sharing answers.lists.items
+                        × AreBySection cut answers.lists.items
                         × GoesOnTo self.entry.now findings.entry.now answers.findings) }
-                { self.answer_part(alloc, points, scans, *part, sharing, findings) },
+                { self.answer_part(alloc, points, scans, *part, cut, findings) },
             )
             .collect::<Result<Vec<PartAnswers, Alloc>, Memory>>(rt, alloc)?
     }
@@ -120,16 +121,16 @@ impl<'a> BatchReader<'a> {
         points: &[Point<'_>],
         scans: &[usize],
         part: Part,
-        sharing: Sharing,
+        cut: Cut,
         findings: &Findings,
     ) -> Result<PartAnswers, Memory>
         requires points { ArePointsOf self.now.ops points.now }
         requires scans { AllByRecursion (IsScanOf self.now.ops) scans.now }
         requires within { IsPartOf (length points.now) (length scans.now) part }
-        requires sharing { IsSharingOf (length self.now.ops) sharing }
+        requires cut { IsCutOf (length self.now.ops) cut }
         ensures answers { let places = places_in (point_places points.now) scans.now part in
             IfOk result (λ answers. IsPermutation (answers_to self.now places) (answers_in answers)) }
-        ensures lists { IfOk result (λ answers. ArePartsOf sharing answers.lists.items) }
+        ensures lists { IfOk result (λ answers. AreBySection cut answers.lists.items) }
         ensures findings { IfOk result (λ answers. GoesOnTo self.now findings.now answers.findings) }
     {
         let points = &points[part.points.start..part.points.end];
@@ -138,7 +139,7 @@ impl<'a> BatchReader<'a> {
         let mut findings = findings.again(alloc);
         self.answer_points(alloc, points, &mut answers, &mut findings)?;
         self.answer_scans(alloc, scans, &mut answers)?;
-        let lists = sharing.by_share(alloc, answers)?;
+        let lists = cut.by_section(alloc, answers)?;
         Ok(PartAnswers { lists, findings })
     }
 

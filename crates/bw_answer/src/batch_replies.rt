@@ -8,12 +8,12 @@ ghost use Rattle.bw_group.specs.Points.{IsScanOf};
 ghost use Rattle.bw_tidy.specs.Findings.{GoOn};
 ghost use Rattle.bw_answer.specs.Replies.{ArePointsOf, GoesOnTo, HasContentsInTurn};
 ghost use Rattle.bw_answer.specs.Replies.{answers_to, point_places, replies_to};
-ghost use Rattle.bw_answer.specs.Shares.{with_answers_from};
+ghost use Rattle.bw_answer.specs.Sections.{with_answers_from};
 
 use crate::answers::{absent_replies, place_answers};
 use crate::batch_reader::BatchReader;
 use crate::parts::{count_parts, parts};
-use crate::shares::Sharing;
+use crate::sections::Cut;
 use bw_group::{Grouping, Homes, Point};
 use bw_key::Memory;
 use bw_memory::Alloc;
@@ -27,7 +27,9 @@ use std::thread::Threads;
 ///
 /// A reply depends on the tree as of its operation's stamp alone. So the operations on one key each, grouped by key,
 /// are cut into at most `workers` parts alike in length, and so are the scans; the parts are answered side by side. A
-/// batch of under 2,048 operations on keys and under 128 scans is one part, and starts no thread.
+/// batch of under 2,048 operations on keys and under 128 scans is one part, and starts no thread. Of several parts'
+/// answers the replies are made side by side too, in as many sections of the batch, of 4,096 operations at the least:
+/// each answer is moved twice, and each reply once more.
 ///
 /// `homes` are the pages of the batch's keys, so that no leaf is searched for again but by scans. In a part the writes
 /// over each leaf that has a key of it are sorted by key, and each key's are then passed once, beside the operations on
@@ -94,7 +96,7 @@ pub fn replies_in_parts<R: Threads + Sync>(
     Ok(Replies::from_vec(replies))
 }
 
-// The replies, answered in at most so many parts, and made of their answers in as many shares.
+// The replies, answered in at most so many parts, and made of their answers in as many sections.
 fn replies_side_by_side<R: Threads + Sync>(
     rt: &R,
     alloc: Alloc,
@@ -112,10 +114,10 @@ fn replies_side_by_side<R: Threads + Sync>(
     let (points, scans) = (batch.points(), batch.scans());
     let len = batch.ops().len();
     let parts = parts(alloc, points.len(), scans.len(), count)?;
-    let sharing = Sharing::new(len, count);
-    let answers = reader.answer_parts(rt, alloc, points, scans, &parts, sharing, findings)?;
-    let shares = sharing.gather(alloc, answers, findings)?;
-    let mut replies = sharing.replies(rt, alloc, shares)?;
+    let cut = Cut::new(len, count);
+    let answers = reader.answer_parts(rt, alloc, points, scans, &parts, cut, findings)?;
+    let sections = cut.gather(alloc, answers, findings)?;
+    let mut replies = cut.replies(rt, alloc, sections)?;
     replies.truncate(len);
     Ok(replies)
 }

@@ -9,8 +9,8 @@ mod answers;
 mod batch_reader;
 mod batch_replies;
 mod parts;
+mod sections;
 mod shared_leaves;
-mod shares;
 mod write_groups;
 
 pub use batch_replies::{replies, replies_in_parts};

@@ -12,6 +12,7 @@ use Rattle.bw_model.specs.declared.operations.Op.{Op}
 use Rattle.bw_model.specs.declared.operations.Op.TheVariants.{Get, Insert, Upsert, Update, Delete, SwapIf, Scan, Rscan}
 use Rattle.bw_model.specs.declared.operations.Reply.{Reply}
 use Rattle.bw_model.specs.declared.operations.Reply.TheVariants.{Found, Absent, Inserted, Held, New, Was, Pairs}
+use Rattle.bw_delta.specs.Batches.{writes_of}
 use Rattle.bw_batch.specs.Lens.{len_behind, len_without}
 
 -- a key that is put, or goes, by whether it was there
@@ -133,3 +134,15 @@ drop_all (x ∷ xs) (suc n) is = drop_all xs n (omega (arith, is))
 pub counted_all : (ops : List Op) (replies : List Reply) (place now : ℕ) (m : Contents ValueBytes) → place ≡ length ops → IsCounting ops replies place now m → now ≡ len (contents_after ops m)
 counted_all ops replies place now m all c =
     sym c.count ∙ sym (ap len (c.end ∙ ap (λ (l : List Op). contents_after l c.left) (drop_all ops place all)))
+
+-- a batch that writes nothing leaves the map
+pub unwritten : (ops : List Op) (n : ℕ) (m : Contents ValueBytes) → length (writes_of n ops) ≡ 0 → contents_after ops m ≡ m
+unwritten [] n m none = refl
+unwritten (Get key ∷ ops) n m none = unwritten ops (n + 1) m none
+unwritten (Insert key v ∷ ops) n m none = absurd (omega (arith, none))
+unwritten (Upsert key v ∷ ops) n m none = absurd (omega (arith, none))
+unwritten (Update key v ∷ ops) n m none = absurd (omega (arith, none))
+unwritten (Delete key ∷ ops) n m none = absurd (omega (arith, none))
+unwritten (SwapIf key old new ∷ ops) n m none = absurd (omega (arith, none))
+unwritten (Scan from to most ∷ ops) n m none = unwritten ops (n + 1) m none
+unwritten (Rscan from to most ∷ ops) n m none = unwritten ops (n + 1) m none

@@ -163,10 +163,10 @@ impl Index {
     /// Of 16,384 operations on keys and more the sorting by key is shared out among up to `workers` threads, which `rt`
     /// starts. The writes are posted by up to as many side by side, and `gate` is called round the posting of each.
     /// They are numbered from 0 in the order of their keys, those on one key in the order of the batch. Where the options
-    /// ask for it (`Options::with_beside`),
-    /// leaves of the batch are consolidated beside that. The replies are made in up to `workers` parts side by side. Of
-    /// a batch with writes that is answered in several parts, or by one worker and has 64 operations at the least,
-    /// leaves that are over a limit are consolidated meanwhile, and stand beside the old ones until it is accepted.
+    /// ask for it (`Options::with_beside`), leaves of the batch are consolidated beside that. The batch is answered in up to
+    /// `workers` parts side by side, and so are the replies of a long one made of the answers. Of a batch with writes that is
+    /// answered in several parts, or by one worker and has 64 operations at the least, leaves that are over a limit are
+    /// consolidated meanwhile, and stand beside the old ones until it is accepted.
     /// Then the pages of the batch at which there is more to do are tidied, and those that an earlier stop left: where
     /// no memory is left for it, the rest of them stay due.
     pub fn run<R: Threads + Sync, G: Gate>(
@@ -283,6 +283,7 @@ impl Index {
         if ops.len() as u64 >= u64::MAX - self.len {
             return Err(Memory);
         }
+        let records = self.tree.records();
         let answered = run_batch(
             rt,
             self.alloc,
@@ -292,7 +293,8 @@ impl Index {
             &self.options,
             gate,
         )?;
-        self.len = len_after(self.len, ops, answered.replies.as_slice());
+        let writes = self.tree.records() - records;
+        self.len = len_after(self.len, writes, ops, answered.replies.as_slice());
         Ok(answered)
     }
 

@@ -1,5 +1,6 @@
 // How many keys an index has.
 ghost use Rattle.std.specs.Prelude.{◌≡◌, ◌<◌, ◌+◌, ◌^◌, [], ◌∷◌, length, IfOk};
+ghost use Rattle.bw_delta.specs.Batches.{writes_of};
 ghost use Rattle.bw_look.specs.View.{contents_at};
 ghost use Rattle.bw_batch.specs.Lens.{IsLenAfter, key_count, leaf_pairs, len_behind};
 
@@ -38,12 +39,17 @@ fn with_leaf_pairs(count: u64, page: &PageShape) -> Result<u64, Memory>
     }
 }
 
-/// How many keys there are behind a batch where there were `len` before it, by the replies to its operations.
-pub(crate) fn len_after(len: u64, ops: &[Op], replies: &[Reply]) -> u64
+/// How many keys there are behind a batch where there were `len` before it, by the replies to its operations. So many of
+/// these write: where none does, no reply is read.
+pub(crate) fn len_after(len: u64, writes: usize, ops: &[Op], replies: &[Reply]) -> u64
+    requires writes { writes ≡ length (writes_of 0 ops.now) }
     requires alike { length replies.now ≡ length ops.now }
     requires fits { len + length ops.now < 2 ^ 64 }
     ensures { IsLenAfter len ops.now replies.now result }
 {
+    if writes == 0 {
+        return len;
+    }
     let mut now = len;
     for place in 0..ops.len() {
         now = len_behind(now, &ops[place], &replies[place]);

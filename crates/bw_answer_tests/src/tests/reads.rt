@@ -152,6 +152,19 @@ fn a_batch_of_no_operations_has_no_replies(rt: HostRuntime) {
     assert_equal(&rt, replies.as_slice().len(), 0);
 }
 
+#[test]
+fn no_operation_and_one_are_answered_in_several_parts(rt: HostRuntime) {
+    let alloc = memory(&rt, rt.alloc());
+    let tree = three(&rt, alloc);
+    for number in [0, 1] {
+        let ops = reads(&rt, alloc, number);
+        let alone = replies_by_parts(&rt, alloc, &tree, &ops, 1).expect(&rt, "memory");
+        assert_equal(&rt, alone.as_slice().len() as u64, number);
+        let refused = answers_in_parts(&rt, alloc, &tree, &ops, alone.as_slice(), 64, MANY);
+        assert_that(&rt, !refused);
+    }
+}
+
 // Refuses each growth of the replies to reads in so many parts, until none is left to refuse.
 fn refuse_each<R: Abort + Threads + Sync>(
     rt: &R,
@@ -182,6 +195,16 @@ fn each_growth_of_replies_is_refused(rt: HostRuntime) {
     for count in [1, 4] {
         refuse_each(&rt, alloc, &ops, &wanted, count);
     }
+}
+
+// So many reads that their replies are made in two sections.
+#[test]
+fn each_growth_of_replies_in_sections_is_refused(rt: HostRuntime) {
+    let alloc = memory(&rt, rt.alloc());
+    let tree = three(&rt, alloc);
+    let ops = reads(&rt, alloc, 8_193);
+    let wanted = replies_by_parts(&rt, alloc, &tree, &ops, 1).expect(&rt, "memory");
+    refuse_each(&rt, alloc, &ops, wanted.as_slice(), 3);
 }
 
 // Over leaves without writes: what is refused is room for the scans, and for what they find.

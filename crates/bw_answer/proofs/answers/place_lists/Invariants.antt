@@ -1,5 +1,5 @@
 use Rattle.std.proofs.Common.{◌≡◌, flat_map}
-use Rattle.bw_answer.specs.Shares.{with_answers_from, ArePlacesFrom}
+use Rattle.bw_answer.specs.Sections.{with_answers_from, ArePlacesFrom}
 use Rattle.bw_answer.proofs.answers.place_lists.Given as goal
 
 abbrev pub invariant-loop-list : goal.invariant-loop-list

@@ -1,6 +1,6 @@
 use Rattle.std.proofs.Common.{◌-◌, ◌+◌, ◌++◌, length, take, drop, sym, subst, ◌∙◌, ap, arith}
 use Rattle.bw_answer.specs.Replies.{answers_to, point_places}
-use Rattle.bw_answer.specs.Shares.{with_answers_from, ArePlacesFrom}
+use Rattle.bw_answer.specs.Sections.{with_answers_from, ArePlacesFrom}
 use Rattle.bw_tidy.proofs.FindingsLemmas.{go_on}
 use Rattle.bw_answer.proofs.GroupReads.{points_part}
 use Rattle.bw_answer.proofs.Placed.{no_points, points_placed, points_within}

@@ -1,7 +1,7 @@
 use Rattle.std.proofs.Common.{◌≡◌, ◌-◌, ◌<◌, length, drop}
 use Rattle.std.specs.List.{AllByRecursion}
 use Rattle.bw_answer.specs.Replies.{GoesOnTo, answers_to, point_places}
-use Rattle.bw_answer.specs.Shares.{with_answers_from}
+use Rattle.bw_answer.specs.Sections.{with_answers_from}
 use Rattle.bw_answer.proofs.batch_replies.place_points.Given as goal
 
 abbrev pub invariant-loop-start : goal.invariant-loop-start

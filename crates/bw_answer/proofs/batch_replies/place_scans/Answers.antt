@@ -1,6 +1,6 @@
 use Rattle.std.proofs.Common.{◌++◌, length, sym, subst, ◌∙◌, ap}
 use Rattle.bw_answer.specs.Replies.{answers_to}
-use Rattle.bw_answer.specs.Shares.{with_answers_from, ArePlacesFrom}
+use Rattle.bw_answer.specs.Sections.{with_answers_from, ArePlacesFrom}
 use Rattle.bw_answer.proofs.Placed.{all_within}
 use Rattle.bw_answer.proofs.batch_replies.place_scans.Goals as goal
 

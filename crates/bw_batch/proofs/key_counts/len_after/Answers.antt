@@ -1,5 +1,6 @@
-use Rattle.std.proofs.Common.{arith}
-use Rattle.bw_batch.proofs.LenLemmas.{counting_next, len_behind_most}
+use Rattle.std.proofs.Common.{arith, ap, sym, ◌∙◌}
+use Rattle.std.specs.FinMap.{len}
+use Rattle.bw_batch.proofs.LenLemmas.{counting_next, len_behind_most, unwritten}
 use Rattle.bw_batch.proofs.key_counts.len_after.Goals as goal
 
 pub loop-place-preserved : goal.loop-place-preserved
@@ -12,3 +13,6 @@ loop-place-preserved c =
           counting_next c.args.ops.now c.args.replies.now c.loop-place.place c.loop-place.now c.len_behind-now.result m c.index-ops-place.result c.index-replies-place.result
           c.loop-place-test.true c.requires.alike c.index-ops-place.is c.index-replies-place.is told (c.loop-place.invariant.counting m size same);
     }
+
+pub returns-then-writes-eq0 : goal.returns-then-writes-eq0
+returns-then-writes-eq0 c = λ m size same. sym size ∙ sym (ap len (unwritten c.args.ops.now 0 m (sym c.requires.writes ∙ c.if-writes-eq0.true)))

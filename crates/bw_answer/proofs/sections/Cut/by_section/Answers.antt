@@ -4,9 +4,9 @@ use Rattle.std.specs.List.Sorted.{IsPermutation}
 use Rattle.std.proofs.Math.Nat.{div-lt_iff_lt-mul, div-mul-le_self, lt-div-mul-add}
 use Rattle.std.proofs.lemmas.List.{length-set}
 use Rattle.std.proofs.lemmas.List.Sorted.{IsPermutation-refl}
-use Rattle.bw_answer.specs.Shares.{IsAnswerFrom}
-use Rattle.bw_answer.proofs.Shared.{no_answers, none_parted, parted_more, same_step}
-use Rattle.bw_answer.proofs.shares.Sharing.by_share.Goals as goal
+use Rattle.bw_answer.specs.Sections.{IsAnswerFrom}
+use Rattle.bw_answer.proofs.Sectioned.{no_answers, none_parted, parted_more, same_step}
+use Rattle.bw_answer.proofs.sections.Cut.by_section.Goals as goal
 
 pub loop-answer-init : goal.loop-answer-init
 loop-answer-init c =

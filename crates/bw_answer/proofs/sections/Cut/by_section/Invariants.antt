@@ -1,8 +1,8 @@
 use Rattle.std.proofs.Common.{◌≡◌, ◌*◌, ◌++◌, length, map, flat_map}
 use Rattle.std.specs.List.{AllByRecursion}
 use Rattle.std.specs.List.Sorted.{IsPermutation}
-use Rattle.bw_answer.specs.Shares.{ArePartedFrom, IsAnswerFrom}
-use Rattle.bw_answer.proofs.shares.Sharing.by_share.Given as goal
+use Rattle.bw_answer.specs.Sections.{ArePartedFrom, IsAnswerFrom}
+use Rattle.bw_answer.proofs.sections.Cut.by_section.Given as goal
 
 abbrev pub invariant-loop-answer : goal.invariant-loop-answer
 invariant-loop-answer l = record {
