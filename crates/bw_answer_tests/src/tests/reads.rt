@@ -197,14 +197,22 @@ fn each_growth_of_replies_is_refused(rt: HostRuntime) {
     }
 }
 
-// So many reads that their replies are made in two sections.
+// So many reads that their replies are made in two sections. Of the growths that this takes the last ones are refused: those
+// of the sections, and of the lists for them that some parts lay their answers into.
 #[test]
-fn each_growth_of_replies_in_sections_is_refused(rt: HostRuntime) {
+fn growths_of_replies_in_sections_are_refused(rt: HostRuntime) {
     let alloc = memory(&rt, rt.alloc());
     let tree = three(&rt, alloc);
     let ops = reads(&rt, alloc, 8_193);
-    let wanted = replies_by_parts(&rt, alloc, &tree, &ops, 1).expect(&rt, "memory");
-    refuse_each(&rt, alloc, &ops, wanted.as_slice(), 3);
+    alloc.refuse(MANY);
+    let wanted = replies_by_parts(&rt, alloc, &tree, &ops, 3);
+    let taken = MANY.saturating_sub(alloc.left());
+    alloc.refuse(0);
+    let wanted = wanted.expect(&rt, "memory");
+    for growth in taken.saturating_sub(11)..taken {
+        let refused = answers_in_parts(&rt, alloc, &tree, &ops, wanted.as_slice(), 3, growth);
+        assert_that(&rt, refused);
+    }
 }
 
 // Over leaves without writes: what is refused is room for the scans, and for what they find.
