@@ -7,6 +7,7 @@ use crate::batch_reader::Answer;
 use bw_key::Memory;
 use bw_memory::Alloc;
 use bw_model::Reply;
+use std::mem;
 
 /// So many replies in whose places those of the batch are to be put.
 pub(crate) fn absent_replies(alloc: Alloc, len: usize) -> Result<Vec<Reply, Alloc>, Memory>
@@ -33,12 +34,14 @@ pub(crate) fn place_lists(
     }
 }
 
-/// Puts answers at their places. `start` is the place of the first reply.
+/// Puts answers at their places. `start` is the place of the first reply. What stood there is let go without a look: it is
+/// `Absent`, which has no memory, and the stores of further answers don't wait for it.
 pub(crate) fn place_answers(start: usize, answers: Vec<Answer, Alloc>, replies: &mut [Reply])
     requires { ArePlacesFrom start replies.old answers.items }
     ensures { replies.new ≡ with_answers_from start replies.old answers.entry.items }
 {
     for answer in answers {
-        replies[answer.place - start] = answer.reply;
+        let Answer { place, reply } = answer;
+        mem::forget(mem::replace(&mut replies[place - start], reply));
     }
 }

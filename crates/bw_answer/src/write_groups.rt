@@ -11,7 +11,7 @@ ghost use Rattle.bw_delta.specs.Writes.{WriteView};
 ghost use Rattle.bw_answer.specs.WriteGroups.{IsFirstOf};
 
 use bw_delta::Write;
-use bw_key::Key;
+use bw_key::{Key, compare_bytes};
 
 /// The writes of one key, of writes that are grouped by key, and where they end. The search goes on from a place: for
 /// keys that are asked for in their order, each from where the writes of the last one end, it passes each write once. A
@@ -41,7 +41,7 @@ fn first_of(grouped: &[&Write], from: usize, key: &Key) -> usize
     ensures first { IsFirstOf key.now grouped.now result }
 {
     if from > 0 && lies_from(grouped[from - 1], key) {
-        return grouped.partition_point(|write| write.key < *key);
+        return grouped.partition_point(|write| compare_bytes(write.key(), key.bytes()).is_lt());
     }
     for start in from..grouped.len() {
         if lies_from(grouped[start], key) {
@@ -73,12 +73,12 @@ fn lies_from(write: &Write, key: &Key) -> bool
     ensures yes { result ≡ true → is_lt (key_cmp write.now.key key.now) ≡ false }
     ensures no { result ≡ false → is_lt (key_cmp write.now.key key.now) ≡ true }
 {
-    write.key >= *key
+    compare_bytes(write.key(), key.bytes()).is_ge()
 }
 
 // Whether a write is of a higher key.
 fn lies_behind(write: &Write, key: &Key) -> bool
     ensures { result ≡ is_lt (key_cmp key.now write.now.key) }
 {
-    *key < write.key
+    compare_bytes(key.bytes(), write.key()).is_lt()
 }

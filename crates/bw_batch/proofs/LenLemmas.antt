@@ -1,5 +1,7 @@
 -- How many keys an index has.
 use Rattle.std.proofs.Common.{◌≡◌, ℕ, zero, suc, ◌+◌, ◌-◌, ◌<◌, ◌≤◌, Bool, true, false, cond, List, [], ◌∷◌, length, get_or, drop, Option, Some, None, refl, sym, ap, ◌∙◌, subst, add-one, arith}
+use Rattle.std.proofs.lemmas.List.Folds.{list_any_at}
+use Rattle.std.specs.List.{list_any}
 use Rattle.std.specs.Prelude.{is_some}
 use Rattle.std.specs.FinMap.{get, insert, remove, len, len-insert, len-remove}
 use Rattle.bw_key.specs.Order.{KeyBytes, key_cmp_total}
@@ -13,6 +15,7 @@ use Rattle.bw_model.specs.declared.operations.Op.TheVariants.{Get, Insert, Upser
 use Rattle.bw_model.specs.declared.operations.Reply.{Reply}
 use Rattle.bw_model.specs.declared.operations.Reply.TheVariants.{Found, Absent, Inserted, Held, New, Was, Pairs}
 use Rattle.bw_delta.specs.Batches.{writes_of}
+use Rattle.bw_group.specs.Points.{is_delete}
 use Rattle.bw_batch.specs.Lens.{len_behind, len_without}
 
 -- a key that is put, or goes, by whether it was there
@@ -146,3 +149,28 @@ unwritten (Delete key ∷ ops) n m none = absurd (omega (arith, none))
 unwritten (SwapIf key old new ∷ ops) n m none = absurd (omega (arith, none))
 unwritten (Scan from to most ∷ ops) n m none = unwritten ops (n + 1) m none
 unwritten (Rscan from to most ∷ ops) n m none = unwritten ops (n + 1) m none
+
+-- where no operation of a batch is a delete, one of them is none
+pub none_at : (ops : List Op) (place : ℕ) (op : Op) → place < length ops → op ≡ get_or ops place op → list_any is_delete ops ≡ false → is_delete op ≡ false
+none_at ops place op lt at none = by (is_delete op) refl
+  where
+    by : (b : Bool) → is_delete op ≡ b → is_delete op ≡ false
+    by true is = absurd (different (sym (list_any_at is_delete ops place op lt (ap is_delete (sym at) ∙ is)) ∙ none))
+      where
+        different : true ≡ false → ⊥
+        different e = cc
+    by false is = is
+
+-- and leaves as many keys where it replaced a value
+pub still_there : (n : ℕ) (op : Op) → is_delete op ≡ false → n ≡ len_without n op
+still_there n (Get key) none = refl
+still_there n (Insert key v) none = refl
+still_there n (Upsert key v) none = refl
+still_there n (Update key v) none = refl
+still_there n (Delete key) none = absurd (different none)
+  where
+    different : true ≡ false → ⊥
+    different e = cc
+still_there n (SwapIf key old new) none = refl
+still_there n (Scan from to most) none = refl
+still_there n (Rscan from to most) none = refl

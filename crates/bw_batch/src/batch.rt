@@ -1,5 +1,6 @@
 // One batch on a tree: staged, posted, adopted, answered, and then accepted; or undone.
 ghost use Rattle.std.specs.Prelude.{◌≡◌, ℕ, ◌<◌, ◌≤◌, ◌+◌, ◌^◌, true, false, [], None, length, take, IfOk, OnOk, OnErr};
+ghost use Rattle.std.specs.List.{list_any};
 ghost use Rattle.bw_delta.specs.Batches.{writes_of};
 ghost use Rattle.bw_model.specs.Model.{contents_after, replies_of};
 ghost use Rattle.bw_tree.specs.Beside.{IsAdoptedBeside};
@@ -8,6 +9,7 @@ ghost use Rattle.bw_look.specs.Folding.{pages_of};
 ghost use Rattle.bw_look.specs.View.{contents_at, contents_with, staged_writes};
 ghost use Rattle.bw_look.specs.Words.{put_words};
 ghost use Rattle.bw_group.specs.Homes.{AreHomes};
+ghost use Rattle.bw_group.specs.Points.{is_delete};
 ghost use Rattle.bw_post.specs.Posting.{IsPostedBeside, IsWaiting};
 ghost use Rattle.bw_shape.specs.LeafRanges.{leaf_ranges};
 ghost use Rattle.bw_shape.specs.Limits.{AreWithinBut};
@@ -31,11 +33,12 @@ use std::thread::Threads;
 // still when tidying looks at them, and no list is made.
 const MANY: usize = 64;
 
-/// The replies to a batch, how many exchanges its posting lost, how many leaves were replaced beside it, and how many were
-/// consolidated while it was answered.
+/// The replies to a batch, whether one of its operations is a delete, how many exchanges its posting lost, how many leaves
+/// were replaced beside it, and how many were consolidated while it was answered.
 #[derive(Drop)]
 pub(crate) struct Answered {
     pub(crate) replies: Replies,
+    pub(crate) deletes: bool,
     pub(crate) lost: u64,
     pub(crate) replaced: u64,
     pub(crate) consolidated: u64,
@@ -59,6 +62,7 @@ pub(crate) fn run_batch<R: Threads + Sync, G: Gate>(
     requires fits { tree.old.next + length ops.now ≤ 2 ^ 40 }
     ensures replies { IfOk result (λ answered.
         answered.replies ≡ replies_of ops.now (contents_at tree.old tree.old.next)) }
+    ensures deletes { IfOk result (λ answered. answered.deletes ≡ list_any is_delete ops.now) }
     ensures lost { IfOk result (λ answered.
         answered.lost ≤ most_lost options.now (length (writes_of tree.old.next ops.now))) }
     ensures replaced { options.now.beside ≡ false → IfOk result (λ answered. answered.replaced ≡ 0) }
@@ -75,7 +79,7 @@ pub(crate) fn run_batch<R: Threads + Sync, G: Gate>(
 {
     let workers = options.workers();
     let batch = Grouping::new(rt, alloc, ops, workers)?;
-    stage(alloc, tree, ops, &batch)?;
+    stage(rt, alloc, tree, ops, &batch, workers)?;
     let looks = are_looked_at(&batch, due, workers);
     let mut findings = Findings::new(alloc, options.limits(), looks);
     match answer_staged(rt, alloc, tree, due, &batch, options, gate, &mut findings) {
@@ -96,7 +100,14 @@ pub(crate) fn run_batch<R: Threads + Sync, G: Gate>(
 
 // Stages a batch, its records in the order of their keys: so those of a leaf lie side by side, and its chain is read as one
 // piece. The operations of a batch that only reads aren't passed for that.
-fn stage(alloc: Alloc, tree: &mut Tree, ops: &[Op], batch: &Grouping<'_>) -> Result<(), Memory>
+fn stage<R: Threads + Sync>(
+    rt: &R,
+    alloc: Alloc,
+    tree: &mut Tree,
+    ops: &[Op],
+    batch: &Grouping<'_>,
+    workers: u64,
+) -> Result<(), Memory>
     requires batch { batch.now.ops ≡ ops.now }
     requires none { tree.old.staged ≡ None }
     requires fits { tree.old.next + length ops.now ≤ 2 ^ 40 }
@@ -109,7 +120,7 @@ fn stage(alloc: Alloc, tree: &mut Tree, ops: &[Op], batch: &Grouping<'_>) -> Res
         return Ok(());
     }
     let places = batch.write_places(alloc)?;
-    tree.stage_in_order(ops, &places)?;
+    tree.stage_in_order(rt, ops, &places, workers)?;
     Ok(())
 }
 
@@ -142,6 +153,7 @@ fn answer_staged<R: Threads + Sync, G: Gate>(
     requires fits { tree.old.next + length batch.now.ops ≤ 2 ^ 40 }
     ensures replies { IfOk result (λ answered.
         answered.replies ≡ replies_of batch.now.ops (contents_with tree.old tree.old.next)) }
+    ensures deletes { IfOk result (λ answered. answered.deletes ≡ list_any is_delete batch.now.ops) }
     ensures lost { IfOk result (λ answered.
         answered.lost ≤ most_lost options.now (length (staged_writes tree.old.staged))) }
     ensures replaced { options.now.beside ≡ false → IfOk result (λ answered. answered.replaced ≡ 0) }
@@ -176,6 +188,7 @@ fn answer_staged<R: Threads + Sync, G: Gate>(
     due.add(tree, pages, &leaves)?;
     Ok(Answered {
         replies,
+        deletes: batch.has_deletes(),
         lost,
         replaced,
         consolidated: 0,

@@ -216,6 +216,7 @@ impl Index {
         self.make_room(count)?;
         let Answered {
             replies,
+            deletes: _deletes,
             lost,
             replaced,
             consolidated,
@@ -294,7 +295,13 @@ impl Index {
             gate,
         )?;
         let writes = self.tree.records() - records;
-        self.len = len_after(self.len, writes, ops, answered.replies.as_slice());
+        self.len = len_after(
+            self.len,
+            writes,
+            answered.deletes,
+            ops,
+            answered.replies.as_slice(),
+        );
         Ok(answered)
     }
 

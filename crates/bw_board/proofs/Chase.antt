@@ -1,7 +1,6 @@
 -- What holds while a record is tried again and again.
 use Rattle.std.proofs.Common.{inl, inr, eqb, cond, true, Option, ◌≡◌, ℕ, zero, suc, ◌+◌, ◌<◌, ◌≤◌, false, List, [], ◌∷◌, ◌++◌, length, length-set, get_or, get_or-set_same, set, sym, refl, ap, ◌∙◌, subst, arith, Some, None}
-use Rattle.bw_core.specs.declared.BookView.{BookView}
-use Rattle.bw_core.specs.World.{owns, spans_have, posts_in, seen_at, end_at, late, IsLast, top, IsEnd}
+use Rattle.bw_core.specs.World.{owns, spans_have, posts_in, seen_at, end_at, late, IsLast, IsEnd}
 use Rattle.bw_core.specs.Events.{Resumes, book_after_look, under, post, book_after_win, book_after_loss}
 use Rattle.bw_core.proofs.Lists.{end_trans}
 use Rattle.bw_board.specs.declared.table.Sight.{Sight}

@@ -1,7 +1,7 @@
 -- What a claim leaves.
-use Rattle.std.proofs.Common.{◌≡◌, ◌≢◌, ℕ, ◌+◌, ◌<◌, ◌≤◌, leb, ltb, min, ◌&&◌, true, List, sym, refl, ap, ◌∙◌, subst, arith}
+use Rattle.std.proofs.Common.{◌≡◌, ℕ, ◌+◌, ◌<◌, ◌≤◌, leb, ltb, min, ◌&&◌, true, ap, ◌∙◌, arith}
 use Rattle.std.proofs.lemmas.Bool.Decides.{nat_tests}
-use Rattle.bw_core.specs.World.{World, one_if, owns, total}
+use Rattle.bw_core.specs.World.{World, one_if, owns}
 use Rattle.bw_core.proofs.Claims.{told_is_claimed, owns_alone}
 use Rattle.bw_core.proofs.Without.{claim_adds}
 use Rattle.atomic_table.specs.Seated.{TableId}

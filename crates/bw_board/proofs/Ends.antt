@@ -19,9 +19,8 @@ use Rattle.bw_board.proofs.Kept.{sane}
 use Rattle.bw_board.proofs.Spares.{CanOpen, opens_lawful}
 use Rattle.bw_board.proofs.Words.{get-left, get-right}
 use Rattle.bw_board.specs.declared.table.Sight.{Sight}
-use Rattle.bw_board.specs.declared.table.Pair.{Pair}
 use Rattle.bw_board.specs.Rule.{book_of, world, KnowsBoard, HasLawfulWorld, opening_sight}
-use Rattle.bw_board.specs.Public.{SeatView, IsIdleSeat, EndsIn, EndsLate, HasEnd, AreSwapped, IsClosed, IsClosedPage, IsSound, HasEach}
+use Rattle.bw_board.specs.Public.{SeatView, IsIdleSeat, EndsIn, EndsLate, HasEnd, AreSwapped, IsClosed, IsSound, HasEach}
 
 total_sole : (f : BookView → ℕ) (xs : List BookView) (i : ℕ) (v : BookView) → get_elem? xs i ≡ some v → ((j : ℕ) (w : BookView) → (j ≡ i → ⊥) → get_elem? xs j ≡ some w → f w ≡ 0) → total f xs ≡ f v
 total_sole f [] i v e h = absurd (some-ne-none v (sym e))

@@ -1,11 +1,10 @@
 -- Each step keeps the rule of the table, since it is one event of the core.
-use Rattle.std.proofs.Common.{◌⊎◌, inl, inr, Option, ◌%◌, ◌^◌, ◌≡◌, ℕ, zero, suc, ◌+◌, ◌<◌, ◌≤◌, ◌≢◌, ⊎_elim, eqb, map, true, false, List, [], ◌∷◌, ◌++◌, append_assoc, length, get_or, get_or-set_other, get_or-set_same, set, sym, refl, ap, ◌∙◌, subst, arith, Some, None}
+use Rattle.std.proofs.Common.{◌⊎◌, inl, inr, Option, ◌%◌, ◌^◌, ◌≡◌, ℕ, zero, suc, ◌+◌, ◌<◌, ◌≤◌, ◌≢◌, ⊎_elim, map, true, false, List, [], ◌∷◌, ◌++◌, append_assoc, length, get_or, get_or-set_other, get_or-set_same, set, sym, refl, ap, ◌∙◌, subst, arith, Some, None}
 use mathlib.Core.Logic.{dite}
-use mathlib.Core.Option.{none, some, some-ne-none, some-injective}
+use mathlib.Core.Option.{none, some, some-ne-none}
 use native.Mathlib.Decide.{ℕ_discrete, dec_le}
 use lib.ListN.{get_elem?}
 use lib.Seq.{set-get_or, map-set}
-use prog.Atomic.{either}
 use Rattle.std.specs.List.{AllByRecursion}
 use Rattle.atomic_table.specs.Table.{State, Me, step, keeps, stepped, Allows, Splits, Joins}
 use mathlib.Core.List.{map-append}
@@ -13,12 +12,12 @@ use Rattle.std.proofs.lemmas.List.{length-map}
 use Rattle.atomic_table.proofs.Lists.{at_set, at_snoc, set_here, set_else, set_again, at_map, exchanged}
 use Rattle.bw_core.specs.declared.Under.{Under}
 use Rattle.bw_core.specs.declared.BookView.{BookView}
-use Rattle.bw_core.specs.World.{World, times, owns, posts_in, tries_in, seen_at, end_at, IsLast, top, Meets, IsEnd, Lawful}
+use Rattle.bw_core.specs.World.{World, times, owns, seen_at, end_at, IsLast, top, Meets, Lawful}
 use Rattle.bw_core.specs.declared.Event.{Event}
 use Rattle.bw_core.specs.declared.Event.TheVariants.{Look, Link, Try, Follow, Claim, Split, Join, Replace}
 use Rattle.bw_core.specs.declared.Played.{Played}
 use Rattle.bw_core.specs.declared.Played.TheVariants.{Done, Lost}
-use Rattle.bw_core.specs.Events.{Resumes, book_after_look, book_after_swap, book_after_late_swap, book_after_join, book_after_claim, book_without_pieces, under, book_after_win, book_after_loss}
+use Rattle.bw_core.specs.Events.{book_after_look, book_after_swap, book_after_late_swap, book_after_join, book_after_claim, book_without_pieces, under, book_after_win, book_after_loss}
 use Rattle.bw_core.specs.Keeping.{SeesBoth}
 use Rattle.bw_core.specs.Transitions.{Applies}
 use Rattle.bw_core.proofs.Claims.{no_wrap}
@@ -32,7 +31,7 @@ use Rattle.bw_board.specs.declared.table.Sight.{Sight}
 use Rattle.bw_board.specs.Rule.{book_of, world, KnowsBoard, HasLawfulWorld}
 use Rattle.bw_board.specs.Plays.{Seated, IsSane, IsTop, SeesChain, StaysSane, with_book, sight_after_link, left_of, right_of, both_of, spent_sight}
 use Rattle.bw_board.specs.Plays.{LookTells, LinkTells, TryTells, FollowTells, ClaimTells, ReplaceTells, SettleTells}
-use Rattle.bw_board.specs.Laws.{world_of, word_after, split_table, join_table, DoneWith, Exchanges, GoesBy, StepsBy, IsEvent, MayLink, MayTry, MayFollow, MayClaim, MayReplace}
+use Rattle.bw_board.specs.Laws.{world_of, word_after, DoneWith, Exchanges, GoesBy, IsEvent, MayLink, MayTry, MayFollow, MayClaim, MayReplace}
 use Rattle.bw_board.specs.Laws.{Looking, Linking, Trying, Following, Claiming, Replacing, Splitting, Joining}
 use Rattle.bw_board.proofs.Words.{head_word, link_word, set_head, set_link}
 

@@ -1,5 +1,5 @@
 -- What a step tells a seat, as its caller sees it.
-use Rattle.std.proofs.Common.{◌≡◌, ℕ, ◌+◌, ◌-◌, ◌/◌, ◌≤◌, Bool, List, [], refl, sym, ap, subst, arith}
+use Rattle.std.proofs.Common.{◌≡◌, ℕ, ◌+◌, ◌-◌, ◌/◌, ◌≤◌, Bool, [], refl, sym, ap, subst, arith}
 use Rattle.bw_core.specs.declared.BookView.{BookView}
 use Rattle.bw_core.specs.World.{owns, seen_at, IsEnd}
 use Rattle.bw_core.proofs.Without.{join_adds}

@@ -5,7 +5,7 @@ use Rattle.bw_core.specs.declared.Post.{Post}
 use Rattle.bw_core.specs.declared.BookView.{BookView}
 use Rattle.bw_core.specs.declared.Swap.{Swap}
 use Rattle.bw_core.specs.World.{one_if, owns, posts_in, spans_have, tries_in}
-use Rattle.bw_core.specs.Events.{post, swap, book_after_claim, book_after_look, book_after_swap, book_after_late_swap, book_after_join}
+use Rattle.bw_core.specs.Events.{post, swap, book_after_look, book_after_late_swap, book_after_join}
 use Rattle.bw_core.proofs.Lists.{total-append}
 use Rattle.bw_core.proofs.Without.{claim_adds, join_adds}
 use Rattle.bw_board.specs.Public.{SeatView, Posts, Replaces, Sees, seat_after_claim}

@@ -8,7 +8,7 @@ use Rattle.bw_core.specs.declared.Event.{Event}
 use Rattle.bw_core.specs.declared.Event.TheVariants.{Look, Link, Try, Follow, Claim, Split, Join, Replace}
 use Rattle.bw_core.specs.declared.Played.{Played}
 use Rattle.bw_core.specs.declared.Played.TheVariants.{Done, Lost}
-use Rattle.bw_core.specs.World.{World, times, owns, posts_in, tries_in, seen_at, end_at, top}
+use Rattle.bw_core.specs.World.{World, times, owns, posts_in, tries_in, seen_at}
 use Rattle.bw_core.specs.Events.{under, Resumes}
 use Rattle.bw_core.specs.Transitions.{Applies}
 use Rattle.bw_board.specs.declared.table.Sight.{Sight}

@@ -1,5 +1,5 @@
 //! The kinds of atomic step, one call each. A seat's view after a step is given in full, with what it knows of itself.
-ghost use Rattle.std.specs.Prelude.{◌≡◌, ◌≢◌, ℕ, ◌+◌, ◌^◌, ◌<◌, ◌≤◌, true, [], ◌∷◌, ◌++◌, List, length, slice_index, slice_index_or, ◌⊎◌, Some, None, false};
+ghost use Rattle.std.specs.Prelude.{◌≡◌, ◌≢◌, ℕ, ◌+◌, ◌^◌, ◌<◌, ◌≤◌, true, ◌∷◌, ◌++◌, List, length, slice_index, slice_index_or, ◌⊎◌, Some, None, false};
 ghost use Rattle.bw_core.specs.World.{top, end_at, times, tries_in, seen_at, owns, posts_in};
 ghost use Rattle.bw_core.specs.Events.{Resumes, book_after_look, book_after_swap, book_after_late_swap, book_after_claim, book_without_pieces, under, book_after_win, book_after_loss};
 ghost use Rattle.bw_board.specs.Plays.{IsSeated, IsSane, IsTop, SeesChain, sight_after_link, with_book};

@@ -1,6 +1,6 @@
 //! The board and its seats.
-ghost use Rattle.std.specs.Prelude.{◌≡◌, ℕ, ◌+◌, ◌^◌, ◌<◌, ◌≤◌, [], ◌∷◌, ◌++◌, List, length, slice_index, slice_index_or, ◌⊎◌, ◌≢◌, Some, None};
-ghost use Rattle.std.specs.Prelude.{replicate, EachIndex, IsOk, IsNone, IfOk, IfErr, OnOk, OnErr, IfSome, IfNone, min, true};
+ghost use Rattle.std.specs.Prelude.{◌≡◌, ℕ, ◌+◌, ◌^◌, ◌<◌, ◌≤◌, ◌∷◌, ◌++◌, length, slice_index, slice_index_or, ◌⊎◌, ◌≢◌, Some, None};
+ghost use Rattle.std.specs.Prelude.{replicate, EachIndex, IsOk, IfOk, IfErr, OnOk, OnErr, IfSome, IfNone, min, true};
 ghost use Rattle.bw_core.specs.World.{tries_in, IsEnd, seen_at, end_at, owns, posts_in, posts_at, times, top};
 ghost use Rattle.bw_core.specs.Events.{book_after_look, book_after_late_swap, book_after_join, book_without_pieces};
 ghost use Rattle.bw_board.specs.declared.board.Replaced.TheVariants.{Won, Late};

@@ -1,5 +1,5 @@
 //! The chain of a page: a post puts a record before it, and a peek reads it.
-ghost use Rattle.std.specs.Prelude.{◌≡◌, ℕ, ◌+◌, ◌^◌, ◌<◌, ◌≤◌, [], List, length, slice_index, None, IfOk};
+ghost use Rattle.std.specs.Prelude.{◌≡◌, ◌+◌, ◌^◌, ◌<◌, ◌≤◌, length, None, IfOk};
 ghost use Rattle.bw_core.specs.World.{owns, posts_in, seen_at};
 ghost use Rattle.bw_core.specs.Events.{book_after_look};
 ghost use Rattle.bw_board.specs.Plays.{IsSeated, IsSane, PostsOver, SeesChain};

@@ -82,7 +82,7 @@ none_on records p (w ∷ ws) e h none_there = absurd (omega (arith, ap length no
 abbrev pub Below : Bases → Records → Delta → ℕ → Type 0
 Below bases records (Put w) q = Ends bases records q
 Below bases records (Split k to) q = slot_of_word bases records q ≡ based (slice_get bases q)
-Below bases records (Absorb k base high side) q = slot_of_word bases records q ≡ based (slice_get bases q)
+Below bases records (Absorb base side) q = slot_of_word bases records q ≡ based (slice_get bases q)
 Below bases records (Removed left) q = ⊥
 Below bases records (AddChild k child) q = slot_of_word bases records q ≡ based (slice_get bases q)
 Below bases records (DropChild k) q = slot_of_word bases records q ≡ based (slice_get bases q)
@@ -102,7 +102,7 @@ base_there bases records q ws e way none =
 below_it : (bases : Bases) (records : Records) (q : ℕ) (d : Delta) (ws : List ℕ) (e : ℕ) → Leads (link_of records) q ws e → length ws ≤ length records → e < length bases → e < floor_word → IsShaped (based (slice_get bases e)) (d ∷ deltas_at records ws) → Below bases records d q
 below_it bases records q (Put w) ws e way short within limit shaped = (ws, (e, record { way = way; short = short; within = within; limit = limit; shaped = shaped }))
 below_it bases records q (Split k to) ws e way short within limit shaped = base_there bases records q ws e way shaped
-below_it bases records q (Absorb k base high side) ws e way short within limit shaped = base_there bases records q ws e way shaped.0
+below_it bases records q (Absorb base side) ws e way short within limit shaped = base_there bases records q ws e way shaped.0
 below_it bases records q (Removed left) ws e way short within limit shaped = absurd shaped
 below_it bases records q (AddChild k child) ws e way short within limit shaped = base_there bases records q ws e way shaped.0
 below_it bases records q (DropChild k) ws e way short within limit shaped = base_there bases records q ws e way shaped
@@ -167,7 +167,7 @@ under_put bases records word under_it d w ends at put =
 write_over : (base : Slot) (d : Delta) (ds : List Delta) → IsShaped base (d ∷ ds) → (ds ≡ [] → ⊥) → (w : WriteView) × (d ≡ Put w)
 write_over base (Put w) ds shaped more = (w, refl)
 write_over base (Split k to) ds shaped more = absurd (more shaped)
-write_over base (Absorb k number high side) ds shaped more = absurd (more shaped.0)
+write_over base (Absorb number side) ds shaped more = absurd (more shaped.0)
 write_over base (Removed left) ds shaped more = absurd shaped
 write_over base (AddChild k child) ds shaped more = absurd (more shaped.0)
 write_over base (DropChild k) ds shaped more = absurd (more shaped)
@@ -202,7 +202,7 @@ under_other bases records word under_it d ends at not_put =
     by : (d : Delta) → slot_of_word bases records word ≡ change bases d (slot_of_word bases records under_it) → Below bases records d under_it → ((w : WriteView) → d ≡ Put w → ⊥) → (slot_of_word bases records word ≡ change bases d (based (slice_get bases under_it))) × IsOther d
     by (Put w) state below not_put = absurd (not_put w refl)
     by (Split k to) state below not_put = (state ∙ ap (change bases (Split k to)) below, tt)
-    by (Absorb k base high side) state below not_put = (state ∙ below, tt)
+    by (Absorb base side) state below not_put = (state ∙ below, tt)
     by (Removed left) state below not_put = absurd below
     by (AddChild k child) state below not_put = (state ∙ ap (change bases (AddChild k child)) below, tt)
     by (DropChild k) state below not_put = (state ∙ below, tt)

@@ -2,7 +2,7 @@
 use Rattle.std.proofs.Common.{inl, inr, ◌⊎◌, ◌≡◌, ℕ, zero, suc, true, false, List, [], ◌∷◌, length, Option, Some, None, refl, sym, ap, ◌∙◌, subst, arith}
 use Rattle.std.specs.FinMap.{put}
 use Rattle.std.specs.List.{Contains}
-use Rattle.bw_key.specs.Order.{KeyBytes, key_cmp}
+use Rattle.bw_key.specs.Order.{KeyBytes}
 use Rattle.bw_page.specs.declared.pages.RemovedPage.{RemovedPage}
 use Rattle.bw_delta.specs.Writes.{WriteView}
 use Rattle.bw_delta.specs.declared.deltas.Delta.{Delta}
@@ -88,9 +88,9 @@ delta_named bases base (Put w ∷ ds) d p t shaped has names is =
     by (inr more) rest = under_write w p (changed bases ds base) t is (rest more)
 delta_named bases base (Split k to ∷ ds) d p t shaped has names is =
     inl (split_side k to (changed bases ds base) t is ∙ ap page_named (only (Split k to) d ds shaped has) ∙ names)
-delta_named bases base (Absorb k number high side ∷ ds) d p t shaped has names is =
+delta_named bases base (Absorb number side ∷ ds) d p t shaped has names is =
     let base_is : base ≡ Live t = subst (λ (l : List Delta). changed bases l base ≡ Live t) shaped.0 is in
-    inl (sym (ap side_of_slot base_is) ∙ sym shaped.1 ∙ ap page_named (only (Absorb k number high side) d ds shaped.0 has) ∙ names)
+    inl (sym (ap side_of_slot base_is) ∙ sym shaped.1 ∙ ap page_named (only (Absorb number side) d ds shaped.0 has) ∙ names)
 delta_named bases base (Removed left ∷ ds) d p t shaped has names is = absurd shaped
 delta_named bases base (AddChild k child ∷ ds) d p t shaped has names is =
     let added : change bases (AddChild k child) base ≡ Live t = subst (λ (l : List Delta). change bases (AddChild k child) (changed bases l base) ≡ Live t) shaped.0 is in

@@ -100,7 +100,7 @@ told_base chains head number d ends at told sound = by d at told
     told_not : false ≡ true → ⊥
     told_not e = cc
 
-    no_absorb : {k : KeyBytes} {base : ℕ} {high : Option KeyBytes} {side : Option ℕ} {w : WriteView} → Absorb k base high side ≡ Put w → ⊥
+    no_absorb : {base : ℕ} {side : Option ℕ} {w : WriteView} → Absorb base side ≡ Put w → ⊥
     no_absorb e = cc
 
     no_drop : {k : KeyBytes} {w : WriteView} → DropChild k ≡ Put w → ⊥
@@ -109,7 +109,7 @@ told_base chains head number d ends at told sound = by d at told
     by : (d : Delta) → record_at chains.records head ≡ Some (d, number) → is_told (Some (d, number)) ≡ true → IsRebasedAt chains chains head number
     by (Put w) at told = absurd (told_not told)
     by (Split k to) at told = absurd (told_not told)
-    by (Absorb k base high side) at told = rebased (Absorb k base high side) at (λ b ds alone. alone.0) (under_other chains.bases chains.records head number (Absorb k base high side) ends at (λ w e. no_absorb e)).0
+    by (Absorb base side) at told = rebased (Absorb base side) at (λ b ds alone. alone.0) (under_other chains.bases chains.records head number (Absorb base side) ends at (λ w e. no_absorb e)).0
     by (Removed left) at told = absurd (told_not told)
     by (AddChild k child) at told = absurd (told_not told)
     by (DropChild k) at told = rebased (DropChild k) at (λ b ds alone. alone) (under_other chains.bases chains.records head number (DropChild k) ends at (λ w e. no_drop e)).0

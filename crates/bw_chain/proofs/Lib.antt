@@ -1,5 +1,6 @@
 pub mod ChainLemmas
 pub mod RecordLemmas
+pub mod RecordParts
 pub mod GrowthLemmas
 pub mod ReadingLemmas
 pub mod PageScanLemmas

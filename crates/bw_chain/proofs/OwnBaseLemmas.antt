@@ -1,5 +1,5 @@
 -- What no record changes of a page: where it begins, its level, and whether it was removed. So its base page tells that.
-use Rattle.std.proofs.Common.{◌≡◌, ℕ, zero, suc, ◌<◌, ◌≤◌, List, [], ◌∷◌, length, map, inl, inr, ◌⊎◌, Some, None, refl, sym, ap, ◌∙◌, arith}
+use Rattle.std.proofs.Common.{◌≡◌, ℕ, zero, suc, ◌<◌, ◌≤◌, List, [], ◌∷◌, length, map, inl, inr, ◌⊎◌, Some, refl, sym, ap, ◌∙◌, arith}
 use Rattle.std.proofs.lemmas.Bool.{cases_lt}
 use Rattle.std.proofs.lemmas.Option.{slice_get-get_or}
 use Rattle.std.specs.Prelude.{slice_get, slice_index}
@@ -50,7 +50,7 @@ module _ {X : Type 0} (f : Slot → X) (same : (s t : PageState) → t.low ≡ s
   kept (Split k to) Free = refl
   kept (Split k to) (Gone l) = refl
   kept (Split k to) (Live s) = same s (record s { high = Some k; side = Some to; body = body_below k s.body }) refl (cut k s.body)
-  kept (Absorb k base high side) slot = refl
+  kept (Absorb base side) slot = refl
   kept (Removed left) slot = refl
   kept (AddChild k child) Free = refl
   kept (AddChild k child) (Gone l) = refl

@@ -63,7 +63,7 @@ other_writes bases (Split k to) (Live s) other none = by s.body none
     by : (b : Body) → body_writes b ≡ [] → body_writes (body_below k b) ≡ []
     by (Pairs pairs writes) none = none
     by (Children level children) none = refl
-other_writes bases (Absorb k base high side) slot other none = none
+other_writes bases (Absorb base side) slot other none = none
 other_writes bases (Removed left) slot other none = absurd other
 other_writes bases (AddChild k child) Free other none = refl
 other_writes bases (AddChild k child) (Gone l) other none = refl
@@ -197,7 +197,7 @@ base_through bases slot o page key same other above =
         at : (d : Delta) → IsOther d → EndsAbove (change bases d (plain_at page)) key → base_of (change bases d (plain_at page)) key ≡ base_of (plain_at page) key
         at (Put w) other h = absurd other
         at (Split k to) other h = base_split bases (plain_at page) k key to h
-        at (Absorb k base high side) other h = refl
+        at (Absorb base side) other h = refl
         at (Removed left) other h = absurd other
         at (AddChild k child) other h = base_added bases (plain_at page) k key child
         at (DropChild k) other h = refl

@@ -16,7 +16,7 @@ use Rattle.bw_level.proofs.WalkLemmas.{ended_is, way_falls_within}
 same_change : (old new : Bases) (d : Delta) (slot : Slot) → change new d slot ≡ change old d slot
 same_change old new (Put w) slot = refl
 same_change old new (Split k to) slot = refl
-same_change old new (Absorb k base high side) slot = refl
+same_change old new (Absorb base side) slot = refl
 same_change old new (Removed left) slot = refl
 same_change old new (AddChild k child) slot = refl
 same_change old new (DropChild k) slot = refl

@@ -42,7 +42,7 @@ pub free_changed : (bases : Bases) (ds : List Delta) → changed bases ds Free �
 free_changed bases [] = refl
 free_changed bases (Put w ∷ ds) = ap (change bases (Put w)) (free_changed bases ds)
 free_changed bases (Split k to ∷ ds) = ap (change bases (Split k to)) (free_changed bases ds)
-free_changed bases (Absorb k base high side ∷ ds) = free_changed bases ds
+free_changed bases (Absorb base side ∷ ds) = free_changed bases ds
 free_changed bases (Removed left ∷ ds) = free_changed bases ds
 free_changed bases (AddChild k child ∷ ds) = ap (change bases (AddChild k child)) (free_changed bases ds)
 free_changed bases (DropChild k ∷ ds) = free_changed bases ds
@@ -63,7 +63,7 @@ free_under bases (d ∷ ds) slot e = free_under bases ds slot (by d e)
     by : (d : Delta) → change bases d (changed bases ds slot) ≡ Free → changed bases ds slot ≡ Free
     by (Put w) e = no_page_changed (λ s. record s { body = body_written w s.body }) (changed bases ds slot) e
     by (Split k to) e = no_page_changed (λ s. record s { high = Some k; side = Some to; body = body_below k s.body }) (changed bases ds slot) e
-    by (Absorb k base high side) e = e
+    by (Absorb base side) e = e
     by (Removed left) e = e
     by (AddChild k child) e = no_page_changed (λ s. record s { body = body_with_child k child s.body }) (changed bases ds slot) e
     by (DropChild k) e = e

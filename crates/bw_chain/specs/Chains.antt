@@ -60,7 +60,7 @@ abbrev pub IsShaped : Slot → List Delta → Type 0
 IsShaped base [] = Unit {0}
 IsShaped base (Put w ∷ ds) = IsShaped base ds
 IsShaped base (Split k to ∷ ds) = ds ≡ []
-IsShaped base (Absorb k number high side ∷ ds) = (ds ≡ []) × (side ≡ side_of_slot base)
+IsShaped base (Absorb number side ∷ ds) = (ds ≡ []) × (side ≡ side_of_slot base)
 IsShaped base (Removed left ∷ ds) = ⊥
 IsShaped base (AddChild k child ∷ ds) = (ds ≡ []) × (is_leaf base ≡ false)
 IsShaped base (DropChild k ∷ ds) = ds ≡ []

@@ -11,7 +11,7 @@ use Rattle.bw_chain.specs.Chains.{Records, deltas_at, link_of}
 abbrev pub page_named : Delta → Option ℕ
 page_named (Put w) = None
 page_named (Split k to) = Some to
-page_named (Absorb k base high side) = side
+page_named (Absorb base side) = side
 page_named (Removed left) = Some left
 page_named (AddChild k child) = Some child
 page_named (DropChild k) = None

@@ -21,7 +21,7 @@ with_link link = map (λ d. (d, link))
 abbrev pub writes_put : Delta → List WriteView
 writes_put (Put w) = w ∷ []
 writes_put (Split k to) = []
-writes_put (Absorb k base high side) = []
+writes_put (Absorb base side) = []
 writes_put (Removed left) = []
 writes_put (AddChild k child) = []
 writes_put (DropChild k) = []
@@ -34,7 +34,7 @@ writes_in = flat_map (λ r. writes_put r.0)
 abbrev pub IsPut : Delta → Type 0
 IsPut (Put w) = Unit {0}
 IsPut (Split k to) = ⊥
-IsPut (Absorb k base high side) = ⊥
+IsPut (Absorb base side) = ⊥
 IsPut (Removed left) = ⊥
 IsPut (AddChild k child) = ⊥
 IsPut (DropChild k) = ⊥

@@ -5,13 +5,11 @@ use Rattle.bw_key.specs.Order.{KeyBytes}
 use Rattle.bw_page.specs.declared.pages.Page.{Page}
 use Rattle.bw_delta.specs.declared.deltas.Delta.{Delta}
 use Rattle.bw_delta.specs.declared.deltas.Delta.TheVariants.{Put, Split, Absorb, Removed, AddChild, DropChild}
-use Rattle.bw_level.specs.Before.{low_of}
 use Rattle.bw_level.specs.Changes.{plain}
 use Rattle.bw_chain.specs.Chains.{ChainsView, page_at}
 use Rattle.bw_level.specs.Slots.{Slot, side_of_slot}
 use Rattle.bw_chain.specs.Placing.{put_at}
 use Rattle.bw_chain.specs.Supports.{base_under}
-use Rattle.bw_level.specs.Scans.{high_of}
 use Rattle.bw_level.specs.Children.{slot_without_child}
 use Rattle.bw_level.specs.Merges.{slot_joined, slot_removed}
 use Rattle.bw_level.specs.Splits.{slot_left, slot_right, slot_separator}
@@ -31,7 +29,7 @@ abbrev pub is_split : Option (Delta × ℕ) → Bool
 is_split None = false
 is_split (Some (Split k to, link)) = true
 is_split (Some (Put w, link)) = false
-is_split (Some (Absorb k base high side, link)) = false
+is_split (Some (Absorb base side, link)) = false
 is_split (Some (Removed left, link)) = false
 is_split (Some (AddChild k child, link)) = false
 is_split (Some (DropChild k, link)) = false
@@ -42,7 +40,7 @@ abbrev pub is_told : Option (Delta × ℕ) → Bool
 is_told None = false
 is_told (Some (Split k to, link)) = false
 is_told (Some (Put w, link)) = false
-is_told (Some (Absorb k base high side, link)) = true
+is_told (Some (Absorb base side, link)) = true
 is_told (Some (Removed left, link)) = false
 is_told (Some (AddChild k child, link)) = false
 is_told (Some (DropChild k, link)) = true
@@ -61,7 +59,7 @@ pub record IsRebasedAt (old new : ChainsView) (head number : ℕ) : Type 0 where
 
 -- the record of a page that absorbed another one, which was this base page
 abbrev pub absorption : ℕ → Slot → Delta
-absorption word slot = Absorb (low_of slot) word (high_of slot) (side_of_slot slot)
+absorption word slot = Absorb word (side_of_slot slot)
 
 -- The base page of a first word is joined with that of a second one, without a record both, which becomes a removed page.
 -- Two records tell of it: of the removal, and, over the first page, of the absorption.

@@ -10,6 +10,7 @@ ghost use Rattle.bw_chain.specs.Records.{IsWrite, IsWriteAt, unlinked};
 ghost use Rattle.bw_chain.specs.Removed.{HasNoRemoved};
 ghost use Rattle.bw_level.specs.Turns.{IsNoWrite, slot_without_writes, over, plain_at};
 
+use crate::record_parts::append_writes_by;
 use crate::records::{append_writes, put_write};
 use bw_delta::{Arena, Delta, Write};
 use bw_key::Memory;
@@ -18,6 +19,7 @@ use bw_model::Op;
 use bw_page::{Page, PageId};
 use bw_segment::Segmented;
 use std::marker::Model;
+use std::thread::Threads;
 
 /// Mapping words from here on name records.
 pub const FLOOR: u64 = 1 << 32;
@@ -78,6 +80,29 @@ impl Chains {
         ensures few { length self.new.records ≤ 2 ^ 32 }
     {
         append_writes(self.bases.allocator(), &mut self.arena, ops, base, places)
+    }
+
+    /// The same by so many workers, one for each 4,096 places at the most, whom `rt` starts: each copies the keys and values of a
+    /// part of the writes, and most records are made in the segments in which they stay. Of 0 and of 1 none is started.
+    pub fn append_writes_by<R: Threads + Sync>(
+        &mut self,
+        rt: &R,
+        ops: &[Op],
+        base: u64,
+        places: &[u32],
+        workers: u64,
+    ) -> Result<(), Memory>
+        requires there { AllByRecursion (λ p. p < length ops.now) places.now }
+        requires fits { base + length ops.now ≤ 2 ^ 40 }
+        requires few { length self.old.records ≤ 2 ^ 32 }
+        ensures bases { self.new.bases ≡ self.old.bases }
+        ensures ok { OnOk result
+            (self.new.records ≡ self.old.records ++ unlinked (writes_at_places base ops.now places.now)) }
+        ensures err { OnErr result (self.new.records ≡ self.old.records) }
+        ensures few { length self.new.records ≤ 2 ^ 32 }
+    {
+        let alloc = self.bases.allocator();
+        append_writes_by(rt, alloc, &mut self.arena, ops, base, places, workers)
     }
 
     /// Gives the records from place `start` on these link words. It takes no memory.

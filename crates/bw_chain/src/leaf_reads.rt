@@ -39,7 +39,7 @@ impl Chains {
         while let Some((delta, under)) = self.record(word) {
             match delta {
                 Delta::Put(write) => {
-                    if *key == write.key {
+                    if key.bytes() == write.key() {
                         found.push(write)?;
                     }
                 }

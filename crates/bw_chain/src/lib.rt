@@ -19,6 +19,7 @@ mod levels;
 mod merge_records;
 mod neighbours;
 mod prefetches;
+mod record_parts;
 mod records;
 mod splits;
 mod turn;

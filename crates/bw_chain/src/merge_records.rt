@@ -36,7 +36,7 @@ impl Chains {
         let page = self.joined(word, right)?;
         let number = PageId(right as u32);
         let removed = self.removed(number, left)?;
-        let absorption = self.absorption(number)?;
+        let absorption = self.absorption(number);
         self.removed.reserve(1)?;
         let removal = Delta::Removed { left };
         let record = append_both(&mut self.arena, removal, right, absorption, word)?;
@@ -90,32 +90,19 @@ impl Chains {
     }
 
     // The record of the absorption of a page.
-    fn absorption(&self, number: PageId) -> Result<Delta, Memory>
+    fn absorption(&self, number: PageId) -> Delta
         requires ends { IsChain self.now number }
         requires linked { IsLinked (page_at self.now number) }
-        requires there { is_some (low_at (page_at self.now number)) ≡ true }
-        ensures { IfOk result (λ delta. delta ≡ absorption number (page_at self.now number)) }
+        ensures { result ≡ absorption number (page_at self.now number) }
     {
-        self.know_base(number);
-        let Some(low) = self.low(number) else {
-            unreachable!();
-        };
-        let word = number.0 as u64;
-        let sep = low.copy()?;
-        let Some((_, end, next)) = self.neighbour(word) else {
-            return Ok(Delta::Absorb {
-                sep,
-                base: word,
-                high: None,
-                side: None,
-            });
-        };
-        Ok(Delta::Absorb {
-            sep,
-            base: word,
-            high: Some(end.copy()?),
-            side: Some(next),
-        })
+        let base = number.0 as u64;
+        match self.neighbour(base) {
+            Some((_, _, next)) => Delta::Absorb {
+                base,
+                side: Some(next),
+            },
+            None => Delta::Absorb { base, side: None },
+        }
     }
 
     /// Takes the child at a separator, which isn't the first one, from an inner page without a record. Answers the word that

@@ -46,7 +46,7 @@ impl Chains {
 // The stamp of a write, and 0 for another change.
 fn stamp_of(delta: &Delta) -> usize {
     match delta {
-        Delta::Put(write) => write.stamp as usize,
+        Delta::Put(write) => write.stamp() as usize,
         _ => 0,
     }
 }

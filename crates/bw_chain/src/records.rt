@@ -13,6 +13,9 @@ use bw_key::Memory;
 use bw_memory::Alloc;
 use bw_model::Op;
 
+// Of so many operations the sizes are read before the first is copied.
+const AHEAD: usize = 16;
+
 /// A change that is a write.
 pub(crate) fn put_write(delta: &Delta) -> &Write
     requires { IsPut delta.now }
@@ -49,8 +52,9 @@ pub(crate) fn append_writes(
     appended
 }
 
-// Appends the writes of a batch at these places, or some of them.
-fn append_all(
+/// Appends the writes of a batch at these places, or some of them. The sizes of the next few are read before these are copied:
+/// in the order of keys each operation lies elsewhere in memory, and reads that need nothing of one another wait side by side.
+pub(crate) fn append_all(
     alloc: Alloc,
     arena: &mut Arena,
     ops: &[Op],
@@ -65,21 +69,43 @@ fn append_all(
     ensures others { take (length arena.old.records) arena.new.records ≡ arena.old.records }
     ensures few { length arena.new.records ≤ 2 ^ 32 }
 {
-    for place in places {
+    let mut sizes = [0; AHEAD];
+    for (at, place) in places.iter().enumerate() {
+        if at % AHEAD == 0 {
+            sizes = sizes_ahead(ops, &places[at..]);
+        }
         let op = &ops[*place as usize];
-        append_op(alloc, arena, op, base + u64::from(*place))?;
+        let stamp = base + u64::from(*place);
+        append_op(alloc, arena, op, stamp, sizes[at % AHEAD])?;
     }
     Ok(())
 }
 
-// Appends what an operation writes.
-fn append_op(alloc: Alloc, arena: &mut Arena, op: &Op, stamp: u64) -> Result<(), Memory>
+// The sizes of the writes at the first of these places.
+fn sizes_ahead(ops: &[Op], places: &[u32]) -> [usize; AHEAD] {
+    let mut sizes = [0; AHEAD];
+    for (size, place) in sizes.iter_mut().zip(places) {
+        if let Some(op) = ops.get(*place as usize) {
+            *size = Write::size_of_op(op);
+        }
+    }
+    sizes
+}
+
+// Appends what an operation writes, whose key and values have so many bytes.
+fn append_op(
+    alloc: Alloc,
+    arena: &mut Arena,
+    op: &Op,
+    stamp: u64,
+    size: usize,
+) -> Result<(), Memory>
     requires few { length arena.old.records ≤ 2 ^ 32 }
     ensures ok { OnOk result (arena.new.records ≡ arena.old.records ++ unlinked (stamped stamp (write_of op.now))) }
     ensures err { OnErr result (arena.new.records ≡ arena.old.records) }
     ensures few { length arena.new.records ≤ 2 ^ 32 }
 {
-    if let Some(write) = Write::from_op(alloc, op, stamp)? {
+    if let Some(write) = Write::from_op(alloc, op, stamp, size)? {
         make_room(arena)?;
         arena.append(Delta::Put(write), 0);
     }

@@ -209,7 +209,7 @@ fn program<'a>(global: Global) -> Result<Command<'a>, AllocError>
     let beside =
         "Let workers consolidate leaves before they post: less tidying behind a batch, and more work in all";
     let eager =
-        "Consolidate each leaf that a batch wrote to behind it: may pay with one worker, in large batches";
+        "Consolidate each leaf that a batch wrote to behind it: may pay for many scans, or over few keys";
     let command = Command::new(global, "bw_run")
         .about(ABOUT)
         .after_help(AFTER)

@@ -10,7 +10,6 @@ use Rattle.bw_core.specs.World.{one_if, total, owns, open_width, rounded, Claime
 use Rattle.bw_core.specs.Events.{span, book_after_claim, book_without_pieces, left_book, right_book, book_after_join}
 use Rattle.bw_core.specs.declared.BookView.{BookView}
 use Rattle.bw_core.specs.declared.Played.TheVariants.{Done, NotAllowed}
-use Rattle.bw_core.specs.World.{World, Lawful}
 use Rattle.bw_core.specs.Keeping.{ClaimTakesFree, ToldIsClaimed, OwnsAlone}
 use Rattle.bw_core.proofs.Lists.{total-append, total_set, total_two, at_set, at_snoc}
 

@@ -19,12 +19,12 @@ pub whole : {X : Type 0} (n : ℕ) (xs ys : List X) → n ≡ length xs → take
 whole n xs ys all = ap (λ m. take m (xs ++ ys)) all ∙ take-append_seam xs ys
 
 module _ {X Y : Type 0} where
-  -- one more on each side
-  pub zip_more : (xs : List X) (ys : List Y) (x : X) (y : Y) → length ys ≡ length xs → zip (xs ++ x ∷ []) (ys ++ y ∷ []) ≡ zip xs ys ++ (x, y) ∷ []
-  zip_more [] [] x y same = refl
-  zip_more [] (b ∷ ys) x y same = absurd (omega (arith, same))
-  zip_more (a ∷ xs) [] x y same = absurd (omega (arith, same))
-  zip_more (a ∷ xs) (b ∷ ys) x y same = ap (λ l. (a, b) ∷ l) (zip_more xs ys x y (omega (arith, same)))
+  -- more on each side
+  pub zip_append : (xs : List X) (ys : List Y) (more : List X) (others : List Y) → length ys ≡ length xs → zip (xs ++ more) (ys ++ others) ≡ zip xs ys ++ zip more others
+  zip_append [] [] more others same = refl
+  zip_append [] (b ∷ ys) more others same = absurd (omega (arith, same))
+  zip_append (a ∷ xs) [] more others same = absurd (omega (arith, same))
+  zip_append (a ∷ xs) (b ∷ ys) more others same = ap (λ l. (a, b) ∷ l) (zip_append xs ys more others (omega (arith, same)))
 
   pub zip_take : (n : ℕ) (xs : List X) (ys : List Y) → zip (take n xs) (take n ys) ≡ take n (zip xs ys)
   zip_take zero xs ys = refl

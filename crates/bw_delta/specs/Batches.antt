@@ -1,5 +1,5 @@
 -- What a batch of operations writes, each with its stamp, and the law that reading as of a stamp rests on.
-use Rattle.std.specs.Prelude.{◌≡◌, ℕ, ◌+◌, List, [], ◌∷◌, ◌++◌, take, Option, Some, None, filter}
+use Rattle.std.specs.Prelude.{◌≡◌, ℕ, ◌+◌, List, [], ◌∷◌, ◌++◌, length, take, Option, Some, None, filter}
 use Rattle.std.specs.FinMap.{get}
 use Rattle.bw_key.specs.Order.{KeyBytes, key_eq}
 use Rattle.bw_model.specs.Contents.{Contents}
@@ -22,6 +22,17 @@ write_of (Delete key) = Some (key, action.Delete)
 write_of (SwapIf key old new) = Some (key, action.SwapIf old new)
 write_of (Scan from to most) = None
 write_of (Rscan from to most) = None
+
+-- how many bytes the key and the values of an operation have that writes
+abbrev pub write_size : Op → ℕ
+write_size (Get key) = 0
+write_size (Insert key v) = length key + length v
+write_size (Upsert key v) = length key + length v
+write_size (Update key v) = length key + length v
+write_size (Delete key) = length key
+write_size (SwapIf key old new) = length key + length old + length new
+write_size (Scan from to most) = 0
+write_size (Rscan from to most) = 0
 
 abbrev pub stamped : ℕ → Option (KeyBytes × Action) → List WriteView
 stamped stamp None = []

@@ -1,5 +1,5 @@
 // Delta records in the order in which they were made.
-ghost use Rattle.std.specs.Prelude.{◌≡◌, ◌+◌, ◌<◌, ◌≤◌, [], ◌∷◌, ◌++◌, length, take, drop, slice_get, OnOk};
+ghost use Rattle.std.specs.Prelude.{◌≡◌, ◌+◌, ◌<◌, ◌≤◌, [], ◌∷◌, ◌++◌, length, take, drop, slice_get, IfOk, OnOk, OnErr};
 ghost use Rattle.std.specs.Option.{option_map};
 ghost use Rattle.bw_delta.specs.Arenas.{deltas_of, links_of};
 
@@ -51,6 +51,17 @@ impl Arena {
         }
     }
 
+    /// An arena with no record, and with room for so many, or for a segment of them where they are more. `Memory` is answered
+    /// where that is refused.
+    pub fn with_capacity(alloc: Alloc, capacity: usize) -> Result<Arena, Memory>
+        ensures { IfOk result (λ arena. arena.records ≡ []) }
+    {
+        Ok(Arena {
+            deltas: Segmented::with_capacity(alloc, capacity)?,
+            links: Segmented::with_capacity(alloc, capacity)?,
+        })
+    }
+
     /// How many records there are.
     pub fn len(&self) -> usize
         ensures { result ≡ length self.now.records }
@@ -76,6 +87,22 @@ impl Arena {
     {
         self.deltas.push_reserved(delta);
         self.links.push_reserved(link);
+    }
+
+    /// Adds the records of another arena behind the others, with their link words. Behind full segments those of the other are
+    /// taken as they are, as by `Segmented::append`, and no record is moved. After `Memory` the records are as before.
+    pub fn append_all(&mut self, other: Arena) -> Result<(), Memory>
+        ensures ok { OnOk result (self.new.records ≡ self.old.records ++ other.records) }
+        ensures err { OnErr result (self.new.records ≡ self.old.records) }
+    {
+        let before = self.len();
+        let Arena { deltas, links } = other;
+        self.deltas.append(deltas)?;
+        if let Err(memory) = self.links.append(links) {
+            self.deltas.truncate(before);
+            return Err(memory);
+        }
+        Ok(())
     }
 
     /// Gives the records from place `start` on these link words. It takes no memory.

@@ -15,7 +15,7 @@ ghost use Rattle.bw_delta.specs.PagePairs.{ArePairsAsOf, parts_of, value_in_part
 use crate::merging::merged;
 use crate::sorted_writes::{KeyedWrite, in_key_order, keyed_write};
 use crate::writes::Write;
-use bw_key::{Key, Memory};
+use bw_key::{Key, Memory, compare_bytes};
 use bw_memory::Alloc;
 use bw_model::{Pairs, Value, is_below};
 use bw_page::Leaf;
@@ -115,7 +115,7 @@ fn push_due<'a>(
     ensures { OnOk result (map (λ k. k.write.now) due.new.items ≡ map (λ k. k.write.now) due.old.items
         ++ filter (is_due low.now (option_copied high.entry) stamp) (write.now ∷ [])) }
 {
-    if write.stamp < stamp && is_within(&write.key, low, high) {
+    if write.stamp() < stamp && is_within(write.key(), low, high) {
         due.push(keyed_write(write))?;
     }
     Ok(())
@@ -201,8 +201,9 @@ fn packed(alloc: Alloc, values: BTreeMap<Key, Value, Alloc>) -> Result<Pairs, Me
 }
 
 // Whether a key is from `low` on and below `high`.
-fn is_within(key: &Key, low: &Key, high: Option<&Key>) -> bool
+fn is_within(key: &[u8], low: &Key, high: Option<&Key>) -> bool
     ensures { result ≡ is_in_range low.now (option_copied high.entry) key.now }
 {
-    *key >= *low && is_below(key, high)
+    compare_bytes(key, low.bytes()).is_ge()
+        && high.is_none_or(|high| compare_bytes(key, high.bytes()).is_lt())
 }

@@ -27,7 +27,7 @@ pub use sorted_writes::writes_by_key;
 pub use writes::Write;
 
 /// The operations of a batch, the replies to them, and what a write does.
-pub use bw_model::{Action, BoxedValue, Op, Reply};
+pub use bw_model::{Action, Op, Reply};
 
 /// Out of memory.
 pub use bw_key::Memory;

@@ -8,9 +8,9 @@ ghost use Rattle.bw_delta.specs.History.{pointed_to};
 ghost use Rattle.bw_delta.specs.Merging.{after_writes, merged_value, with_value, AreBehind, AreCutAt, AreFrom, IsMerging};
 
 use crate::writes::Write;
-use bw_key::{Key, Memory};
+use bw_key::Memory;
 use bw_memory::Alloc;
-use bw_model::{Action, Pairs, Run};
+use bw_model::{Pairs, Run};
 use bw_page::place_near;
 
 /// What writes that are sorted by key leave of sorted pairs, those of one key one after another.
@@ -51,7 +51,7 @@ fn room_for(writes: &[&Write]) -> (usize, usize) {
     for place in 0..writes.len() {
         if is_last_of_key(writes, place) {
             keys = keys.saturating_add(1);
-            bytes = bytes.saturating_add(byte_count(writes[place]));
+            bytes = bytes.saturating_add(writes[place].byte_count());
         }
     }
     (keys, bytes)
@@ -65,19 +65,7 @@ fn is_last_of_key(writes: &[&Write], place: usize) -> bool
         return true;
     }
     let (write, next) = (writes[place], writes[place + 1]);
-    next.key != write.key
-}
-
-// How many bytes the key of a write has, and the value that it puts.
-fn byte_count(write: &Write) -> usize {
-    let value = match &write.action {
-        Action::Insert(value) | Action::Upsert(value) | Action::Update(value) => {
-            value.bytes().len()
-        }
-        Action::SwapIf(_, value) => value.bytes().len(),
-        Action::Delete => 0,
-    };
-    write.key.bytes().len().saturating_add(value)
+    next.key() != write.key()
 }
 
 // Adds the pairs below the key of a write, and what this write and those behind it leave at the key. It answers the pairs
@@ -96,16 +84,17 @@ fn push_key<'a>(
         ≡ merged_value (merged.old ++ pairs.now) (first.now ∷ pointed_to others.now) q) }
     ensures bound { IfOk result (λ left. left.1 ≤ length others.now) }
 {
-    let (before, start, behind) = parted(pairs, &first.key);
+    let key = first.key();
+    let (before, start, behind) = parted(pairs, key);
     merged.extend(&before)?;
-    let (value, count) = passed(&first.key, first.action.effect(start), others);
-    push_value(merged, &first.key, value)?;
+    let (value, count) = passed(key, first.effect(start), others);
+    push_value(merged, key, value)?;
     Ok((behind, count))
 }
 
 /// Cuts sorted pairs into those below a key, its value, and those behind it, in one key comparison where the first one is
 /// at the key, as it is where most keys were written, and else in about log2 n.
-pub(crate) fn parted<'a>(pairs: &Run<'a>, key: &Key) -> (Run<'a>, Option<&'a [u8]>, Run<'a>)
+pub(crate) fn parted<'a>(pairs: &Run<'a>, key: &[u8]) -> (Run<'a>, Option<&'a [u8]>, Run<'a>)
     requires { T (is_sorted key_cmp pairs.now) }
     ensures { AreCutAt pairs.now key.now result.0 (option_copied result.1) result.2 }
 {
@@ -113,7 +102,7 @@ pub(crate) fn parted<'a>(pairs: &Run<'a>, key: &Key) -> (Run<'a>, Option<&'a [u8
     if rest.is_empty() {
         return (before, None, rest);
     }
-    if rest.key_at(0) != key.bytes() {
+    if rest.key_at(0) != key {
         return (before, None, rest);
     }
     let value = rest.value_at(0);
@@ -123,7 +112,7 @@ pub(crate) fn parted<'a>(pairs: &Run<'a>, key: &Key) -> (Run<'a>, Option<&'a [u8
 
 // The value once the first writes, which are those of a key, had their effects, and how many they are.
 fn passed<'a>(
-    key: &Key,
+    key: &[u8],
     start: Option<&'a [u8]>,
     writes: &'a [&'a Write],
 ) -> (Option<&'a [u8]>, usize)
@@ -137,20 +126,20 @@ fn passed<'a>(
 {
     let mut value = start;
     for (at, write) in writes.iter().enumerate() {
-        if write.key != *key {
+        if write.key() != key {
             return (value, at);
         }
-        value = write.action.effect(value);
+        value = write.effect(value);
     }
     (value, writes.len())
 }
 
 // Adds the value at a key, if there is one.
-fn push_value(merged: &mut Pairs, key: &Key, value: Option<&[u8]>) -> Result<(), Memory>
+fn push_value(merged: &mut Pairs, key: &[u8], value: Option<&[u8]>) -> Result<(), Memory>
     ensures { OnOk result (merged.new ≡ merged.old ++ with_value key.now (option_copied value.entry) []) }
 {
     match value {
-        Some(value) => merged.push(key.bytes(), value),
+        Some(value) => merged.push(key, value),
         None => Ok(()),
     }
 }

@@ -28,9 +28,9 @@ const FEW: usize = 8;
 
 /// The pairs of a page: those of its base, which stay where they stand, and what writes made of some of them.
 ///
-/// A write that changes a value costs up to two searches among the changes and two on the base, and a copy of its key and
-/// of the value that it leaves; one that changes none, a search in each. Where there are many changes (`settle`), they are made
-/// in a copy of the base, which takes its place.
+/// A write costs a copy of its key, a search among the changes and one on the base; one that changes a value, up to two of
+/// each, and a copy of the value that it leaves. Where there are many changes (`settle`), they are made in a copy of the base,
+/// which takes its place.
 #[derive(Drop)]
 pub(crate) struct Present<'a> {
     base: Base<'a>,
@@ -95,7 +95,7 @@ impl<'a> Present<'a> {
         ensures bound { IfOk result (λ put. put.1 ≤ length writes.now) }
     {
         for (at, write) in writes.iter().enumerate() {
-            if write.stamp >= stamp {
+            if write.stamp() >= stamp {
                 return Ok((self, at));
             }
             self.put_write(alloc, write)?;
@@ -153,13 +153,14 @@ impl<'a> Present<'a> {
             (if key_eq q write.now.key then effect write.now.action (find key_cmp q (present_pairs self.old))
             else find key_cmp q (present_pairs self.old))) }
     {
-        let before = self.value_at(&write.key);
-        let left = write.action.effect(before);
+        let key = Key::from_bytes(alloc, write.key())?;
+        let before = self.value_at(&key);
+        let left = write.effect(before);
         if left == before {
             return Ok(());
         }
         let left = copied(alloc, left)?;
-        self.set(&write.key, left)
+        self.set(key, left)
     }
 
     // The value at a key.
@@ -174,15 +175,15 @@ impl<'a> Present<'a> {
     }
 
     // Puts a value at a key, or takes it away. Where neither it nor the base has one, the key is no change.
-    fn set(&mut self, key: &Key, value: Option<Value>) -> Result<(), Memory>
+    fn set(&mut self, key: Key, value: Option<Value>) -> Result<(), Memory>
         ensures { OnOk result ((q : KeyBytes) → find key_cmp q (present_pairs self.new) ≡
-            (if key_eq q key.now then value else find key_cmp q (present_pairs self.old))) }
+            (if key_eq q key then value else find key_cmp q (present_pairs self.old))) }
     {
-        if value.is_none() && self.base.leaf().find(key).is_none() {
-            self.changes.remove(key);
+        if value.is_none() && self.base.leaf().find(&key).is_none() {
+            self.changes.remove(&key);
             return Ok(());
         }
-        self.changes.insert(key.copy()?, value)?;
+        self.changes.insert(key, value)?;
         Ok(())
     }
 

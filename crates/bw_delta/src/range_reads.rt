@@ -29,7 +29,7 @@ pub(crate) fn add_rising(
         if left == 0 {
             return Ok(());
         }
-        let (before, _old, behind) = parted(&rest, key);
+        let (before, _old, behind) = parted(&rest, key.bytes());
         left = add_front(&before, left, read)?;
         left = add_value(key, value, left, read)?;
         rest = behind;
@@ -56,7 +56,7 @@ pub(crate) fn add_falling(
         if left == 0 {
             return Ok(());
         }
-        let (before, _old, behind) = parted(&rest, key);
+        let (before, _old, behind) = parted(&rest, key.bytes());
         left = add_back(&behind, left, read)?;
         left = add_value(key, value, left, read)?;
         rest = before;

@@ -82,10 +82,10 @@ fn passed<'a>(
 {
     let mut value = start;
     for (at, write) in writes.iter().enumerate() {
-        if write.stamp >= stamp {
+        if write.stamp() >= stamp {
             return (value, &writes[at..]);
         }
-        value = write.action.effect(value);
+        value = write.effect(value);
     }
     (value, &[])
 }
@@ -130,6 +130,6 @@ pub fn in_order<'a>(alloc: Alloc, writes: &[&'a Write]) -> Result<Vec<&'a Write,
 {
     let mut ordered = Vec::new(alloc);
     ordered.extend_from_slice(writes)?;
-    ordered.sort_unstable_by_key(|write| write.stamp);
+    ordered.sort_unstable_by_key(|write| write.stamp());
     Ok(ordered)
 }

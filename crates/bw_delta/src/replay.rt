@@ -103,16 +103,16 @@ impl<'a> Replay<'a> {
         ensures { StaysUntil self.now result }
     {
         match self.writes[self.passed..].first() {
-            Some(write) => write.stamp,
+            Some(write) => write.stamp(),
             None => u64::MAX,
         }
     }
 
-    /// The replay as of a stamp that isn't below its own: each write with a smaller one has its effect, in up to two
-    /// searches of the page and two among the changed keys, with a copy of its key and of the value that it leaves where it
-    /// changes that. Where many keys are changed then, the changes are made in a copy of the page's pairs, which costs some
-    /// eight of these for each change; where that finds no memory, they stay beside them. After `Memory` the replay is gone,
-    /// and its parts and writes are as they were.
+    /// The replay as of a stamp that isn't below its own: each write with a smaller one has its effect, at the cost of a copy
+    /// of its key and up to two searches of the page and two among the changed keys, and of a copy of the value that it leaves
+    /// where it changes that. Where many keys are changed then, the changes are made in a copy of the page's pairs, which
+    /// costs some eight of these for each change; where that finds no memory, they stay beside them. After `Memory` the replay
+    /// is gone, and its parts and writes are as they were.
     pub fn advance(self, stamp: u64) -> Result<Replay<'a>, Memory>
         requires { self.stamp ≤ stamp }
         ensures stamp { IfOk result (λ replay. replay.stamp ≡ stamp) }

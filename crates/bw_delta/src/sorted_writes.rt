@@ -9,7 +9,7 @@ ghost use Rattle.bw_delta.specs.SortedWrites.{AreSortedByKey, HaveRisingStamps};
 ghost use Rattle.bw_delta.specs.Writes.{WriteView};
 
 use crate::writes::Write;
-use bw_key::{Memory, compare_prefixed};
+use bw_key::{Memory, compare_prefixed, prefix_of};
 use bw_memory::Alloc;
 use std::cmp::Ordering;
 
@@ -28,11 +28,11 @@ impl KeyedWrite<'_> {
             result ≡ ordering_then (key_cmp v.key w.key) (nat_cmp v.stamp w.stamp) }
     {
         let (write, next) = (self.write, other.write);
-        let order = compare_prefixed(&write.key, self.prefix, &next.key, other.prefix);
+        let order = compare_prefixed(write.key(), self.prefix, next.key(), other.prefix);
         if order.is_ne() {
             return order;
         }
-        write.stamp.cmp(&next.stamp)
+        write.stamp().cmp(&next.stamp())
     }
 }
 
@@ -70,7 +70,7 @@ fn keyed_writes<'a>(
 pub(crate) fn keyed_write(write: &Write) -> KeyedWrite<'_>
     ensures { result.write.now ≡ write.now }
 {
-    let prefix = write.key.prefix();
+    let prefix = prefix_of(write.key());
     KeyedWrite { prefix, write }
 }
 

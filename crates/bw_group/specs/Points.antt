@@ -1,12 +1,13 @@
 -- The operations of a batch that read or write one key each, with their places in the batch.
 use Rattle.std.specs.Prelude.{◌≡◌, ℕ, ◌+◌, ◌-◌, ◌≤◌, Bool, true, false, List, [], ◌∷◌, ◌++◌, length, take, drop}
 use Rattle.std.specs.Prelude.{Option, Some, None, is_some, filter, map, slice_get, slice_index_or}
-use Rattle.std.specs.List.{AllByRecursion}
+use Rattle.std.specs.List.{AllByRecursion, list_any}
 use Rattle.std.specs.Option.{option_map}
 use Rattle.std.specs.Ordering.{is_lt}
 use Rattle.std.specs.List.Sorted.{IsPermutation, IsSortedBy}
 use Rattle.bw_key.specs.Order.{KeyBytes, key_cmp, key_eq}
 use Rattle.bw_model.specs.declared.operations.Op.{Op}
+use Rattle.bw_model.specs.declared.operations.Op.TheVariants.{Get, Insert, Upsert, Update, Delete, SwapIf, Scan, Rscan}
 use Rattle.bw_model.specs.Model.{key_of}
 use Rattle.bw_model.specs.Verbs.{verb_of}
 use Rattle.bw_delta.specs.Batches.{write_of, writes_of}
@@ -68,6 +69,17 @@ abbrev pub is_write : Option Op → Bool
 is_write None = false
 is_write (Some op) = is_some (write_of op)
 
+-- whether an operation is a delete
+abbrev pub is_delete : Op → Bool
+is_delete (Get key) = false
+is_delete (Insert key v) = false
+is_delete (Upsert key v) = false
+is_delete (Update key v) = false
+is_delete (Delete key) = true
+is_delete (SwapIf key old new) = false
+is_delete (Scan from to most) = false
+is_delete (Rscan from to most) = false
+
 -- of these places those of operations that write
 abbrev pub writing : List Op → List ℕ → List ℕ
 writing ops = filter (λ place. is_write (slice_get ops place))
@@ -108,9 +120,10 @@ pub record AreGrouped (batch : GroupingView) : Type 0 where
   pub same : HaveSameOfKeys batch.points (entries_from 0 batch.ops)
   pub scans : batch.scans ≡ scans_from 0 batch.ops
 
--- a batch with its points, its scans, and how many of its operations write
-pub record IsGrouping (ops : List Op) (points : List Point) (scans : List ℕ) (write_count : ℕ) : Type 0 where
+-- a batch with its points, its scans, how many of its operations write, and whether one is a delete
+pub record IsGrouping (ops : List Op) (points : List Point) (scans : List ℕ) (write_count : ℕ) (has_deletes : Bool) : Type 0 where
   pub grouped : AreGrouped (grouping_view ops points scans)
   pub permuted : IsPermutation (entries_from 0 ops) (entries_of points)
   pub verbs : AllByRecursion (IsPointOf ops) points
   pub writes : write_count ≡ length (writes_of 0 ops)
+  pub deletes : has_deletes ≡ list_any is_delete ops

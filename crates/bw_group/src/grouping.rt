@@ -1,13 +1,13 @@
 // The operations of a batch, and those that read or write one key each.
 ghost use Rattle.std.specs.Prelude.{◌≡◌, ◌<◌, ◌≤◌, ◌^◌, false, length, IfOk};
-ghost use Rattle.std.specs.List.{AllByRecursion};
+ghost use Rattle.std.specs.List.{AllByRecursion, list_any};
 ghost use Rattle.std.specs.List.Sorted.{IsPermutation, IsSortedBy};
 ghost use Rattle.std.specs.Ordering.{is_lt};
 ghost use Rattle.bw_key.specs.Order.{key_cmp, key_eq};
 ghost use Rattle.bw_delta.specs.Batches.{stamped, write_of, writes_of};
 ghost use Rattle.bw_tree.specs.Stages.{AreAllWritePlaces};
 ghost use Rattle.bw_group.specs.Points.{AreGrouped, HasKey, HaveSameOfKeys, IsPointOf};
-ghost use Rattle.bw_group.specs.Points.{entries_from, entries_in, entries_of, key_at, places_of, scans_from, writing};
+ghost use Rattle.bw_group.specs.Points.{entries_from, entries_in, entries_of, is_delete, key_at, places_of, scans_from, writing};
 ghost use Rattle.bw_group.specs.declared.points.Point.{Point};
 
 use crate::points::Point;
@@ -25,6 +25,8 @@ pub struct Grouping<'a> {
     pub(crate) scans: Vec<usize, Alloc>,
     // how many of the operations write
     writes: usize,
+    // whether one of them is a delete
+    deletes: bool,
 }
 
 // Not derived: whoever drops one calls this, and its proof is spared the parts.
@@ -35,6 +37,7 @@ impl Drop for Grouping<'_> {
             points: _points,
             scans: _scans,
             writes: _writes,
+            deletes: _deletes,
         } = self;
     }
 }
@@ -46,7 +49,7 @@ impl<'a> Model for Grouping<'a> {
 
     ghost view = { λ g. grouping_view g.ops.now g.points.items g.scans.items };
 
-    ghost invariant = { λ g. IsGrouping g.ops.now g.points.items g.scans.items g.writes };
+    ghost invariant = { λ g. IsGrouping g.ops.now g.points.items g.scans.items g.writes g.deletes };
 }
 
 impl<'a> Grouping<'a> {
@@ -72,12 +75,14 @@ impl<'a> Grouping<'a> {
             points,
             scans,
             writes,
+            deletes,
         } = grouped_lists(rt, alloc, ops, workers)?;
         Ok(Grouping {
             ops,
             points,
             scans,
             writes,
+            deletes,
         })
     }
 
@@ -112,6 +117,13 @@ impl<'a> Grouping<'a> {
         self.writes
     }
 
+    /// Whether one of the operations is a delete. That was seen once, too.
+    pub fn has_deletes(&self) -> bool
+        ensures { result ≡ list_any is_delete self.now.ops }
+    {
+        self.deletes
+    }
+
     /// The places of the operations that write, in the order of their keys; those on one key are in the order of the batch.
     /// `Memory` is answered where the list finds none.
     pub fn write_places(&self, alloc: Alloc) -> Result<Vec<u32, Alloc>, Memory>
@@ -130,12 +142,13 @@ impl<'a> Grouping<'a> {
     }
 }
 
-// What a batch has: its points, the places of its scans, and how many of its operations write.
+// What a batch has: its points, the places of its scans, how many of its operations write, and whether one is a delete.
 #[derive(Drop)]
 struct Lists<'a> {
     points: Vec<Point<'a>, Alloc>,
     scans: Vec<usize, Alloc>,
     writes: usize,
+    deletes: bool,
 }
 
 // What a batch has, its points in the order of their keys. Those of one key are in the order of the batch.
@@ -153,11 +166,13 @@ fn grouped_lists<'a, R: Threads + Sync>(
     ensures verbs { IfOk result (λ lists. AllByRecursion (IsPointOf ops.now) lists.points.items) }
     ensures scans { IfOk result (λ lists. lists.scans.items ≡ scans_from 0 ops.now) }
     ensures writes { IfOk result (λ lists. lists.writes ≡ length (writes_of 0 ops.now)) }
+    ensures deletes { IfOk result (λ lists. lists.deletes ≡ list_any is_delete ops.now) }
 {
     let Lists {
         points,
         scans,
         writes,
+        deletes,
     } = lists_of(alloc, ops)?;
     let mut points = sorted_by_rank(rt, alloc, points, workers)?;
     points.sort_unstable_by(|a, b| a.by_key_and_place(b));
@@ -165,6 +180,7 @@ fn grouped_lists<'a, R: Threads + Sync>(
         points,
         scans,
         writes,
+        deletes,
     })
 }
 
@@ -176,21 +192,24 @@ fn lists_of<'a>(alloc: Alloc, ops: &'a [Op]) -> Result<Lists<'a>, Memory>
     ensures verbs { IfOk result (λ lists. AllByRecursion (IsPointOf ops.now) lists.points.items) }
     ensures scans { IfOk result (λ lists. lists.scans.items ≡ scans_from 0 ops.now) }
     ensures writes { IfOk result (λ lists. lists.writes ≡ length (writes_of 0 ops.now)) }
+    ensures deletes { IfOk result (λ lists. lists.deletes ≡ list_any is_delete ops.now) }
 {
     let mut points = Vec::with_capacity(alloc, ops.len())?;
     let mut scans = Vec::new(alloc);
-    let mut writes = 0;
+    let (mut writes, mut deletes) = (0, false);
     for (place, op) in ops.iter().enumerate() {
         match op.key() {
             Some(key) => points.push(Point::new(key, place, op.verb()))?,
             None => scans.push(place)?,
         }
         writes += writes_by(op);
+        deletes |= is_delete(op);
     }
     Ok(Lists {
         points,
         scans,
         writes,
+        deletes,
     })
 }
 
@@ -201,6 +220,16 @@ fn writes_by(op: &Op) -> usize
     match op {
         Op::Get(_) | Op::Scan { .. } | Op::Rscan { .. } => 0,
         Op::Insert(..) | Op::Upsert(..) | Op::Update(..) | Op::Delete(_) | Op::SwapIf(..) => 1,
+    }
+}
+
+// Whether an operation is a delete.
+fn is_delete(op: &Op) -> bool
+    ensures { result ≡ is_delete op.now }
+{
+    match op {
+        Op::Delete(_) => true,
+        _ => false,
     }
 }
 

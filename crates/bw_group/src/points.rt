@@ -83,7 +83,12 @@ impl<'a> Point<'a> {
         if self.prefix == other.prefix {
             self.by_length(other)
         } else {
-            compare_prefixed(self.key, self.prefix, other.key, other.prefix)
+            compare_prefixed(
+                self.key.bytes(),
+                self.prefix,
+                other.key.bytes(),
+                other.prefix,
+            )
         }
     }
 
@@ -105,7 +110,12 @@ impl<'a> Point<'a> {
         if self.len <= PREFIX_LEN || other.len <= PREFIX_LEN {
             self.len.cmp(&other.len)
         } else {
-            compare_prefixed(self.key, self.prefix, other.key, other.prefix)
+            compare_prefixed(
+                self.key.bytes(),
+                self.prefix,
+                other.key.bytes(),
+                other.prefix,
+            )
         }
     }
 
@@ -122,7 +132,12 @@ impl<'a> Point<'a> {
         ensures { result ≡ is_below_end (option_copied end.entry) self.now.key.now }
     {
         match end {
-            Some(end) => compare_prefixed(self.key, self.prefix, end, prefix).is_lt(),
+            Some(end) => compare_prefixed(
+                self.key.bytes(),
+                self.prefix,
+                end.bytes(),
+                prefix,
+            ).is_lt(),
             None => true,
         }
     }

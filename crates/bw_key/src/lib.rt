@@ -7,7 +7,6 @@ ghost use Rattle.bw_key.specs.Order.{key_cmp, key_eq, key_cmp_total, key_eq_laws
 ghost use Rattle.bw_key.specs.Prefixes.{key_prefix};
 ghost use Rattle.std.specs.Ordering.{as_partial_cmp};
 
-use crate::prefixes::prefix_of;
 use bw_memory::Alloc;
 use smallvec::SmallVec;
 use std::alloc::{AllocError, AllocFailed};
@@ -19,7 +18,7 @@ use thiserror::Error;
 mod prefixes;
 mod spelled_bytes;
 
-pub use prefixes::{compare_bytes, compare_prefixed};
+pub use prefixes::{compare_bytes, compare_prefixed, prefix_of};
 pub use spelled_bytes::Spelled;
 
 /// Out of memory, the same in every crate of the workspace: the allocator refused a growth, since the system has no
@@ -145,8 +144,7 @@ impl Key {
         self.bytes.as_slice()
     }
 
-    /// The first eight bytes as one number, the first of them at the top, with zeros behind a shorter key. Keys of
-    /// different prefixes stand as these do, so whoever sorts keeps them beside the keys (`compare_prefixed`).
+    /// The first eight bytes as one number, as `prefix_of` makes it of them.
     pub fn prefix(&self) -> u64
         ensures { result ≡ key_prefix self.now }
     {
@@ -209,6 +207,6 @@ impl Ord for Key {
     ghost matches_eq = { key_ties };
 
     fn cmp(&self, other: &Key) -> Ordering {
-        compare_prefixed(self, self.prefix(), other, other.prefix())
+        compare_prefixed(self.bytes(), self.prefix(), other.bytes(), other.prefix())
     }
 }

@@ -1,23 +1,21 @@
 // Keys by their first bytes as one number, which tells most of them apart.
-ghost use Rattle.std.specs.Prelude.{◌≡◌, ◌<◌, ◌≤◌, length, slice_index_or};
+ghost use Rattle.std.specs.Prelude.{◌≡◌, ◌<◌, slice_index_or};
 ghost use Rattle.bw_key.specs.Order.{key_cmp};
 ghost use Rattle.bw_key.specs.Prefixes.{IsBytes, key_prefix};
 
-use crate::Key;
 use std::cmp::Ordering;
 
 // So many bytes of a key are in its prefix.
 const PREFIX_LEN: usize = 8;
 
-/// How two keys stand, whose prefixes these are: `left.cmp(right)`. Keys that differ in their first eight bytes are told
-/// apart by one comparison of numbers, and not read.
+/// How the bytes of two keys stand, whose prefixes these are: as these keys do. Keys that differ in their first eight bytes
+/// are told apart by one comparison of numbers, and not read.
 #[inline(always)]
-pub fn compare_prefixed(left: &Key, left_prefix: u64, right: &Key, right_prefix: u64) -> Ordering
+pub fn compare_prefixed(left: &[u8], left_prefix: u64, right: &[u8], right_prefix: u64) -> Ordering
     requires left { left_prefix ≡ key_prefix left.now }
     requires right { right_prefix ≡ key_prefix right.now }
     ensures { result ≡ key_cmp left.now right.now }
 {
-    let (left, right) = (left.bytes(), right.bytes());
     know_bytes(left);
     know_bytes(right);
     match left_prefix.cmp(&right_prefix) {
@@ -58,8 +56,9 @@ fn compare_alike(left: &[u8], right: &[u8]) -> Ordering
     }
 }
 
-/// The first eight bytes as one number, the first of them at the top, with zeros behind a shorter list.
-pub(crate) fn prefix_of(bytes: &[u8]) -> u64
+/// The first eight bytes of a key as one number, the first of them at the top, with zeros behind a shorter key. Keys of
+/// different prefixes stand as these do, so whoever sorts keeps them beside the keys (`compare_prefixed`).
+pub fn prefix_of(bytes: &[u8]) -> u64
     ensures { result ≡ key_prefix bytes.now }
 {
     if bytes.len() < PREFIX_LEN {

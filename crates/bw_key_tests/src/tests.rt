@@ -52,7 +52,7 @@ fn keys_have_at_most_64_bytes(rt: HostRuntime) {
 // Compares two keys by each way to do so.
 fn stand<R: Abort>(rt: &R, left: &Key, right: &Key, order: Ordering) {
     assert_that(rt, left.cmp(right) == order);
-    let prefixed = compare_prefixed(left, left.prefix(), right, right.prefix());
+    let prefixed = compare_prefixed(left.bytes(), left.prefix(), right.bytes(), right.prefix());
     assert_that(rt, prefixed == order);
     assert_that(rt, compare_bytes(left.bytes(), right.bytes()) == order);
     assert_that(rt, left.partial_cmp(right) == Some(order));

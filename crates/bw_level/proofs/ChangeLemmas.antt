@@ -8,6 +8,6 @@ use Rattle.bw_level.specs.Changes.{Bases, change}
 
 -- a record of what the base page has already leaves the page as it is
 pub as_it_is : (bases : Bases) (d : Delta) (slot : Slot) →
-    ((sep : KeyBytes) × (base : ℕ) × (high : Option KeyBytes) × (side : Option ℕ) × (d ≡ Absorb sep base high side)) ⊎ ((sep : KeyBytes) × (d ≡ DropChild sep)) → change bases d slot ≡ slot
-as_it_is bases d slot (inl absorbed) = ap (λ (e : Delta). change bases e slot) absorbed.4
+    ((base : ℕ) × (side : Option ℕ) × (d ≡ Absorb base side)) ⊎ ((sep : KeyBytes) × (d ≡ DropChild sep)) → change bases d slot ≡ slot
+as_it_is bases d slot (inl absorbed) = ap (λ (e : Delta). change bases e slot) absorbed.2
 as_it_is bases d slot (inr dropped) = ap (λ (e : Delta). change bases e slot) dropped.1

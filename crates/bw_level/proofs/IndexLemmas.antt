@@ -174,7 +174,7 @@ starts_under key bases (Some d) inner none starts = by d.now none starts
     by : (d : Delta) → IsOther d → StartsUpto (change bases d (plain_inner inner)) key → IsUpto inner.low key
     by (Put w) h starts = absurd h
     by (Split k to) h starts = starts
-    by (Absorb k base high side) h starts = starts
+    by (Absorb base side) h starts = starts
     by (Removed left) h starts = absurd h
     by (AddChild k child) h starts = starts
     by (DropChild k) h starts = starts

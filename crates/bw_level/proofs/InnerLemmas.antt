@@ -74,7 +74,7 @@ over_any bases other (Some d) slot none = by d.now none
     by : (d : Delta) → IsOther d → change bases d slot ≡ change other d slot
     by (Put w) h = absurd h
     by (Split k to) h = refl
-    by (Absorb k base high side) h = refl
+    by (Absorb base side) h = refl
     by (Removed left) h = absurd h
     by (AddChild k child) h = refl
     by (DropChild k) h = refl

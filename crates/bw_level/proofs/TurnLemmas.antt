@@ -172,7 +172,7 @@ linked_before bases sep child (Live s) h = h
 
 -- so is one under any change but a write, a split and a removal
 pub linked_under : (d : Delta) (slot : Slot) →
-    ((sep : KeyBytes) × (child : ℕ) × (d ≡ AddChild sep child)) ⊎ (((sep : KeyBytes) × (base : ℕ) × (high : Option KeyBytes) × (side : Option ℕ) × (d ≡ Absorb sep base high side)) ⊎ ((sep : KeyBytes) × (d ≡ DropChild sep))) →
+    ((sep : KeyBytes) × (child : ℕ) × (d ≡ AddChild sep child)) ⊎ (((base : ℕ) × (side : Option ℕ) × (d ≡ Absorb base side)) ⊎ ((sep : KeyBytes) × (d ≡ DropChild sep))) →
     IsLinked (change [] d slot) → IsLinked slot
 linked_under d slot (inl added) linked = linked_before [] added.0 added.1 slot (subst (λ (e : Delta). IsLinked (change [] e slot)) added.2 linked)
 linked_under d slot (inr noted) linked = subst IsLinked (as_it_is [] d slot noted) linked

@@ -48,7 +48,7 @@ abbrev pub change : Bases → Delta → Slot → Slot
 change bases (Put w) slot = page_changed (λ s. record s { body = body_written w s.body }) slot
 change bases (Split k to) slot =
     page_changed (λ s. record s { high = Some k; side = Some to; body = body_below k s.body }) slot
-change bases (Absorb k base high side) slot = slot
+change bases (Absorb base side) slot = slot
 change bases (Removed left) slot = slot
 change bases (AddChild k child) slot = page_changed (λ s. record s { body = body_with_child k child s.body }) slot
 change bases (DropChild k) slot = slot

@@ -62,7 +62,7 @@ over bases (Some d) slot = change bases d.now slot
 abbrev pub IsOther : Delta → Type 0
 IsOther (Put w) = ⊥
 IsOther (Split k to) = Unit {0}
-IsOther (Absorb k base high side) = Unit {0}
+IsOther (Absorb base side) = Unit {0}
 IsOther (Removed left) = ⊥
 IsOther (AddChild k child) = Unit {0}
 IsOther (DropChild k) = Unit {0}

@@ -64,7 +64,7 @@ fn count_with_child(sep: &Key, base: &Page) -> usize
 fn count_pairs_below(leaf: &Leaf, key: &Key) -> usize
     ensures { result ≡ length (below key.now leaf.now.pairs) }
 {
-    place(&leaf.pairs().all(), key)
+    place(&leaf.pairs().all(), key.bytes())
 }
 
 // How many children of an inner page have a separator below this key, in about log2 n key comparisons.

@@ -3,7 +3,6 @@
 //! a plain program that answers by them, `ReferenceMap`, which every faster index is compared with.
 #![tactic(auto)]
 
-mod boxed_values;
 mod lists;
 mod operations;
 mod outcomes;
@@ -14,7 +13,6 @@ mod sorted;
 mod values;
 mod verbs;
 
-pub use boxed_values::BoxedValue;
 pub use lists::{Replies, to_vec};
 pub use operations::{Action, Op, Reply};
 pub use outcomes::Refusal;

@@ -5,7 +5,6 @@ ghost use Rattle.bw_model.specs.Actions.{effect, answer};
 ghost use Rattle.bw_model.specs.Model.{key_of, IsReplyAt};
 ghost use Rattle.bw_model.specs.Verbs.{verb_of};
 
-use crate::boxed_values::BoxedValue;
 use crate::values::Value;
 use crate::verbs::{Verb, swap_reply};
 use bw_key::{Key, Memory};
@@ -52,8 +51,8 @@ pub enum Action {
     Update(Value),
     /// Takes the value away.
     Delete,
-    /// Puts the second value in place of the first. They lie in boxes, so that no other write has room for two values.
-    SwapIf(BoxedValue, BoxedValue),
+    /// Puts the second value in place of the first.
+    SwapIf(Value, Value),
 }
 
 // Not derived: whoever drops one calls this, and its proof is spared the parts.

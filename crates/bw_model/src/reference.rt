@@ -5,7 +5,6 @@ ghost use Rattle.std.specs.FinMap as map;
 ghost use Rattle.bw_model.specs.Contents.{set_at, first_of_range, last_of_range};
 ghost use Rattle.bw_model.specs.Model.{answer_at, written_at, found, reply_of, after, replies_of, contents_after};
 
-use crate::boxed_values::BoxedValue;
 use crate::lists::Replies;
 use crate::operations::{Action, Op, Reply};
 use crate::sorted;
@@ -151,12 +150,7 @@ impl ReferenceMap {
             Op::Update(key, value) => self.write_made(key, Action::Update(value.copy()?)),
             Op::Delete(key) => self.write_made(key, Action::Delete),
             Op::SwapIf(key, old, new) => {
-                let alloc = *self.pairs.allocator();
-                let (old, new) = (
-                    BoxedValue::copy_of(alloc, old)?,
-                    BoxedValue::copy_of(alloc, new)?,
-                );
-                self.write_made(key, Action::SwapIf(old, new))
+                self.write_made(key, Action::SwapIf(old.copy()?, new.copy()?))
             }
             Op::Scan { from, to, most } => Ok(Reply::Pairs(self.scan(from, to.as_ref(), *most)?)),
             Op::Rscan { from, to, most } => Ok(Reply::Pairs(self.rscan(from, to.as_ref(), *most)?)),

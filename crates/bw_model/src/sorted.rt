@@ -1,5 +1,5 @@
 // A sorted list of pairs, read and changed at a key.
-ghost use Rattle.std.specs.Prelude.{◌≡◌, ◌≤◌, length, not, IsTrue, IfOk, OnOk, OnErr, filter, take, reverse};
+ghost use Rattle.std.specs.Prelude.{◌≡◌, ◌≤◌, length, not, IfOk, OnOk, OnErr, filter, take, reverse};
 ghost use Rattle.std.specs.FinMap.{find, put};
 ghost use Rattle.std.specs.Option.{option_copied};
 ghost use Rattle.bw_key.specs.Order.{key_cmp, key_eq};

@@ -12,22 +12,22 @@ use bw_memory::Alloc;
 use bw_model::{Pairs, Run};
 
 /// How many pairs at the front have a smaller key, in about log2 n key comparisons for n pairs.
-pub fn place(pairs: &Run<'_>, key: &Key) -> usize
+pub fn place(pairs: &Run<'_>, key: &[u8]) -> usize
     requires { T (is_sorted key_cmp pairs.now) }
     ensures value { result ≡ place_of key.now pairs.now }
     ensures bound { result ≤ length pairs.now }
 {
-    pairs.place(key.bytes())
+    pairs.place(key)
 }
 
 /// How many pairs at the front have a smaller key, in one key comparison where the key stands at the place `near`, and else
 /// in about log2 n and one more.
-pub fn place_near(pairs: &Run<'_>, key: &Key, near: usize) -> usize
+pub fn place_near(pairs: &Run<'_>, key: &[u8], near: usize) -> usize
     requires { T (is_sorted key_cmp pairs.now) }
     ensures value { result ≡ place_of key.now pairs.now }
     ensures bound { result ≤ length pairs.now }
 {
-    if near < pairs.len() && pairs.key_at(near) == key.bytes() {
+    if near < pairs.len() && pairs.key_at(near) == key {
         return near;
     }
     place(pairs, key)
@@ -40,9 +40,9 @@ pub(crate) fn value_near<'a>(pairs: &'a Pairs, key: &Key, near: usize) -> (Optio
     ensures value { option_copied result.0 ≡ find key_cmp key.now pairs.now }
     ensures bound { result.1 ≤ length pairs.now }
 {
-    let all = pairs.all();
+    let (all, key) = (pairs.all(), key.bytes());
     let at = place_near(&all, key, near);
-    if at < all.len() && all.key_at(at) == key.bytes() {
+    if at < all.len() && all.key_at(at) == key {
         (Some(all.value_at(at)), at + 1)
     } else {
         (None, at)
@@ -55,9 +55,9 @@ pub(crate) fn between<'a>(pairs: &'a Pairs, low: &Key, high: Option<&Key>) -> Ru
     ensures { result ≡ filter (is_pair_in_range low.now (option_copied high.entry)) pairs.now }
 {
     let all = pairs.all();
-    let (_front, rest) = all.split_at(place(&all, low));
+    let (_front, rest) = all.split_at(place(&all, low.bytes()));
     match high {
-        Some(high) => rest.split_at(place(&rest, high)).0,
+        Some(high) => rest.split_at(place(&rest, high.bytes())).0,
         None => rest,
     }
 }
@@ -102,6 +102,6 @@ pub(crate) fn keep_below(pairs: &mut Pairs, key: &Key)
     requires { T (is_sorted key_cmp pairs.old) }
     ensures { pairs.new ≡ below key.now pairs.old }
 {
-    let end = place(&pairs.all(), key);
+    let end = place(&pairs.all(), key.bytes());
     pairs.truncate(end);
 }

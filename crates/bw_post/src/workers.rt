@@ -167,7 +167,7 @@ fn home_at(tree: &Tree, homes: &Homes, number: u64) -> usize
     ensures there { result < length homes.now.pages }
     ensures home { IsHomeOfRecord tree.now homes.now.pages number result }
 {
-    let place = tree.staged_write(number).stamp - tree.next_stamp();
+    let place = tree.staged_write(number).stamp() - tree.next_stamp();
     homes.number_at(place as usize)
 }
 

@@ -13,10 +13,10 @@ module _ {A : Type 0} where
   abbrev pub AreFull : List (List A) → Type 0
   AreFull = All (λ segment. length segment ≡ 1024)
 
-  rest_full : (xs : List A) (full : List (List A)) → AreFull (xs ∷ full) → AreFull full
+  pub rest_full : (xs : List A) (full : List (List A)) → AreFull (xs ∷ full) → AreFull full
   rest_full xs full h k d lt = h (suc k) d (omega (arith, lt))
 
-  first_full : (xs : List A) (full : List (List A)) → AreFull (xs ∷ full) → length xs ≡ 1024
+  pub first_full : (xs : List A) (full : List (List A)) → AreFull (xs ∷ full) → length xs ≡ 1024
   first_full xs full h = h zero xs (omega arith)
 
   -- an entry of the first of two lists, and one of the second
@@ -174,3 +174,19 @@ module _ {A : Type 0} where
       ∙ sym (append_assoc front (x ∷ []) (drop (start + (place + 1)) old))
       ∙ ap (λ l. l ++ drop (start + (place + 1)) old) (append_assoc (take start old) (take place given) (x ∷ [])
       ∙ ap (λ l. take start old ++ l) (ap (λ z. take place given ++ z ∷ []) is ∙ sym (take_more given place x lt)))
+
+  -- a segment more of those that are added to a list
+  pub added_more : (old new xs list : List A) (segments rest : List (List A)) (last : List A) → segments ≡ xs ∷ rest → old ++ joined segments last ≡ list → new ≡ old ++ xs → new ++ joined rest last ≡ list
+  added_more old new xs list segments rest last is all added =
+      let behind = flat_map (λ (segment : List A). segment) rest in
+      ap (λ l. l ++ joined rest last) added
+      ∙ append_assoc old xs (joined rest last)
+      ∙ ap (λ l. old ++ l) (sym (append_assoc xs behind last))
+      ∙ ap (λ l. old ++ joined l last) (sym is)
+      ∙ all
+
+  -- what stood there stays the first
+  pub still_first : (before old new xs : List A) → take (length before) old ≡ before → new ≡ old ++ xs → take (length before) new ≡ before
+  still_first before old new xs first added =
+      let short : length before ≤ length old = omega (arith, ap length first, length-take (length before) old) in
+      ap (take (length before)) added ∙ take-append-le (length before) old xs short ∙ first

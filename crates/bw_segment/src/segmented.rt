@@ -1,5 +1,5 @@
 // Lists in segments.
-ghost use Rattle.std.specs.Prelude.{◌≡◌, ◌+◌, ◌<◌, ◌≤◌, ◌++◌, ◌∷◌, [], length, take, drop, slice_get, slice_set, vec_capacity, Some, OnOk, OnErr};
+ghost use Rattle.std.specs.Prelude.{◌≡◌, ◌+◌, ◌^◌, ◌<◌, ◌≤◌, ◌++◌, ◌∷◌, [], length, take, drop, slice_get, slice_set, vec_capacity, Some, IfOk, OnOk, OnErr};
 ghost use Rattle.std.specs.Option.{option_map};
 
 use bw_key::Memory;
@@ -56,6 +56,17 @@ impl<T: Drop> Segmented<T> {
             full: Vec::new(alloc),
             last: Vec::new(alloc),
         }
+    }
+
+    /// An empty list with room for so many entries, or for a segment of them where they are more. `Memory` is answered where
+    /// that is refused.
+    pub fn with_capacity(alloc: Alloc, capacity: usize) -> Result<Segmented<T>, Memory>
+        ensures { IfOk result (λ list. list.items ≡ []) }
+    {
+        Ok(Segmented {
+            full: Vec::new(alloc),
+            last: Vec::with_capacity(alloc, capacity.min(SEGMENT))?,
+        })
     }
 
     /// The allocator that the list has its memory from. Contracts don't see it.
@@ -118,13 +129,8 @@ impl<T: Drop> Segmented<T> {
             self.last.reserve(1)?;
             return Ok(());
         }
-        if self.full.len() == SEGMENTS_MAX {
-            return Err(Memory);
-        }
-        self.full.reserve(1)?;
         let next = Vec::with_capacity(*self.last.allocator(), SEGMENT)?;
-        self.full.push_reserved(mem::replace(&mut self.last, next));
-        Ok(())
+        begin_segment(&mut self.full, &mut self.last, next)
     }
 
     /// Adds an entry behind the others. It takes no memory: room was made.
@@ -143,6 +149,52 @@ impl<T: Drop> Segmented<T> {
     {
         self.make_room()?;
         self.push_reserved(entry);
+        Ok(())
+    }
+
+    /// Adds the entries of another list behind the others. Where this list has a multiple of `SEGMENT` entries, each segment
+    /// of the other that stands behind full ones is taken as it is, and no entry is moved. Else they are moved one by one.
+    /// `Memory` is answered as by `make_room`, and then the list is as before.
+    pub fn append(&mut self, other: Segmented<T>) -> Result<(), Memory>
+        ensures ok { OnOk result (self.new.items ≡ self.old.items ++ other.items) }
+        ensures err { OnErr result (self.new.items ≡ self.old.items) }
+    {
+        let len = self.len();
+        let appended = self.append_segments(other);
+        if appended.is_err() {
+            self.truncate(len);
+        }
+        appended
+    }
+
+    // Adds the entries of another list, or some of them.
+    fn append_segments(&mut self, other: Segmented<T>) -> Result<(), Memory>
+        ensures ok { OnOk result (self.new.items ≡ self.old.items ++ other.items) }
+        ensures others { take (length self.old.items) self.new.items ≡ self.old.items }
+    {
+        let Segmented { full, last } = other;
+        for segment in full {
+            self.append_segment(segment)?;
+        }
+        self.append_segment(last)
+    }
+
+    // Adds the entries of a segment, or some of them.
+    fn append_segment(&mut self, segment: Vec<T, Alloc>) -> Result<(), Memory>
+        requires { length segment.items ≤ 1024 }
+        ensures ok { OnOk result (self.new.items ≡ self.old.items ++ segment.entry.items) }
+        ensures others { take (length self.old.items) self.new.items ≡ self.old.items }
+    {
+        if self.last.is_empty() {
+            self.last = segment;
+            return Ok(());
+        }
+        if self.last.len() == SEGMENT {
+            return begin_segment(&mut self.full, &mut self.last, segment);
+        }
+        for entry in segment {
+            self.push(entry)?;
+        }
         Ok(())
     }
 
@@ -182,6 +234,25 @@ impl<T: Copy + Drop> Segmented<T> {
             self.set(start + place, *entry);
         }
     }
+}
+
+// Puts the last segment behind the full ones, as it is full, too, and another in its place. After `Memory` all is as before.
+fn begin_segment<T: Drop>(
+    full: &mut Vec<Vec<T, Alloc>, Alloc>,
+    last: &mut Vec<T, Alloc>,
+    next: Vec<T, Alloc>,
+) -> Result<(), Memory>
+    ensures full { OnOk result (full.new.items ≡ full.old.items ++ last.old ∷ []) }
+    ensures last { OnOk result (last.new ≡ next.entry) }
+    ensures few { OnOk result (length full.new.items ≤ 2 ^ 32) }
+    ensures err { OnErr result ((full.new.items ≡ full.old.items) × (last.new ≡ last.old)) }
+{
+    if full.len() >= SEGMENTS_MAX {
+        return Err(Memory);
+    }
+    full.reserve(1)?;
+    full.push_reserved(mem::replace(last, next));
+    Ok(())
 }
 
 // Leaves the first `len` entries. Where some went and the others take under a quarter of the room, as much again is left.

@@ -436,7 +436,7 @@ is_leaf_still bases (Split k to) (Live s) = by s.body
     by (Children level children) = refl
 is_leaf_still bases (Split k to) (Gone l) = refl
 is_leaf_still bases (Split k to) Free = refl
-is_leaf_still bases (Absorb k base high side) slot = refl
+is_leaf_still bases (Absorb base side) slot = refl
 is_leaf_still bases (Removed left) slot = refl
 is_leaf_still bases (AddChild k child) (Live s) = by s.body
   where

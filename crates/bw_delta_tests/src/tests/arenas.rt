@@ -36,20 +36,22 @@ fn three<R: Abort>(rt: &R, alloc: Alloc) -> Arena {
     records(rt, alloc, 3)
 }
 
-// Whether a record is this one, and has this link.
-fn has(arena: &Arena, at: usize, wanted: &Delta, link: u64) -> bool {
+// Whether a record is the delete with this stamp, and has this link.
+fn has(arena: &Arena, at: usize, stamp: u64, link: u64) -> bool {
     match arena.get(at) {
-        Some(found) => *found.0 == *wanted && found.1 == link,
-        None => false,
+        Some((Delta::Put(write), found)) => {
+            let is_at_a = write.key() == b"a".as_slice() && write.effect(Some(&[])).is_none();
+            write.stamp() == stamp && is_at_a && found == link
+        }
+        _ => false,
     }
 }
 
 // Compares the records, whose stamps are their places, with these links.
-fn same<R: Abort>(rt: &R, alloc: Alloc, arena: &Arena, links: &[u64]) {
+fn same<R: Abort>(rt: &R, arena: &Arena, links: &[u64]) {
     assert_equal(rt, arena.len(), links.len());
     for (at, link) in links.iter().enumerate() {
-        let wanted = put(rt, alloc, at as u64);
-        assert_that(rt, has(arena, at, &wanted, *link));
+        assert_that(rt, has(arena, at, at as u64, *link));
         assert_equal(rt, arena.link(at), Some(*link));
     }
     assert_that(
@@ -61,8 +63,8 @@ fn same<R: Abort>(rt: &R, alloc: Alloc, arena: &Arena, links: &[u64]) {
 #[test]
 fn an_arena_has_its_records_in_order(rt: HostRuntime) {
     let alloc = heap(&rt, rt.alloc());
-    same(&rt, alloc, &Arena::new(alloc), &[]);
-    same(&rt, alloc, &three(&rt, alloc), &[10, 11, 12]);
+    same(&rt, &Arena::new(alloc), &[]);
+    same(&rt, &three(&rt, alloc), &[10, 11, 12]);
 }
 
 #[test]
@@ -73,9 +75,9 @@ fn links_are_set_from_a_place_on(rt: HostRuntime) {
         panic!(rt; "three records");
     }
     arena.set_links(1, &[20, 21]);
-    same(&rt, alloc, &arena, &[10, 20, 21]);
+    same(&rt, &arena, &[10, 20, 21]);
     arena.set_links(0, &[30]);
-    same(&rt, alloc, &arena, &[30, 20, 21]);
+    same(&rt, &arena, &[30, 20, 21]);
 }
 
 #[test]
@@ -83,11 +85,11 @@ fn records_behind_a_place_are_left_out(rt: HostRuntime) {
     let alloc = heap(&rt, rt.alloc());
     let mut arena = three(&rt, alloc);
     arena.truncate(5);
-    same(&rt, alloc, &arena, &[10, 11, 12]);
+    same(&rt, &arena, &[10, 11, 12]);
     arena.truncate(2);
-    same(&rt, alloc, &arena, &[10, 11]);
+    same(&rt, &arena, &[10, 11]);
     arena.clear();
-    same(&rt, alloc, &arena, &[]);
+    same(&rt, &arena, &[]);
 }
 
 #[test]
@@ -100,7 +102,7 @@ fn a_reserved_record_takes_no_memory(rt: HostRuntime) {
     arena.append(delta, 13);
     assert_equal(&rt, alloc.left(), 1);
     alloc.refuse(0);
-    same(&rt, alloc, &arena, &[10, 11, 12, 13]);
+    same(&rt, &arena, &[10, 11, 12, 13]);
 }
 
 // An arena whose two lists are full doesn't grow where this growth is refused.
@@ -110,7 +112,7 @@ fn growth_is_refused<R: Abort>(rt: &R, alloc: Alloc, growth: u64) {
     assert_equal(rt, arena.make_room(), Err(Memory));
     assert_equal(rt, alloc.left(), 0);
     alloc.refuse(0);
-    same(rt, alloc, &arena, &[]);
+    same(rt, &arena, &[]);
 }
 
 #[test]
@@ -121,20 +123,17 @@ fn refused_room_leaves_the_records(rt: HostRuntime) {
 }
 
 // Compares the records from one place up to another, whose stamps are their places, and whose links are so much more.
-fn stand<R: Abort>(rt: &R, alloc: Alloc, arena: &Arena, (from, to): (u64, u64), more: u64) {
+fn stand<R: Abort>(rt: &R, arena: &Arena, (from, to): (u64, u64), more: u64) {
     for place in from..to {
-        let wanted = put(rt, alloc, place);
-        assert_that(
-            rt,
-            has(arena, place as usize, &wanted, place.saturating_add(more)),
-        );
+        let link = place.saturating_add(more);
+        assert_that(rt, has(arena, place as usize, place, link));
     }
 }
 
 // Compares an arena with the records of the stamps below one.
-fn are_records<R: Abort>(rt: &R, alloc: Alloc, arena: &Arena, count: u64) {
+fn are_records<R: Abort>(rt: &R, arena: &Arena, count: u64) {
     assert_equal(rt, arena.len() as u64, count);
-    stand(rt, alloc, arena, (0, count), 10);
+    stand(rt, arena, (0, count), 10);
     assert_that(
         rt,
         arena.get(count as usize).is_none() && arena.link(count as usize).is_none(),
@@ -148,9 +147,9 @@ fn segment_is_refused<R: Abort>(rt: &R, alloc: Alloc, growth: u64) -> bool {
     alloc.refuse(growth);
     let refused = arena.make_room() == Err(Memory);
     assert_equal(rt, was_refused(alloc, growth), refused);
-    are_records(rt, alloc, &arena, 1024);
+    are_records(rt, &arena, 1024);
     add(rt, alloc, &mut arena, 1024, 1025);
-    are_records(rt, alloc, &arena, 1025);
+    are_records(rt, &arena, 1025);
     refused
 }
 
@@ -176,18 +175,18 @@ fn links_are_set_across_segments(rt: HostRuntime) {
     }
     arena.set_links(1022, &[1122, 1123, 1124, 1125]);
     assert_equal(&rt, arena.len(), 1030);
-    stand(&rt, alloc, &arena, (0, 1022), 10);
-    stand(&rt, alloc, &arena, (1022, 1026), 100);
-    stand(&rt, alloc, &arena, (1026, 1030), 10);
+    stand(&rt, &arena, (0, 1022), 10);
+    stand(&rt, &arena, (1022, 1026), 100);
+    stand(&rt, &arena, (1026, 1030), 10);
 }
 
 // Cuts an arena of 1,030 records to so many, and adds the others again.
 fn is_cut<R: Abort>(rt: &R, alloc: Alloc, len: u64) {
     let mut arena = records(rt, alloc, 1030);
     arena.truncate(len as usize);
-    are_records(rt, alloc, &arena, len);
+    are_records(rt, &arena, len);
     add(rt, alloc, &mut arena, len, 1030);
-    are_records(rt, alloc, &arena, 1030);
+    are_records(rt, &arena, 1030);
 }
 
 #[test]

@@ -4,7 +4,7 @@ ghost use Rattle.std.specs.List.{AllByRecursion};
 ghost use Rattle.bw_delta.specs.History.{pointed_to, HasDistinctStamps};
 
 use crate::tests::assertions::assert_equal;
-use bw_delta::{Action, Memory, Replay, Write, leaf_as_of, value_as_of};
+use bw_delta::{Memory, Op, Replay, Write, leaf_as_of, value_as_of};
 use bw_fixtures::{are, pair, two};
 use bw_key::Key;
 use bw_memory::{Alloc, Heap};
@@ -54,27 +54,34 @@ pub fn a_and_b<R: Abort>(rt: &R, alloc: Alloc) -> Leaf {
     Leaf::from_pairs(least, None, None, pairs)
 }
 
-/// The write of an action at a key of these bytes.
-pub fn write<R: Abort>(rt: &R, alloc: Alloc, stamp: u64, bytes: &[u8], action: Action) -> Write {
-    let key = key(rt, alloc, bytes);
-    Write { stamp, key, action }
+/// The write of an operation. One that writes nothing is a fault.
+pub fn write<R: Abort>(rt: &R, alloc: Alloc, stamp: u64, op: &Op) -> Write {
+    match Write::from_op(alloc, op, stamp, Write::size_of_op(op)).expect(rt, "memory") {
+        Some(write) => write,
+        None => panic!(rt; "a read writes nothing"),
+    }
+}
+
+/// A delete.
+pub fn delete_at<R: Abort>(rt: &R, alloc: Alloc, stamp: u64, at: &[u8]) -> Write {
+    write(rt, alloc, stamp, &Op::Delete(key(rt, alloc, at)))
 }
 
 /// The delete of `a` with this stamp.
 pub fn delete<R: Abort>(rt: &R, alloc: Alloc, stamp: u64) -> Write {
-    write(rt, alloc, stamp, b"a", Action::Delete)
+    delete_at(rt, alloc, stamp, b"a")
 }
 
 /// An insert.
 pub fn insert<R: Abort>(rt: &R, alloc: Alloc, stamp: u64, at: &[u8], bytes: &[u8]) -> Write {
-    let action = Action::Insert(value(rt, alloc, bytes));
-    write(rt, alloc, stamp, at, action)
+    let op = Op::Insert(key(rt, alloc, at), value(rt, alloc, bytes));
+    write(rt, alloc, stamp, &op)
 }
 
 /// An update at `a`.
 pub fn update<R: Abort>(rt: &R, alloc: Alloc, stamp: u64, bytes: &[u8]) -> Write {
-    let action = Action::Update(value(rt, alloc, bytes));
-    write(rt, alloc, stamp, b"a", action)
+    let op = Op::Update(key(rt, alloc, b"a"), value(rt, alloc, bytes));
+    write(rt, alloc, stamp, &op)
 }
 
 /// Whether `a` alone is left, with the wanted value, or nothing where none is wanted.
@@ -91,7 +98,7 @@ fn is_new(stamp: u64, writes: &[&Write]) -> bool
         (map (λ write. write.stamp) (pointed_to writes.now)) }
 {
     match writes.split_first() {
-        Some((first, rest)) => stamp != first.stamp && is_new(stamp, rest),
+        Some((first, rest)) => stamp != first.stamp() && is_new(stamp, rest),
         None => true,
     }
 }
@@ -101,7 +108,7 @@ pub fn are_distinct(writes: &[&Write]) -> bool
     ensures { result ≡ true → HasDistinctStamps (pointed_to writes.now) }
 {
     match writes.split_first() {
-        Some((first, rest)) => is_new(first.stamp, rest) && are_distinct(rest),
+        Some((first, rest)) => is_new(first.stamp(), rest) && are_distinct(rest),
         None => true,
     }
 }

@@ -1,9 +1,10 @@
 // More keys changed than a replay leaves beside the pairs of its page.
 use super::making::{
-    a_and_b, advanced, first, heap, heap_within, insert, key, last, pairs_under, replay_of, write,
+    a_and_b, advanced, delete_at, first, heap, heap_within, insert, key, last, pairs_under,
+    replay_of,
 };
 use crate::tests::assertions::{assert_equal, assert_that};
-use bw_delta::{Action, Memory, Replay, Write};
+use bw_delta::{Memory, Replay, Write};
 use bw_fixtures::{LONG, was_refused};
 use bw_key::Key;
 use bw_memory::Alloc;
@@ -48,7 +49,7 @@ fn write_at<R: Abort>(rt: &R, alloc: Alloc, stamp: usize, bytes: &[u8]) -> Write
     if stamp < INSERTED.len() {
         return insert(rt, alloc, stamp as u64, bytes, bytes);
     }
-    write(rt, alloc, stamp as u64, bytes, Action::Delete)
+    delete_at(rt, alloc, stamp as u64, bytes)
 }
 
 // All writes.

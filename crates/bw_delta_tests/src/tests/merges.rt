@@ -1,11 +1,13 @@
 // The pairs of one part merged with the writes, and those of replays, where each write has its effect by itself.
-use super::making::{are_distinct, first, heap, key, last, leaf_of, pairs_under, replay_at, value};
+use super::making::{
+    are_distinct, first, heap, key, last, leaf_of, pairs_under, replay_at, value, write,
+};
 use crate::tests::assertions::{assert_equal, assert_that};
-use bw_delta::{Action, Write, leaf_as_of};
+use bw_delta::{Op, Write, leaf_as_of};
 use bw_fixtures::{LONG, Random, are};
 use bw_key::Key;
 use bw_memory::Alloc;
-use bw_model::{BoxedValue, Pairs, Value};
+use bw_model::{Pairs, Value};
 use bw_page::Leaf;
 use std::process::Abort;
 
@@ -25,22 +27,17 @@ fn drawn_value<R: Abort>(rt: &R, alloc: Alloc, random: &mut Random) -> Value {
     value(rt, alloc, VALUES[random.below(3)])
 }
 
-// The same in a box.
-fn drawn_boxed<R: Abort>(rt: &R, alloc: Alloc, random: &mut Random) -> BoxedValue {
-    let value = drawn_value(rt, alloc, random);
-    BoxedValue::copy_of(alloc, &value).expect(rt, "memory")
-}
-
-// An action.
-fn drawn_action<R: Abort>(rt: &R, alloc: Alloc, random: &mut Random) -> Action {
+// An operation that writes.
+fn drawn_op<R: Abort>(rt: &R, alloc: Alloc, random: &mut Random) -> Op {
+    let key = drawn_key(rt, alloc, random);
     match random.below(5) {
-        0 => Action::Insert(drawn_value(rt, alloc, random)),
-        1 => Action::Upsert(drawn_value(rt, alloc, random)),
-        2 => Action::Update(drawn_value(rt, alloc, random)),
-        3 => Action::Delete,
+        0 => Op::Insert(key, drawn_value(rt, alloc, random)),
+        1 => Op::Upsert(key, drawn_value(rt, alloc, random)),
+        2 => Op::Update(key, drawn_value(rt, alloc, random)),
+        3 => Op::Delete(key),
         _ => {
-            let old = drawn_boxed(rt, alloc, random);
-            Action::SwapIf(old, drawn_boxed(rt, alloc, random))
+            let old = drawn_value(rt, alloc, random);
+            Op::SwapIf(key, old, drawn_value(rt, alloc, random))
         }
     }
 }
@@ -51,10 +48,9 @@ fn drawn_writes<R: Abort>(rt: &R, alloc: Alloc, random: &mut Random) -> Vec<Writ
     let mut writes = Vec::new(alloc);
     for at in 0..8 {
         let stamp = (at * 5 + first) % 11;
-        let action = drawn_action(rt, alloc, random);
-        let key = drawn_key(rt, alloc, random);
+        let op = drawn_op(rt, alloc, random);
         writes
-            .push(Write { stamp, key, action })
+            .push(write(rt, alloc, stamp, &op))
             .expect(rt, "memory");
     }
     writes

@@ -1,10 +1,10 @@
 // What stamped writes leave, in each order of the slice.
 use super::making::{
-    TextPair, delete, heap, insert, is_left, key, leaf_of, pairs_under, update, value, value_under,
-    write,
+    TextPair, delete, delete_at, heap, insert, is_left, key, leaf_of, pairs_under, update, value,
+    value_under, write,
 };
 use crate::tests::assertions::assert_that;
-use bw_delta::{Action, Write, contents_are_history};
+use bw_delta::{Op, Write, contents_are_history};
 use bw_fixtures::{are, pair, two, up_to_c};
 use bw_key::Key;
 use bw_memory::Alloc;
@@ -99,9 +99,9 @@ fn compare_range<R: Abort>(
     wanted: &[TextPair],
 ) {
     let (first, second) = (up_to_c(alloc).expect(rt, "memory"), from_c(rt, alloc));
-    let upsert = Action::Upsert(value(rt, alloc, b"9"));
-    let c = write(rt, alloc, 2, b"c", Action::Delete);
-    let a = write(rt, alloc, 0, b"a", upsert);
+    let upsert = Op::Upsert(key(rt, alloc, b"a"), value(rt, alloc, b"9"));
+    let c = delete_at(rt, alloc, 2, b"c");
+    let a = write(rt, alloc, 0, &upsert);
     let d = insert(rt, alloc, 1, b"d", b"4");
     let pairs = pairs_under(rt, alloc, &[&first, &second], range, &[&c, &a, &d], stamp);
     assert_that(rt, are(&pairs.expect(rt, "memory"), wanted));

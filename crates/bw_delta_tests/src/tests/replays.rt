@@ -1,10 +1,10 @@
 // The pairs of a page as of stamps that rise.
 use super::making::{
-    TextPair, a_and_b, advanced, delete, first, heap, heap_within, insert, is_left, key, last,
-    leaf_of, replay_at, replay_of, update, write,
+    TextPair, a_and_b, advanced, delete, delete_at, first, heap, heap_within, insert, is_left, key,
+    last, leaf_of, replay_at, replay_of, update,
 };
 use crate::tests::assertions::{assert_equal, assert_that};
-use bw_delta::{Action, Memory, Replay, Write};
+use bw_delta::{Memory, Replay, Write};
 use bw_fixtures::{LONG, are, was_refused};
 use bw_key::Key;
 use bw_memory::Alloc;
@@ -151,7 +151,7 @@ fn a_key_that_comes_and_goes_is_no_change(rt: HostRuntime) {
     let alloc = heap_within(&rt, rt.alloc(), 65536);
     let stays = insert(&rt, alloc, 1, b"b", b"2");
     let comes = insert(&rt, alloc, 2, LONG, LONG);
-    let goes = write(&rt, alloc, 3, LONG, Action::Delete);
+    let goes = delete_at(&rt, alloc, 3, LONG);
     let (absent, late) = (delete(&rt, alloc, 2), delete(&rt, alloc, 3));
     let empty = Leaf::empty(alloc);
     let used = used_by(&rt, alloc, &empty, &[&stays, &absent, &late]);
@@ -166,6 +166,15 @@ fn a_write_without_an_effect_is_no_change(rt: HostRuntime) {
     let leaf = leaf_of(&rt, alloc, LONG);
     let insert = insert(&rt, alloc, 1, b"a", b"2");
     advances_in(&rt, alloc, &leaf, &[&insert], (2, 0));
+}
+
+// A replay looks a key up by a copy of it.
+#[test]
+fn a_write_without_an_effect_at_a_long_key_takes_a_growth(rt: HostRuntime) {
+    let alloc = heap(&rt, rt.alloc());
+    let leaf = leaf_of(&rt, alloc, b"1");
+    let delete = delete_at(&rt, alloc, 1, LONG);
+    advances_in(&rt, alloc, &leaf, &[&delete], (2, 1));
 }
 
 #[test]

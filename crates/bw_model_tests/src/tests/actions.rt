@@ -15,7 +15,7 @@ fn action_of<R: Abort>(rt: &R, make: &Maker<R>, text: TextOp) -> Action {
         TextOp::Upsert(_, put) => Action::Upsert(make.value(put)),
         TextOp::Update(_, put) => Action::Update(make.value(put)),
         TextOp::Delete(_) => Action::Delete,
-        TextOp::SwapIf(_, old, new) => Action::SwapIf(make.boxed_value(old), make.boxed_value(new)),
+        TextOp::SwapIf(_, old, new) => Action::SwapIf(make.value(old), make.value(new)),
         _ => panic!(rt; "an operation that writes"),
     }
 }

@@ -3,7 +3,7 @@ pub use bw_fixtures::TextPair as Pair;
 use bw_fixtures::{TextOp, TextReply, end, heap, key, op, ops, text_pairs, value};
 use bw_key::Key;
 use bw_memory::Alloc;
-use bw_model::{BoxedValue, Op, Pairs, Reply, Value};
+use bw_model::{Op, Pairs, Reply, Value};
 use std::alloc::Global;
 use std::process::Abort;
 
@@ -34,10 +34,6 @@ impl<'a, R: Abort> Maker<'a, R> {
 
     pub fn value(&self, text: &str) -> Value {
         value(self.alloc, text.as_bytes()).expect(self.rt, "a value")
-    }
-
-    pub fn boxed_value(&self, text: &str) -> BoxedValue {
-        BoxedValue::copy_of(self.alloc, &self.value(text)).expect(self.rt, "a value in a box")
     }
 
     pub fn pairs(&self, texts: &[Pair]) -> Pairs {

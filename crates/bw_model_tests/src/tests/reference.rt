@@ -105,7 +105,7 @@ fn each_operation_over_a_key_that_is_not_there(rt: HostRuntime) {
 
 // Compares the reply to a write that puts a long value in place of 1.
 fn swaps<R: Abort>(rt: &R, make: &Maker<R>, map: &mut ReferenceMap, key: &Key) {
-    let action = Action::SwapIf(make.boxed_value("1"), make.boxed_value(LONG));
+    let action = Action::SwapIf(make.value("1"), make.value(LONG));
     let answer = map.write(key, &action).expect(rt, "memory");
     assert_that(rt, is_reply(&answer, TextReply::Was("1")));
 }

@@ -2,7 +2,7 @@
 use super::making::Maker;
 use crate::tests::assertions::{assert_equal, assert_that};
 use bw_memory::{Alloc, Heap};
-use bw_model::{BoxedValue, Memory, Pairs, Refusal, Replies, Reply, Value, ValueFault};
+use bw_model::{Memory, Pairs, Refusal, Replies, Reply, Value, ValueFault};
 use std::process::Abort;
 use std::test::Fail;
 
@@ -54,9 +54,8 @@ fn values_are_equal_where_their_bytes_are(rt: HostRuntime) {
 }
 
 #[test]
-fn a_value_is_48_bytes_and_one_in_a_box_16(rt: HostRuntime) {
+fn a_value_is_48_bytes(rt: HostRuntime) {
     assert_equal(&rt, size_of::<Value>(), 48);
-    assert_equal(&rt, size_of::<BoxedValue>(), 16);
 }
 
 #[test]

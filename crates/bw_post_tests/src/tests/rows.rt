@@ -224,7 +224,7 @@ fn leaf_at<R: Abort>(rt: &R, alloc: Alloc, tree: &Tree, bytes: &[u8]) -> PageId
 // The stamp of a leaf's write at a place.
 fn stamp_at(leaf: &LeafChain<'_>, place: usize) -> Option<u64> {
     let write = leaf.writes.get(place)?;
-    Some(write.stamp)
+    Some(write.stamp())
 }
 
 // Compares what is read of a leaf of all keys without pairs that was written twice.

@@ -25,6 +25,7 @@ use bw_memory::Alloc;
 use bw_model::Op;
 use bw_page::PageId;
 use std::mem;
+use std::thread::Threads;
 
 impl Tree {
     /// Stages a batch: each of its writes becomes a record, in the order of the batch, and the operation at place i has
@@ -46,13 +47,47 @@ impl Tree {
         ensures reads { OnOk result (IsReadInTurn self.old self.new ops.now) }
     {
         let places = places_of(*self.heads.allocator(), ops)?;
-        self.stage_in_order(ops, &places)
+        self.stage_at(ops, &places)
     }
 
     /// The same with the records in another order: that of these places of operations, among which each operation that writes
     /// is once, so that no list of them is made here. Whoever gives them in the order of their keys has the records of a page
     /// lie side by side, so that its chain is read as one piece.
-    pub fn stage_in_order(&mut self, ops: &[Op], places: &[u32]) -> Result<Staged, Memory>
+    ///
+    /// The records of many writes are made by up to `workers` threads side by side, one for each 4,096 places at the most, and
+    /// `rt` starts them. Of 0 and of 1 none is started.
+    pub fn stage_in_order<R: Threads + Sync>(
+        &mut self,
+        rt: &R,
+        ops: &[Op],
+        places: &[u32],
+        workers: u64,
+    ) -> Result<Staged, Memory>
+        requires none { self.old.staged ≡ None }
+        requires fits { self.old.next + length ops.now ≤ 2 ^ 40 }
+        requires there { AllByRecursion (λ p. p < length ops.now) places.now }
+        requires all { AreAllWritePlaces ops.now places.now }
+        ensures ok { let writes = writes_at_places self.old.next ops.now places.now in
+            OnOk result (self.new ≡ staged_with self.old (length ops.now) writes) }
+        ensures err { OnErr result (self.new ≡ self.old) }
+        ensures base { IfOk result (λ staged. staged.base ≡ self.old.next) }
+        ensures floor { IfOk result (λ staged. staged.floor ≡ 2 ^ 32 + self.old.records) }
+        ensures records { IfOk result (λ staged. staged.records ≡ length (writes_of self.old.next ops.now)) }
+        ensures reads { OnOk result (IsReadInTurn self.old self.new ops.now) }
+    {
+        let records = self.chains.len();
+        self.chains
+            .append_writes_by(rt, ops, self.next, places, workers)?;
+        self.staged.replace(stage_behind(records, ops));
+        Ok(Staged {
+            base: self.next,
+            floor: FLOOR + records as u64,
+            records: (self.chains.len() - records) as u64,
+        })
+    }
+
+    // The same by one worker.
+    fn stage_at(&mut self, ops: &[Op], places: &[u32]) -> Result<Staged, Memory>
         requires none { self.old.staged ≡ None }
         requires fits { self.old.next + length ops.now ≤ 2 ^ 40 }
         requires there { AllByRecursion (λ p. p < length ops.now) places.now }
@@ -67,11 +102,7 @@ impl Tree {
     {
         let records = self.chains.len();
         self.chains.append_writes(ops, self.next, places)?;
-        self.staged.replace(Stage {
-            records,
-            ops: ops.len() as u64,
-            before: None,
-        });
+        self.staged.replace(stage_behind(records, ops));
         Ok(Staged {
             base: self.next,
             floor: FLOOR + records as u64,
@@ -214,6 +245,17 @@ impl Tree {
                 before.put_back(&mut self.heads, &mut self.chains);
             }
         }
+    }
+}
+
+// What is kept of a batch whose records stand behind so many.
+fn stage_behind(records: usize, ops: &[Op]) -> Stage
+    ensures { result ≡ record { records = records; ops = length ops.now; before = None } }
+{
+    Stage {
+        records,
+        ops: ops.len() as u64,
+        before: None,
     }
 }
 

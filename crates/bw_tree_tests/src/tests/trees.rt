@@ -3,7 +3,7 @@ use super::making::{
     empty, has, has_no_batch, heap, key, leaf_of_key, one, stage, stands, three_leaves, value,
 };
 use crate::tests::assertions::{assert_equal, assert_that};
-use bw_delta::{Action, Write};
+use bw_delta::Write;
 use bw_memory::Alloc;
 use bw_model::Op;
 use bw_tree::{PageId, Staged, Tree};
@@ -135,18 +135,13 @@ fn each_staged_write_has_the_stamp_of_its_operation(rt: HostRuntime) {
         Op::Delete(key(&rt, alloc, b"e")),
     ];
     stage(&rt, &mut tree, &ops).expect(&rt, "memory");
-    let upsert = Write {
-        stamp: 0,
-        key: key(&rt, alloc, b"c"),
-        action: Action::Upsert(value(&rt, alloc, b"9")),
-    };
-    assert_that(&rt, *staged_write(&rt, &tree, 0) == upsert);
-    let delete = Write {
-        stamp: 2,
-        key: key(&rt, alloc, b"e"),
-        action: Action::Delete,
-    };
-    assert_that(&rt, *staged_write(&rt, &tree, 1) == delete);
+    let upsert = staged_write(&rt, &tree, 0);
+    assert_that(&rt, upsert.stamp() == 0 && upsert.key() == b"c".as_slice());
+    assert_equal(&rt, upsert.effect(None), Some(b"9".as_slice()));
+    assert_equal(&rt, upsert.effect(Some(&[])), Some(b"9".as_slice()));
+    let delete = staged_write(&rt, &tree, 1);
+    assert_that(&rt, delete.stamp() == 2 && delete.key() == b"e".as_slice());
+    assert_that(&rt, delete.effect(Some(b"5".as_slice())).is_none());
 }
 
 #[test]

@@ -1,7 +1,9 @@
 use Rattle.std.proofs.Common.{◌≡◌, ◌≤◌, ◌+◌, ℕ, List, length, sym, ap, take, subst, ◌∙◌, arith}
+use Rattle.std.specs.List.{list_any}
 use Rattle.bw_model.specs.Model.{contents_after, replies_of}
 use Rattle.bw_model.specs.declared.operations.Op.{Op}
 use Rattle.bw_look.specs.View.{TreeView, contents_with}
+use Rattle.bw_group.specs.Points.{is_delete}
 use Rattle.bw_batch.specs.Settings.{limits_of, most_lost}
 use Rattle.bw_shape.specs.Limits.{AreWithinBut}
 use Rattle.bw_tidy.specs.Findings.{AreFindings}
@@ -21,6 +23,9 @@ returns-in-Ok-clause-replies g c =
     c.in-Ok.ensures.replies
     ∙ ap (λ (l : List Op). replies_of l (contents_with c.stage.new.tree c.stage.new.tree.next)) c.in_ok-batch.ensures
     ∙ ap (replies_of c.args.ops.now) (first_read c.args.tree.now c.stage.new.tree c.args.ops.now c.in_ok-stage.ensures.ok c.in_ok-stage.ensures.reads)
+
+pub returns-in-Ok-clause-deletes : goal.returns-in-Ok-clause-deletes
+returns-in-Ok-clause-deletes g c = c.in-Ok.ensures.deletes ∙ ap (list_any is_delete) c.in_ok-batch.ensures
 
 pub returns-in-Ok-clause-lost : goal.returns-in-Ok-clause-lost
 returns-in-Ok-clause-lost g c = subst (λ n. c.in-Ok.answered.lost ≤ most_lost c.args.options.now n) (staged_count c.args.tree.now c.stage.new.tree c.args.ops.now c.in_ok-stage.ensures.ok) c.in-Ok.ensures.lost

@@ -1,4 +1,4 @@
-use Rattle.std.proofs.Common.{arith, refl, ◌+◌}
+use Rattle.std.proofs.Common.{arith, refl}
 use Rattle.bw_board.proofs.Kept.{looks}
 use Rattle.bw_board.proofs.Seated.{stays_seated}
 use Rattle.bw_board.proofs.atomic_steps.look.Goals as goal

@@ -1,4 +1,4 @@
-use Rattle.std.proofs.Common.{rules, arith, refl, sym, ap, subst, ◌∙◌, ◌≡◌, ◌<◌, ◌-◌, ◌++◌, ◌∷◌, ℕ, List, []}
+use Rattle.std.proofs.Common.{rules, arith, sym, ap, subst, ◌∙◌, ◌≡◌, ◌<◌, ◌-◌, ◌++◌, ◌∷◌, ℕ, List, []}
 use Rattle.bw_core.specs.World.{times, seen_at, top}
 use Rattle.bw_board.specs.declared.table.Sight.{Sight}
 use Rattle.bw_board.proofs.Walk.{Walks, walk_starts, walk_goes, walk_record, walk_seen}

@@ -1,9 +1,9 @@
-use Rattle.std.proofs.Common.{arith, refl, sym, ap, subst, ◌∙◌, ◌≡◌, ◌<◌, ◌+◌, length}
+use Rattle.std.proofs.Common.{arith, refl, sym, ap, subst, ◌∙◌, ◌≡◌, ◌<◌, length}
 use Rattle.bw_core.specs.World.{owns, posts_in, spans_have}
 use Rattle.bw_core.specs.Events.{book_after_loss, book_after_win}
 use Rattle.bw_board.specs.declared.table.Sight.{Sight}
-use Rattle.bw_board.specs.Plays.{SeesChain, with_book, sight_after_link}
-use Rattle.bw_board.proofs.Chase.{Chases, chase_starts, chase_goes, chase_wins}
+use Rattle.bw_board.specs.Plays.{SeesChain, with_book}
+use Rattle.bw_board.proofs.Chase.{chase_starts, chase_goes, chase_wins}
 use Rattle.bw_board.proofs.page_chains.post.Goals as goal
 
 pub loop-word-init : goal.loop-word-init

@@ -23,7 +23,7 @@ returns-then-ne c =
     let pair = get_or rest 0 ([], []) in
     let first = first_of_rest rest ([], []) (some_left rest c.is_empty.result c.is_empty.ensures c.if-is_empty.false) in
     let other : key_eq pair.0 key ≡ false =
-    ap (λ (k : KeyBytes). key_eq k key) (sym (c.key_at.ensures ([], []))) ∙ ap (key_eq c.key_at.result.now) (sym c.bytes.ensures.value) ∙ turned _ true (sym c.ne.ensures ∙ c.if-ne.true)
+    ap (λ (k : KeyBytes). key_eq k key) (sym (c.key_at.ensures ([], []))) ∙ turned _ true (sym c.ne.ensures ∙ c.if-ne.true)
     in
     subst (λ (l : List Pair). AreCutAt pairs key l None rest) (sym c.split_at-before.ensures.front)
     (subst (λ (l : List Pair). AreCutAt pairs key (take at pairs) None l) (sym c.split_at-before.ensures.back)
@@ -40,7 +40,7 @@ returns c =
     let behind = c.split_at-first.result.1 in
     let first = first_of_rest rest ([], []) (some_left rest c.is_empty.result c.is_empty.ensures c.if-is_empty.false) in
     let same : key_eq pair.0 key ≡ true =
-    ap (λ (k : KeyBytes). key_eq k key) (sym (c.key_at.ensures ([], []))) ∙ ap (key_eq c.key_at.result.now) (sym c.bytes.ensures.value) ∙ turned _ false (sym c.ne.ensures ∙ c.if-ne.false)
+    ap (λ (k : KeyBytes). key_eq k key) (sym (c.key_at.ensures ([], []))) ∙ turned _ false (sym c.ne.ensures ∙ c.if-ne.false)
     in
     subst (λ (l : List Pair). AreCutAt pairs key l (Some value) behind) (sym c.split_at-before.ensures.front)
     (subst (λ (v : ValueBytes). AreCutAt pairs key (take at pairs) (Some v) behind) (sym (c.value_at-value.ensures ([], [])))

@@ -1,8 +1,6 @@
 use Rattle.std.proofs.Common.{◌+◌, true, false, List, drop, Option, sym, ap, subst, ◌∙◌}
-use Rattle.std.specs.Borrow.{Bor}
 use Rattle.std.specs.Option.{option_copied}
-use Rattle.bw_key.specs.Order.{key_eq}
-use Rattle.bw_model.specs.Actions.{effect}
+use Rattle.bw_key.specs.Order.{KeyBytes, key_eq}
 use Rattle.bw_model.specs.Values.{ValueBytes}
 use Rattle.bw_delta.specs.History.{pointed_to}
 use Rattle.bw_delta.specs.Merging.{AreBehind}
@@ -21,7 +19,7 @@ returns-then-ne-clause-value c =
     let later = pointed_to (drop (c.loop-at.at + 1) c.args.writes.now) in
     let next = next_write c.args.writes.now c.loop-at.at c.index-writes-at.result c.loop-at-test.true c.index-writes-at.is in
     let here = subst (λ (l : List WriteView). ArePassing key start all l value) next c.loop-at.invariant in
-    let other = ap (λ (r : Bor WriteView). key_eq r.now.key key) (sym c.write.view_is) ∙ turned _ true (sym c.ne.ensures ∙ c.if-ne.true) in
+    let other = ap (λ (k : KeyBytes). key_eq k key) (sym c.key.ensures) ∙ turned _ true (sym c.ne.ensures ∙ c.if-ne.true) in
     stops_with key start value all w later other here
 
 pub returns-then-ne-clause-behind : goal.returns-then-ne-clause-behind
@@ -34,7 +32,7 @@ returns-then-ne-clause-behind c =
     let later = pointed_to (drop (c.loop-at.at + 1) c.args.writes.now) in
     let next = next_write c.args.writes.now c.loop-at.at c.index-writes-at.result c.loop-at-test.true c.index-writes-at.is in
     let here = subst (λ (l : List WriteView). ArePassing key start all l value) next c.loop-at.invariant in
-    let other = ap (λ (r : Bor WriteView). key_eq r.now.key key) (sym c.write.view_is) ∙ turned _ true (sym c.ne.ensures ∙ c.if-ne.true) in
+    let other = ap (λ (k : KeyBytes). key_eq k key) (sym c.key.ensures) ∙ turned _ true (sym c.ne.ensures ∙ c.if-ne.true) in
     subst (AreBehind key) (sym next) (stops_behind key start value all w later other here)
 
 pub loop-at-preserved : goal.loop-at-preserved
@@ -47,6 +45,6 @@ loop-at-preserved c =
     let later = pointed_to (drop (c.loop-at.at + 1) c.args.writes.now) in
     let next = next_write c.args.writes.now c.loop-at.at c.index-writes-at.result c.loop-at-test.true c.index-writes-at.is in
     let here = subst (λ (l : List WriteView). ArePassing key start all l value) next c.loop-at.invariant in
-    let same = ap (λ (r : Bor WriteView). key_eq r.now.key key) (sym c.write.view_is) ∙ turned _ false (sym c.ne.ensures ∙ c.if-ne.false) in
-    let left = c.effect-value.ensures ∙ ap (λ (r : Bor WriteView). effect r.now.action value) c.write.view_is in
+    let same = ap (λ (k : KeyBytes). key_eq k key) (sym c.key.ensures) ∙ turned _ false (sym c.ne.ensures ∙ c.if-ne.false) in
+    let left = c.effect-value.ensures in
     subst (λ (v : Option ValueBytes). ArePassing key start all later v) (sym left) (passes_one key start value all w later same here)

@@ -2,9 +2,9 @@ use Rattle.std.proofs.Common.{◌≡◌, ◌-◌, ◌∙◌, ◌++◌, ◌∷◌
 use Rattle.std.specs.Iterator.Adapters.{rev_source}
 use Rattle.std.specs.FinMap.{is_sorted}
 use Rattle.std.specs.Option.{option_copied}
-use Rattle.bw_key.specs.Order.{key_cmp}
+use Rattle.bw_key.specs.Order.{KeyBytes, key_cmp}
 use Rattle.bw_model.specs.Values.{Pair}
-use Rattle.bw_delta.specs.Merging.{with_value}
+use Rattle.bw_delta.specs.Merging.{with_value, AreCutAt}
 use Rattle.bw_delta.specs.Present.{changed_pairs, Change}
 use Rattle.bw_delta.proofs.Changes.{before_sorted, passed_down, sorted_front}
 use Rattle.bw_delta.proofs.Replays.{kept_before}
@@ -22,6 +22,7 @@ loop-key-preserved c =
     let before = c.parted-before.result.0 in
     let behind = c.parted-before.result.2 in
     let gone = option_copied c.parted-before.result.1 in
+    let cut = subst (λ (k : KeyBytes). AreCutAt rest k before gone behind) c.bytes.ensures.value c.parted-before.ensures in
     let here = with_value k v [] in
     let added : c.add_value.new.read ≡ (read ++ take left (reverse behind)) ++ take c.in_ok-left.left here =
     c.in_ok-left-2.ensures.added ∙ ap (λ (l : List Pair). l ++ take c.in_ok-left.left here) c.in_ok-left.ensures.added
@@ -30,12 +31,12 @@ loop-key-preserved c =
     let next = reverse (changed_pairs lower before) in
     record {
       kept = ap (take (length old)) added ∙ kept_before old (read ++ take left (reverse behind)) (take c.in_ok-left.left here) (kept_before old read (take left (reverse behind)) c.loop-key.invariant.kept);
-      pairs = before_sorted k gone rest before behind c.parted-before.ensures c.loop-key.invariant.pairs;
+      pairs = before_sorted k gone rest before behind cut c.loop-key.invariant.pairs;
       changes = sorted_front lower ((k, v) ∷ []) changes;
       taken =
           ap (λ (l : List Pair). l ++ take c.in_ok-left-2.left next) added
           ∙ ap (λ n. ((read ++ take left (reverse behind)) ++ take c.in_ok-left.left here) ++ take n next) c.in_ok-left-2.ensures.left
           ∙ ap (λ n. ((read ++ take left (reverse behind)) ++ take n here) ++ take (n - length here) next) c.in_ok-left.ensures.left
-          ∙ passed_down k v gone rest before behind c.parted-before.ensures c.loop-key.invariant.pairs read _ left lower changes
+          ∙ passed_down k v gone rest before behind cut c.loop-key.invariant.pairs read _ left lower changes
           (sym (ap (λ (l : List Change). read ++ take left (reverse (changed_pairs l rest))) c.in-Some.ensures.steps) ∙ c.loop-key.invariant.taken);
     }

@@ -2,9 +2,9 @@ use Rattle.std.proofs.Common.{◌≡◌, ◌-◌, ◌∙◌, ◌++◌, [], List,
 use Rattle.bw_page.proofs.Truths.{right_of}
 use Rattle.std.specs.FinMap.{is_sorted}
 use Rattle.std.specs.Option.{option_copied}
-use Rattle.bw_key.specs.Order.{key_cmp}
+use Rattle.bw_key.specs.Order.{KeyBytes, key_cmp}
 use Rattle.bw_model.specs.Values.{Pair}
-use Rattle.bw_delta.specs.Merging.{with_value}
+use Rattle.bw_delta.specs.Merging.{with_value, AreCutAt}
 use Rattle.bw_delta.specs.Present.{changed_pairs, Change}
 use Rattle.bw_delta.proofs.Changes.{behind_sorted, passed_up}
 use Rattle.bw_delta.proofs.Replays.{kept_before}
@@ -22,6 +22,7 @@ loop-key-preserved c =
     let before = c.parted-before.result.0 in
     let behind = c.parted-before.result.2 in
     let gone = option_copied c.parted-before.result.1 in
+    let cut = subst (λ (k : KeyBytes). AreCutAt rest k before gone behind) c.bytes.ensures.value c.parted-before.ensures in
     let here = with_value k v [] in
     let added : c.add_value.new.read ≡ (read ++ take left before) ++ take c.in_ok-left.left here =
     c.in_ok-left-2.ensures.added ∙ ap (λ (l : List Pair). l ++ take c.in_ok-left.left here) c.in_ok-left.ensures.added
@@ -30,12 +31,12 @@ loop-key-preserved c =
     let next = changed_pairs upper behind in
     record {
       kept = ap (take (length old)) added ∙ kept_before old (read ++ take left before) (take c.in_ok-left.left here) (kept_before old read (take left before) c.loop-key.invariant.kept);
-      pairs = behind_sorted k gone rest before behind c.parted-before.ensures c.loop-key.invariant.pairs;
+      pairs = behind_sorted k gone rest before behind cut c.loop-key.invariant.pairs;
       changes = right_of _ _ changes;
       taken =
           ap (λ (l : List Pair). l ++ take c.in_ok-left-2.left next) added
           ∙ ap (λ n. ((read ++ take left before) ++ take c.in_ok-left.left here) ++ take n next) c.in_ok-left-2.ensures.left
           ∙ ap (λ n. ((read ++ take left before) ++ take n here) ++ take (n - length here) next) c.in_ok-left.ensures.left
-          ∙ passed_up k v gone rest before behind c.parted-before.ensures c.loop-key.invariant.pairs read _ left upper changes
+          ∙ passed_up k v gone rest before behind cut c.loop-key.invariant.pairs read _ left upper changes
           (sym (ap (λ (l : List Change). read ++ take left (changed_pairs l rest)) c.in-Some.ensures.steps) ∙ c.loop-key.invariant.taken);
     }

@@ -1,8 +1,6 @@
-use Rattle.std.proofs.Common.{◌≡◌, ◌<◌, ◌≤◌, ◌+◌, ◌-◌, List, length, length-drop, Option, refl, drop, sym, ap, subst, ◌∙◌, arith}
+use Rattle.std.proofs.Common.{◌≡◌, ℕ, ◌<◌, ◌≤◌, ◌+◌, ◌-◌, List, length, length-drop, Option, refl, drop, sym, ap, subst, ◌∙◌, arith}
 use Rattle.std.proofs.lemmas.List.{drop_all, take_all}
-use Rattle.std.specs.Borrow.{Bor}
 use Rattle.std.specs.Option.{option_copied}
-use Rattle.bw_model.specs.Actions.{effect}
 use Rattle.bw_model.specs.Values.{ValueBytes}
 use Rattle.bw_delta.specs.Writes.{WriteView}
 use Rattle.bw_delta.specs.History.{history, action_at, pointed_to}
@@ -25,15 +23,15 @@ ended c =
     let later = pointed_to (drop (c.loop-at.at + 1) c.args.writes.now) in
     let next = next_write c.args.writes.now c.loop-at.at c.index-writes-at.result c.loop-at-test.true c.index-writes-at.is in
     let here = subst (λ (l : List WriteView). IsPassing c.args.stamp start all l value) next c.loop-at.invariant in
-    let late = subst (λ (r : Bor WriteView). c.args.stamp ≤ r.now.stamp) c.write.view_is c.if-write-stamp.true in
+    let late = subst (λ (n : ℕ). c.args.stamp ≤ n) c.stamp.ensures c.if-stamp.true in
     let at_end = passed_value c.args.stamp start value all c.index-writes-at.result.now later late here in
     (at_end.0, next ∙ at_end.1)
 
-pub returns-then-write-stamp-clause-value : goal.returns-then-write-stamp-clause-value
-returns-then-write-stamp-clause-value c = (ended c).0
+pub returns-then-stamp-clause-value : goal.returns-then-stamp-clause-value
+returns-then-stamp-clause-value c = (ended c).0
 
-pub returns-then-write-stamp-clause-rest : goal.returns-then-write-stamp-clause-rest
-returns-then-write-stamp-clause-rest c =
+pub returns-then-stamp-clause-rest : goal.returns-then-stamp-clause-rest
+returns-then-stamp-clause-rest c =
     let later = drop c.loop-at.at c.args.writes.now in
     let size = length-drop c.loop-at.at c.args.writes.now in
     ap pointed_to (take_all (length c.args.writes.now - c.loop-at.at) later (omega (arith, size))) ∙ (ended c).1
@@ -46,8 +44,8 @@ loop-at-preserved c =
     let later = pointed_to (drop (c.loop-at.at + 1) c.args.writes.now) in
     let next = next_write c.args.writes.now c.loop-at.at c.index-writes-at.result c.loop-at-test.true c.index-writes-at.is in
     let here = subst (λ (l : List WriteView). IsPassing c.args.stamp start all l value) next c.loop-at.invariant in
-    let early = subst (λ (r : Bor WriteView). r.now.stamp < c.args.stamp) c.write.view_is c.if-write-stamp.false in
-    let left = c.effect-value.ensures ∙ ap (λ (r : Bor WriteView). effect r.now.action value) c.write.view_is in
+    let early = subst (λ (n : ℕ). n < c.args.stamp) c.stamp.ensures c.if-stamp.false in
+    let left = c.effect-value.ensures in
     subst (λ (v : Option ValueBytes). IsPassing c.args.stamp start all later v) (sym left)
     (passes_first c.args.stamp start value all c.index-writes-at.result.now later early here)
 

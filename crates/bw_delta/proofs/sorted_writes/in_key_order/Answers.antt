@@ -1,9 +1,7 @@
-use Rattle.std.proofs.Common.{List, map, sym, subst, rules, ◌∙◌, ap}
+use Rattle.std.proofs.Common.{map, sym, subst, rules, ◌∙◌, ap}
 use Rattle.std.specs.List.Sorted.{IsPermutation}
 use Rattle.std.proofs.lemmas.List.Sorted.{answers_always, IsPermutation-map}
-use Rattle.bw_delta.specs.History.{pointed_to}
 use Rattle.bw_delta.specs.SortedWrites.{AreSortedByKey, HaveRisingStamps}
-use Rattle.bw_delta.specs.Writes.{WriteView}
 use Rattle.bw_delta.proofs.SortedWrites.{is_before, ranks, sorted_by_key, stamps_rising, write_of}
 use Rattle.bw_delta.proofs.sorted_writes.in_key_order.Goals as goal
 

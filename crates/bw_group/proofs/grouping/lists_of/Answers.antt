@@ -1,13 +1,13 @@
 use Rattle.std.proofs.Common.{ℕ, List, arith, length, sym, ap, subst, ◌∙◌, ◌+◌, ◌++◌, take, Some}
-use Rattle.std.specs.List.{AllByRecursion}
+use Rattle.std.specs.List.{AllByRecursion, list_any}
 use Rattle.std.proofs.lemmas.List.{take_all}
 use Rattle.std.specs.Option.{option_copied}
-use Rattle.bw_group.specs.Points.{IsPointOf, entries_from, entry_at, scans_from}
+use Rattle.bw_group.specs.Points.{IsPointOf, entries_from, entry_at, is_delete, scans_from}
 use Rattle.bw_key.specs.Order.{KeyBytes}
 use Rattle.bw_delta.specs.Batches.{writes_of}
 use Rattle.bw_model.specs.Model.{key_of}
 use Rattle.bw_model.specs.declared.operations.Op.{Op}
-use Rattle.bw_group.proofs.WriteCounts.{counted_more, one_at_most}
+use Rattle.bw_group.proofs.WriteCounts.{counted_more, one_at_most, seen_more}
 use Rattle.bw_group.proofs.PointGroups.{entries_more, point_there, points_more, scans_more, with_point, with_scan, without_point, without_scan}
 use Rattle.bw_group.proofs.grouping.lists_of.Goals as goal
 use Rattle.bw_group.proofs.grouping.lists_of.Goals.{in-Some+in_ok-push-in-Some, in-None+in_ok-push-in-None}
@@ -30,6 +30,7 @@ loop-place-preserved c =
     let scans_are = scans_more ops at op c.loop-place-test.true c.index-ops-place.is in
     let writes = counted_more ops at op c.loop-place.writes c.writes_by-writes.result c.loop-place-test.true c.index-ops-place.is c.writes_by-writes.ensures c.loop-place.invariant.writes in
     let few = one_at_most op c.writes_by-writes.result at c.loop-place.writes c.writes_by-writes.ensures c.loop-place.invariant.few in
+    let deletes = seen_more ops at op c.loop-place.deletes c.is_delete-deletes.result c.loop-place-test.true c.index-ops-place.is c.is_delete-deletes.ensures c.loop-place.invariant.deletes in
     elim c.match-key.branch [
       | in-Some+in_ok-push-in-Some w ↦
           let added = ap (λ v. v.items) w.points-is ∙ w.in_ok-push-in-Some.ensures.items in
@@ -41,6 +42,7 @@ loop-place-preserved c =
             scans = without_scan scans scans' before after key at w.in-Some.key.now (ap (λ v. v.items) w.scans-is) (sym c.key.ensures ∙ ap option_copied w.in-Some.is) c.loop-place.invariant.scans scans_are;
             writes = writes;
             few = few;
+            deletes = deletes;
           }
       | in-None+in_ok-push-in-None w ↦
           let same = ap (λ v. v.items) w.points-is in
@@ -50,6 +52,7 @@ loop-place-preserved c =
             scans = with_scan scans scans' before after key at (ap (λ v. v.items) w.scans-is ∙ w.in_ok-push-in-None.ensures.items) (sym c.key.ensures ∙ ap option_copied w.in-None.is) c.loop-place.invariant.scans scans_are;
             writes = writes;
             few = few;
+            deletes = deletes;
           }
     ]
 
@@ -61,6 +64,9 @@ returns-clause-scans c = c.loop-place.invariant.scans ∙ ap (scans_from 0) (tak
 
 pub returns-clause-writes : goal.returns-clause-writes
 returns-clause-writes c = c.loop-place.invariant.writes ∙ ap (λ (l : List Op). length (writes_of 0 l)) (take_all c.loop-place.place c.args.ops.now c.loop-place-test.false)
+
+pub returns-clause-deletes : goal.returns-clause-deletes
+returns-clause-deletes c = c.loop-place.invariant.deletes ∙ ap (list_any is_delete) (take_all c.loop-place.place c.args.ops.now c.loop-place-test.false)
 
 pub overflow_add-writes : goal.overflow_add-writes
 overflow_add-writes c = omega (arith, one_at_most c.index-ops-place.result c.writes_by-writes.result c.loop-place.place c.loop-place.writes c.writes_by-writes.ensures c.loop-place.invariant.few, c.loop-place-test.true, c.requires)

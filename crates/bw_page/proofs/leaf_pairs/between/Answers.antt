@@ -21,11 +21,11 @@ returns-in-Some c =
     let pairs = c.args.pairs.now in
     let rest : c.split_at-front.result.1 ≡ drop (place_of low pairs) pairs =
     c.split_at-front.ensures.back
-    ∙ ap (λ n. drop n c.all-all.result) c.place.ensures.value
+    ∙ ap (λ n. drop n c.all-all.result) (c.place.ensures.value ∙ ap (λ (k : KeyBytes). place_of k c.all-all.result) c.bytes.ensures.value)
     ∙ ap (λ (l : List Pair). drop (place_of low l) l) c.all-all.ensures
     in
     c.split_at.ensures.front
-    ∙ ap (λ n. take n c.split_at-front.result.1) c.place-in-Some.ensures.value
+    ∙ ap (λ n. take n c.split_at-front.result.1) (c.place-in-Some.ensures.value ∙ ap (λ (k : KeyBytes). place_of k c.split_at-front.result.1) c.bytes-in-Some.ensures.value)
     ∙ ap (λ (l : List Pair). take (place_of high l) l) rest
     ∙ sym (range_between low high pairs c.requires)
     ∙ ap (λ (o : Option (Bor KeyBytes)). filter (is_pair_in_range low (option_copied o)) pairs) (sym c.in-Some.is)
@@ -35,7 +35,7 @@ returns-in-None c =
     let low = c.args.low.now in
     let pairs = c.args.pairs.now in
     c.split_at-front.ensures.back
-    ∙ ap (λ n. drop n c.all-all.result) c.place.ensures.value
+    ∙ ap (λ n. drop n c.all-all.result) (c.place.ensures.value ∙ ap (λ (k : KeyBytes). place_of k c.all-all.result) c.bytes.ensures.value)
     ∙ ap (λ (l : List Pair). drop (place_of low l) l) c.all-all.ensures
     ∙ sym (range_from low pairs c.requires)
     ∙ ap (λ (o : Option (Bor KeyBytes)). filter (is_pair_in_range low (option_copied o)) pairs) (sym c.in-None.is)

@@ -1,4 +1,4 @@
-use Rattle.std.proofs.Common.{◌≡◌, ◌<◌, ◌∙◌, ◌++◌, ℕ, ◌∷◌, [], set, slice_get, Option, Some, None, Result, Ok, Err, OnErr, ap, get_or, length, sym, subst, arith}
+use Rattle.std.proofs.Common.{◌≡◌, ◌<◌, ◌∙◌, ◌++◌, ◌∷◌, [], set, slice_get, Option, Some, None, Result, Ok, Err, OnErr, ap, get_or, length, sym, subst, arith}
 use Rattle.std.proofs.lemmas.List.{length-set, set-get_or, set-set}
 use Rattle.std.proofs.lemmas.Option.{get_or_from_slice_get}
 use Rattle.bw_key.specs.Order.{KeyBytes}

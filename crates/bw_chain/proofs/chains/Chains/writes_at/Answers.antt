@@ -1,6 +1,5 @@
 use Rattle.std.proofs.Common.{◌∙◌, sym, ap}
-use Rattle.bw_key.specs.Order.{key_eq}
-use Rattle.bw_delta.specs.Writes.{WriteView}
+use Rattle.bw_key.specs.Order.{KeyBytes, key_eq}
 use Rattle.bw_chain.proofs.ReadingLemmas.{passed, none_at_other, none_at_base, found_next, found_same, found_all}
 use Rattle.bw_chain.proofs.chains.Chains.writes_at.Goals as goal
 
@@ -20,7 +19,7 @@ loop-delta-preserved-in_ok-push-in-Put c =
     record {
       ends = p.ends;
       leaf = p.leaf;
-      found = found_next c.loop-delta.found.items c.push.new.self.items _ c.args.key.now _ _ _ p.writes (ap (λ (w : WriteView). key_eq c.args.key.now w.key) (sym c.write.view_is) ∙ sym c.eq.ensures ∙ c.if-eq.true) c.in_ok-push-in-Put.ensures.items c.loop-delta.invariant.found;
+      found = found_next c.loop-delta.found.items c.push.new.self.items _ c.args.key.now _ _ _ p.writes (ap (key_eq c.args.key.now) (sym c.key.ensures) ∙ ap (λ (k : KeyBytes). key_eq k c.key.result.now) (sym c.bytes.ensures.value) ∙ sym c.eq.ensures ∙ c.if-eq.true) c.in_ok-push-in-Put.ensures.items c.loop-delta.invariant.found;
     }
 
 pub loop-delta-smaller : goal.loop-delta-smaller
@@ -33,7 +32,7 @@ loop-delta-preserved c =
     record {
       ends = p.ends;
       leaf = p.leaf;
-      found = found_same c.loop-delta.found.items c.in-Put.write c.args.key.now _ _ _ p.writes (ap (λ (w : WriteView). key_eq c.args.key.now w.key) (sym c.write.view_is) ∙ sym c.eq.ensures ∙ c.if-eq.false) c.loop-delta.invariant.found;
+      found = found_same c.loop-delta.found.items c.in-Put.write c.args.key.now _ _ _ p.writes (ap (key_eq c.args.key.now) (sym c.key.ensures) ∙ ap (λ (k : KeyBytes). key_eq k c.key.result.now) (sym c.bytes.ensures.value) ∙ sym c.eq.ensures ∙ c.if-eq.false) c.loop-delta.invariant.found;
     }
 
 pub returns : goal.returns

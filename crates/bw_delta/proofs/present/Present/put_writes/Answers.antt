@@ -1,6 +1,5 @@
-use Rattle.std.proofs.Common.{◌<◌, ◌≤◌, ◌+◌, List, ◌∷◌, drop, refl, sym, ap, subst, ◌∙◌, arith}
+use Rattle.std.proofs.Common.{ℕ, ◌<◌, ◌≤◌, ◌+◌, List, ◌∷◌, drop, refl, sym, ap, subst, ◌∙◌, arith}
 use Rattle.std.proofs.lemmas.List.{drop_all}
-use Rattle.std.specs.Borrow.{Bor}
 use Rattle.bw_delta.specs.Writes.{WriteView}
 use Rattle.bw_delta.specs.History.{pointed_to}
 use Rattle.bw_delta.specs.Readings.{from_stamp}
@@ -13,19 +12,19 @@ use Rattle.bw_delta.proofs.present.Present.put_writes.Goals as goal
 pub loop-at-init : goal.loop-at-init
 loop-at-init c = record { folding = record { from = 0; rising = c.requires; is = λ q. refl }; left = refl }
 
-pub returns-then-write-stamp-clause-values : goal.returns-then-write-stamp-clause-values
-returns-then-write-stamp-clause-values c =
+pub returns-then-stamp-clause-values : goal.returns-then-stamp-clause-values
+returns-then-stamp-clause-values c =
     let start = values_in c.args.self in
     let values = values_in c.loop-at.self in
     let all = pointed_to c.args.writes.now in
     let later = pointed_to (drop (c.loop-at.at + 1) c.args.writes.now) in
     let next = next_write c.args.writes.now c.loop-at.at c.index-writes-at.result c.loop-at-test.true c.index-writes-at.is in
     let here = subst (λ (l : List WriteView). AreFolding c.args.stamp start all l values) next c.loop-at.invariant.folding in
-    let late = subst (λ (r : Bor WriteView). c.args.stamp ≤ r.now.stamp) c.write.view_is c.if-write-stamp.true in
+    let late = subst (λ (n : ℕ). c.args.stamp ≤ n) c.stamp.ensures c.if-stamp.true in
     all_folded c.args.stamp start values all c.index-writes-at.result.now later late here
 
-pub returns-then-write-stamp-clause-rest : goal.returns-then-write-stamp-clause-rest
-returns-then-write-stamp-clause-rest c =
+pub returns-then-stamp-clause-rest : goal.returns-then-stamp-clause-rest
+returns-then-stamp-clause-rest c =
     let start = values_in c.args.self in
     let values = values_in c.loop-at.self in
     let all = pointed_to c.args.writes.now in
@@ -33,7 +32,7 @@ returns-then-write-stamp-clause-rest c =
     let later = pointed_to (drop (c.loop-at.at + 1) c.args.writes.now) in
     let next = next_write c.args.writes.now c.loop-at.at c.index-writes-at.result c.loop-at-test.true c.index-writes-at.is in
     let here = subst (λ (l : List WriteView). AreFolding c.args.stamp start all l values) next c.loop-at.invariant.folding in
-    let late = subst (λ (r : Bor WriteView). c.args.stamp ≤ r.now.stamp) c.write.view_is c.if-write-stamp.true in
+    let late = subst (λ (n : ℕ). c.args.stamp ≤ n) c.stamp.ensures c.if-stamp.true in
     next ∙ sym (all_left c.args.stamp w.stamp (w ∷ later) late (omega arith, here.rising.1)) ∙ sym (ap (from_stamp c.args.stamp) next) ∙ c.loop-at.invariant.left
 
 pub loop-at-preserved : goal.loop-at-preserved
@@ -44,7 +43,7 @@ loop-at-preserved c =
     let later = pointed_to (drop (c.loop-at.at + 1) c.args.writes.now) in
     let next = next_write c.args.writes.now c.loop-at.at c.index-writes-at.result c.loop-at-test.true c.index-writes-at.is in
     let here = subst (λ (l : List WriteView). AreFolding c.args.stamp start all l values) next c.loop-at.invariant.folding in
-    let early = subst (λ (r : Bor WriteView). r.now.stamp < c.args.stamp) c.write.view_is c.if-write-stamp.false in
+    let early = subst (λ (n : ℕ). n < c.args.stamp) c.stamp.ensures c.if-stamp.false in
     record {
       folding = first_folds c.args.stamp start values (values_in c.put_write.new.self) all c.index-writes-at.result.now later early c.in_ok-put_write.ensures here;
       left = one_passed c.args.stamp c.index-writes-at.result.now later early ∙ sym (ap (from_stamp c.args.stamp) next) ∙ c.loop-at.invariant.left;

@@ -1,4 +1,4 @@
-use Rattle.std.proofs.Common.{◌≡◌, ◌-◌, List, drop, length, length-drop, sym, ap, subst, ◌∙◌, take, arith}
+use Rattle.std.proofs.Common.{◌≡◌, ℕ, ◌-◌, List, drop, length, length-drop, sym, ap, subst, ◌∙◌, take, arith}
 use Rattle.std.proofs.lemmas.List.{take_all}
 use Rattle.std.specs.Prelude.{slice_get}
 use Rattle.std.specs.Borrow.{Bor}
@@ -18,9 +18,9 @@ returns-in-Some c key stamp le upto =
     take_all _ (drop passed all) (omega (arith, length-drop passed all)) ∙ ap (drop passed) c.deref.ensures.value
     in
     let first = ap (λ (l : List (Bor WriteView)). slice_get l 0) (sym left) ∙ sym c.first.ensures.value ∙ ap option_copied c.in-Some.is in
-    let until = c.write.inside.now.stamp in
+    let until = c.stamp.result in
     subst (λ (v : ReplayView). StaysUntil v until) c.self.view_is
-    (stays _ until (subst (λ (w : Bor WriteView). HasRisingStamps w.now.stamp (pointed_to (drop passed c.self.inside.writes.items))) (sym c.write.view_is)
+    (stays _ until (subst (λ (n : ℕ). HasRisingStamps n (pointed_to (drop passed c.self.inside.writes.items))) (sym c.stamp.ensures)
     (rises_from_first c.self.inside.stamp (drop passed c.self.inside.writes.items) _ first c.self.invariant.1))) key stamp le upto
 
 pub returns-in-None : goal.returns-in-None

@@ -1,4 +1,4 @@
-use Rattle.std.proofs.Common.{◌≡◌, ℕ, false, List, [], ◌∷◌, length, map, nat_eq, arith, Bor, sym, ap, subst}
+use Rattle.std.proofs.Common.{◌≡◌, ℕ, false, List, [], ◌∷◌, length, map, nat_eq, arith, Bor, sym, subst}
 use Rattle.std.proofs.lemmas.Map.Keys.{IsDistinct-cons}
 use Rattle.std.specs.List.{AllByRecursion, IsDistinct}
 use Rattle.bw_delta.specs.History.{pointed_to, HasDistinctStamps}
@@ -24,8 +24,7 @@ one_more refs rest r stamp is same new distinct =
 
 pub returns-then-is_new : goal.returns-then-is_new
 returns-then-is_new t c all =
-    one_more c.args.writes.now c.in-Some.rest.now c.in-Some.first.now c.first.inside.now.stamp c.in-Some.ensures.cases.0
-    (ap (λ (r : Bor WriteView). r.now.stamp) c.first.view_is)
+    one_more c.args.writes.now c.in-Some.rest.now c.in-Some.first.now c.stamp.result c.in-Some.ensures.cases.0 c.stamp.ensures
     (c.is_new.ensures c.if-is_new.true) (c.are_distinct.ensures all)
 
 pub returns-in-None : goal.returns-in-None

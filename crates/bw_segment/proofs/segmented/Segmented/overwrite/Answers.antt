@@ -1,5 +1,4 @@
 use Rattle.std.proofs.Common.{arith, length, map, ap, ◌∙◌}
-use Rattle.std.proofs.lemmas.List.{length-map}
 use Rattle.bw_segment.specs.Segments.{SegmentedView}
 use Rattle.bw_segment.proofs.SegmentsLemmas.{length_joined, one_more_over}
 use Rattle.bw_segment.proofs.segmented.Segmented.overwrite.Goals as goal

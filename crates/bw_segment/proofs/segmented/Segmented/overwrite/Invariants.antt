@@ -1,4 +1,4 @@
-use Rattle.std.proofs.Common.{◌≡◌, ◌+◌, ◌++◌, drop, length, take}
+use Rattle.std.proofs.Common.{◌≡◌, ◌+◌, ◌++◌, drop, take}
 use Rattle.bw_segment.proofs.segmented.Segmented.overwrite.Given as goal
 
 abbrev pub invariant-loop-place : goal.invariant-loop-place
